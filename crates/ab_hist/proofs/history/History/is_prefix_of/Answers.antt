@@ -1,0 +1,19 @@
+use Rattle.std.proofs.Common.{◌≡◌, length, take, ap, sym, ◌∙◌, arith, List, ℕ}
+use Rattle.std.proofs.lemmas.Grind.{common_steps}
+use Rattle.std.specs.Cmp.Lexicographic.{pointwise}
+use Rattle.std.specs.List.{slice_range}
+use Rattle.ab_hist.specs.declared.request.Request.{Request}
+use Rattle.ab_hist.specs.Requests.{request_eq}
+use Rattle.ab_hist.proofs.RequestLemmas.{prefix_says}
+use Rattle.ab_hist.proofs.history.History.is_prefix_of.Goals as goal
+
+-- the front of a list, as a range
+front_is : (xs : List Request) (n : ℕ) → slice_range xs 0 n ≡ take n xs
+front_is xs n = grind (arith, common_steps)
+
+pub returns-in-Some : goal.returns-in-Some
+returns-in-Some c =
+    let front : c.in-Some.front.now ≡ take (length c.args.self.now) c.args.h.now =
+    c.in-Some.ensures.lookup.0.2 ∙ front_is c.deref.result.now c.len.result
+    ∙ (λ j. take ((c.len.ensures ∙ sym c.as_slice.ensures.len ∙ ap length (c.as_slice.ensures.value ∙ c.self.view_is)) j) ((c.deref.ensures.value ∙ c.h.view_is) j)) in
+    prefix_says c.args.self.now c.args.h.now c.in-Some.front.now c.eq.result (c.eq.ensures ∙ ap (pointwise request_eq c.in-Some.front.now) (c.as_slice.ensures.value ∙ c.self.view_is)) front

@@ -1,0 +1,25 @@
+use Rattle.std.proofs.Common.{◌≡◌, ap, sym, ◌∙◌, ◌<◌, length, take, map, arith, subst}
+use Rattle.std.specs.List.{list_any}
+use Rattle.std.proofs.lemmas.List.{take_all}
+use Rattle.ab_hist.specs.Requests.{key_of, is_key_of}
+use Rattle.ab_hist.specs.Digests.{link, digest_of}
+use Rattle.ab_hist.specs.Histories.{IsNext, CanPush}
+use Rattle.ab_hist.proofs.RequestLemmas.{fresh_key}
+use Rattle.ab_hist.proofs.KeptLemmas.{IsKept-push}
+use Rattle.ab_hist.proofs.history.History.push.Goals as goal
+
+pub add-requires-clause-new : goal.add-requires-clause-new
+add-requires-clause-new c =
+    let can : CanPush c.args.self.now c.args.m = c.can_push.ensures.says.0 c.if-not-can_push.false in
+    ap (list_any (is_key_of c.args.m)) (c.make_room.ensures.keys ∙ c.self.invariant.in_order ∙ ap (map key_of) c.self.view_is) ∙ fresh_key c.args.self.now c.args.m can.1
+
+pub invariant_of-self-2 : goal.invariant_of-self-2
+invariant_of-self-2 c =
+    let can : CanPush c.args.self.now c.args.m = c.can_push.ensures.says.0 c.if-not-can_push.false in
+    let chained : c.link-digest.result ≡ link c.digest_at.result c.args.m = c.link-digest.ensures in
+    let whole : take c.len-2.result c.args.self.now ≡ c.args.self.now = take_all c.len-2.result c.args.self.now (omega (arith, c.len-2.ensures.len)) in
+    let digest : c.link-digest.result ≡ link (digest_of c.self.inside.requests.items) c.args.m = chained ∙ ap (λ d. link d c.args.m) (c.digest_at.ensures ∙ ap digest_of (whole ∙ sym c.self.view_is)) in
+    let next : IsNext c.self.inside.requests.items c.args.m = subst (λ h. IsNext h c.args.m) (sym c.self.view_is) can.1 in
+    let room : length c.self.inside.requests.items < 1024 = subst (λ h. length h < 1024) (sym c.self.view_is) can.0 in
+    rw (c.add.ensures.requests, c.add.ensures.digests, c.add.ensures.keys, c.make_room.ensures.requests, c.make_room.ensures.digests, c.make_room.ensures.keys, digest)
+    (IsKept-push _ _ _ c.args.m c.self.invariant room next)

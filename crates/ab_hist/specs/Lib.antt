@@ -1,0 +1,5 @@
+-- The definitions that the contracts of this crate cite.
+pub mod Requests
+pub mod Histories
+pub mod Digests
+pub mod Kept

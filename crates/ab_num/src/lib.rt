@@ -1,0 +1,14 @@
+//! Parties, plans and clusters, and numbers in bytes.
+#![tactic(auto)]
+
+mod bytes;
+mod cluster;
+mod memory;
+mod party;
+mod plan;
+
+pub use bytes::{get_u16, get_u32, get_u64, put_u16, put_u32, put_u64};
+pub use cluster::Cluster;
+pub use memory::OutOfMemory;
+pub use party::Party;
+pub use plan::{Height, Kind, Plan, ServiceName};
