@@ -1,0 +1,9 @@
+//! What an instance of Abstract promises, what a run of many instances promises, and that the
+//! first gives the second.
+#![tactic(auto)]
+
+mod order;
+mod seen;
+
+pub use order::instances_compose;
+pub use seen::Seen;
