@@ -4,3 +4,9 @@ pub mod Observations
 pub mod Instances
 pub mod Order
 pub mod Extraction
+pub mod Acts
+pub mod Rules
+pub mod Deeds
+pub mod Messages
+pub mod Ensembles
+pub mod Promises

@@ -66,14 +66,14 @@ IsCommitHistory seen named i h = (n : ℕ) × (d : List ℕ) × IsCommitted seen
 abbrev pub IsOutcome : List Seen → (ℕ → List ℕ → List Request) → ℕ → List Request → Type 0
 IsOutcome seen named i h = IsCommitHistory seen named i h ⊎ IsCertHistory seen i h
 
--- the instance that an observation names
-abbrev pub instance_of : Seen → ℕ
-instance_of (Invoked i c m) = i
-instance_of (Init i r h) = i
-instance_of (Cert i p h) = i
-instance_of (Committed i c m n d reply) = i
+-- the instance in which it was observed
+abbrev pub observed_in : Seen → ℕ
+observed_in (Invoked i c m) = i
+observed_in (Init i r h) = i
+observed_in (Cert i p h) = i
+observed_in (Committed i c m n d reply) = i
 
 -- the two lists have the same observations that name i
 pub record SameParts (i : ℕ) (old new : List Seen) : Type 0 where
-  pub there : (s : Seen) → instance_of s ≡ i → Contains old s → Contains new s
-  pub back : (s : Seen) → instance_of s ≡ i → Contains new s → Contains old s
+  pub there : (s : Seen) → observed_in s ≡ i → Contains old s → Contains new s
+  pub back : (s : Seen) → observed_in s ≡ i → Contains new s → Contains old s

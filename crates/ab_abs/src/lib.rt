@@ -4,6 +4,8 @@
 
 mod order;
 mod seen;
+mod vote;
 
 pub use order::instances_compose;
 pub use seen::Seen;
+pub use vote::Vote;

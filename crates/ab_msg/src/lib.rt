@@ -1,0 +1,10 @@
+//! What parties state under their tags and signatures, and the messages that carry it.
+#![tactic(auto)]
+
+mod content;
+mod entries;
+mod message;
+
+pub use content::{Content, Reply};
+pub use entries::ViewEntries;
+pub use message::{Msg, NO_TAG, Out, Outs, Tag, Tags};
