@@ -1,5 +1,5 @@
 -- The parties of a cluster.
-use Rattle.std.specs.Prelude.{ℕ, Bool, false, ◌==◌}
+use Rattle.std.specs.Prelude.{Bool, false, ◌==◌}
 use Rattle.ab_num.specs.declared.party.Party.{Party}
 use Rattle.ab_num.specs.declared.party.Party.TheVariants.{Replica, Client}
 
