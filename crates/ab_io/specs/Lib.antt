@@ -1,0 +1,5 @@
+-- The definitions that the contracts of this crate cite.
+pub mod Causes
+pub mod Datagrams
+pub mod Readings
+pub mod Told
