@@ -1,0 +1,2 @@
+-- Lemmas on digests.
+pub mod Sha256Lemmas
