@@ -1,0 +1,11 @@
+pub mod LineLemmas
+pub mod NumberLemmas
+pub mod WordLemmas
+pub mod PartLemmas
+pub mod CoreLemmas
+pub mod HexLemmas
+pub mod HeadLemmas
+pub mod SpellingLemmas
+pub mod UniqueLemmas
+pub mod FaultLemmas
+pub mod FrontLemmas

@@ -1,0 +1,17 @@
+use Rattle.std.proofs.Common.{◌+◌, ◌≤◌, length, [], Result}
+use Rattle.ab_text.specs.declared.fault.TextFault.{TextFault}
+use Rattle.ab_text.specs.Lines.{lines_of}
+use Rattle.ab_text.specs.Heads.{Script}
+use Rattle.ab_text.specs.Settings.{set_up}
+use Rattle.ab_text.specs.Schedules.{ReadsFaulty}
+use Rattle.ab_text.proofs.reading.faulty_after.Given as goal
+
+-- what the lines that are left give, all of them give
+abbrev pub invariant-loop-line : goal.invariant-loop-line
+invariant-loop-line l = record {
+  so_far : (r : Result Script TextFault) → ReadsFaulty l.n (set_up l.setting l.faulty) (lines_of l.rest) r → ReadsFaulty l.first (set_up l.setting []) (lines_of l.text) r;
+  fits : l.n + length l.rest ≤ l.first + length l.text;
+}
+
+abbrev pub decreases-loop-line : goal.decreases-loop-line
+decreases-loop-line l = length l.rest

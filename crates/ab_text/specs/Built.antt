@@ -1,0 +1,35 @@
+-- The forms that this program takes. Other lines of the grammar are answered `not built`.
+use Rattle.std.specs.Prelude.{ℕ, Bool, true, false, None, Some}
+use Rattle.ab_num.specs.declared.plan.Plan.{Plan}
+use Rattle.ab_num.specs.declared.plan.Plan.TheVariants.{AZyzzyva, Aliph, Quorum, ZLight, Chain, Backup}
+use Rattle.ab_num.specs.declared.plan.ServiceName.{ServiceName}
+use Rattle.ab_num.specs.declared.plan.ServiceName.TheVariants.{Echo, Kv}
+use Rattle.ab_num.specs.declared.plan.Height.{Height}
+use Rattle.ab_text.specs.declared.event.Event.{Event}
+use Rattle.ab_text.specs.declared.event.Event.TheVariants.{Invoke, Deliver, Timeout, Inject}
+
+unfoldable pub plan_is_built : Plan → Bool
+plan_is_built AZyzzyva = false
+plan_is_built Aliph = false
+plan_is_built Quorum = true
+plan_is_built ZLight = false
+plan_is_built Chain = false
+plan_is_built Backup = false
+
+unfoldable pub service_is_built : ServiceName → Bool
+service_is_built Echo = true
+service_is_built Kv = false
+
+unfoldable pub height_is_built : Height → Bool
+height_is_built lms = true
+
+-- whether a faulty party may have this number of twins
+unfoldable pub faulty_is_built : ℕ → Bool
+faulty_is_built twins = false
+
+unfoldable pub event_is_built : Event → Bool
+event_is_built (Invoke core command) = true
+event_is_built (Deliver packet None) = true
+event_is_built (Deliver packet (Some core)) = false
+event_is_built (Timeout core) = false
+event_is_built (Inject core bytes) = false

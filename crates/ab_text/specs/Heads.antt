@@ -1,0 +1,118 @@
+-- The head of a schedule: six lines in their order.
+use Rattle.std.specs.Prelude.{◌≡◌, ℕ, List, [], ◌∷◌, Bool, Option, None, Some, Result, Ok, Err, codes, find, ◌&&◌, nat_le, nat_eq, if◌then◌else◌}
+use Rattle.std.specs.Str.{bytes_eq}
+use Rattle.ab_num.specs.declared.party.Party.{Party}
+use Rattle.ab_num.specs.declared.plan.Plan.{Plan}
+use Rattle.ab_num.specs.declared.plan.Plan.TheVariants.{AZyzzyva, Aliph, Quorum, ZLight, Chain, Backup}
+use Rattle.ab_num.specs.declared.plan.ServiceName.{ServiceName}
+use Rattle.ab_num.specs.declared.plan.ServiceName.TheVariants.{Echo, Kv}
+use Rattle.ab_num.specs.declared.plan.Height.{Height}
+use Rattle.ab_num.specs.declared.plan.Height.TheVariants.{Five, Ten}
+use Rattle.ab_text.specs.declared.event.Event.{Event}
+use Rattle.ab_text.specs.declared.fault.TextFault.{TextFault}
+use Rattle.ab_text.specs.declared.fault.TextFault.TheVariants.{BadLine, NotBuilt, NoEnd, OutOfMemory}
+use Rattle.ab_text.specs.Numbers.{number_of}
+use Rattle.ab_text.specs.Built.{plan_is_built, service_is_built, height_is_built}
+
+-- a schedule as plain values
+pub record Script : Type 0 where
+  pub f : ℕ
+  pub clients : ℕ
+  pub plan : Plan
+  pub service : ServiceName
+  pub lms : Height
+  pub faulty : List (Party × ℕ)
+  pub events : List Event
+
+abbrev pub plan_line : Plan → List ℕ
+plan_line AZyzzyva = codes "plan azyzzyva"
+plan_line Aliph = codes "plan aliph"
+plan_line Quorum = codes "plan quorum"
+plan_line ZLight = codes "plan zlight"
+plan_line Chain = codes "plan chain"
+plan_line Backup = codes "plan backup"
+
+abbrev pub plans : List Plan
+plans = AZyzzyva ∷ Aliph ∷ Quorum ∷ ZLight ∷ Chain ∷ Backup ∷ []
+
+abbrev pub service_line : ServiceName → List ℕ
+service_line Echo = codes "service echo"
+service_line Kv = codes "service kv"
+
+abbrev pub services : List ServiceName
+services = Echo ∷ Kv ∷ []
+
+abbrev pub lms_line : Height → List ℕ
+lms_line Five = codes "lms 5"
+lms_line Ten = codes "lms 10"
+
+abbrev pub heights : List Height
+heights = Five ∷ Ten ∷ []
+
+infixl 10 ◌>>=◌
+abbrev pub ◌>>=◌ : {A B : Type 0} → Result A TextFault → (A → Result B TextFault) → Result B TextFault
+(Ok x) >>= f = f x
+(Err e) >>= f = Err e
+
+-- line n has this form
+abbrev pub line_at : List ℕ → ℕ → List (List ℕ) → Result (List (List ℕ)) TextFault
+line_at form n [] = Err (NoEnd n)
+line_at form n (l ∷ ls) = if bytes_eq l form then Ok ls else Err (BadLine n)
+
+-- the one of these whose line this is
+unfoldable pub spelled_in : {A : Type 0} → (A → List ℕ) → List A → List ℕ → Option A
+spelled_in spell all l = find (λ a. bytes_eq l (spell a)) all
+
+abbrev pub taken : {A : Type 0} → (A → Bool) → ℕ → List (List ℕ) → Option A → Result (A × List (List ℕ)) TextFault
+taken is_built n ls None = Err (BadLine n)
+taken is_built n ls (Some a) = if is_built a then Ok (a, ls) else Err (NotBuilt n)
+
+-- line n is that of one of these, and built
+abbrev pub name_at : {A : Type 0} → (A → List ℕ) → List A → (A → Bool) → ℕ → List (List ℕ) → Result (A × List (List ℕ)) TextFault
+name_at spell all is_built n [] = Err (NoEnd n)
+name_at spell all is_built n (l ∷ ls) = taken is_built n ls (spelled_in spell all l)
+
+-- what comes after a word
+abbrev pub stripped : List ℕ → List ℕ → Option (List ℕ)
+stripped [] l = Some l
+stripped (w ∷ ws) [] = None
+stripped (w ∷ ws) (b ∷ bs) = if nat_eq w b then stripped ws bs else None
+
+abbrev pub number_in : Option (List ℕ) → Option ℕ
+number_in None = None
+number_in (Some digits) = number_of digits
+
+-- the number after a word
+abbrev pub number_after : List ℕ → List ℕ → Option ℕ
+number_after word l = number_in (stripped word l)
+
+abbrev pub within : ℕ → ℕ → ℕ → List (List ℕ) → Option ℕ → Result (ℕ × List (List ℕ)) TextFault
+within low high n ls None = Err (BadLine n)
+within low high n ls (Some k) = if nat_le low k && nat_le k high then Ok (k, ls) else Err (BadLine n)
+
+-- line n is the word and a number within bounds
+abbrev pub number_at : List ℕ → ℕ → ℕ → ℕ → List (List ℕ) → Result (ℕ × List (List ℕ)) TextFault
+number_at word low high n [] = Err (NoEnd n)
+number_at word low high n (l ∷ ls) = within low high n ls (number_after word l)
+
+-- what the head sets up, and the lines after it
+unfoldable pub head_at : List (List ℕ) → Result (Script × List (List ℕ)) TextFault
+head_at ls = do
+  name ← line_at (codes "abstract 1") 1 ls
+  f ← number_at (codes "f ") 1 2 2 name
+  plan ← name_at plan_line plans plan_is_built 3 f.1
+  clients ← number_at (codes "clients ") 1 16 4 plan.1
+  service ← name_at service_line services service_is_built 5 clients.1
+  lms ← name_at lms_line heights height_is_built 6 service.1
+  Ok (record { f = f.0; clients = clients.0; plan = plan.0; service = service.0; lms = lms.0; faulty = []; events = [] }, lms.1)
+
+-- what a function returned, seen by view, is what reading gives, unless memory ran out
+abbrev pub Fails : {Y : Type 0} → TextFault → Result Y TextFault → Type 0
+Fails OutOfMemory read = Unit {0}
+Fails (BadLine n) read = read ≡ Err (BadLine n)
+Fails (NotBuilt n) read = read ≡ Err (NotBuilt n)
+Fails (NoEnd n) read = read ≡ Err (NoEnd n)
+
+abbrev pub Gives : {X Y : Type 0} → (X → Y) → Result X TextFault → Result Y TextFault → Type 0
+Gives view (Ok x) read = read ≡ Ok (view x)
+Gives view (Err e) read = Fails e read

@@ -1,0 +1,13 @@
+-- The definitions that the contracts of this crate cite.
+pub mod Lines
+pub mod Numbers
+pub mod Cores
+pub mod HexDigits
+pub mod EventLines
+pub mod Built
+pub mod Heads
+pub mod Settings
+pub mod Schedules
+pub mod Spelling
+pub mod Reports
+pub mod Faults

@@ -1,0 +1,26 @@
+//! Why a text is no schedule.
+
+use ab_num::OutOfMemory;
+
+/// What is wrong with a text, and in which line. Lines are numbered from 1.
+#[derive(Clone, Copy, Debug, PartialEq, Eq)]
+pub enum TextFault {
+    /// The line is out of form.
+    BadLine(u32),
+    /// The line has a form that this program doesn't take.
+    NotBuilt(u32),
+    /// The text ends before this line, which is wanted.
+    NoEnd(u32),
+    OutOfMemory,
+}
+
+impl From<OutOfMemory> for TextFault {
+    ghost use Rattle.std.specs.Prelude.{◌≡◌};
+    ghost use Rattle.ab_text.specs.declared.fault.TextFault.TheVariants.{OutOfMemory as NoMemory};
+
+    ghost from_gives = { λ _ e. e ≡ NoMemory };
+
+    fn from(_refused: OutOfMemory) -> TextFault {
+        TextFault::OutOfMemory
+    }
+}

@@ -1,0 +1,206 @@
+//! The head of a schedule.
+
+ghost use Rattle.std.specs.Prelude.{◌≡◌, ◌<◌, ◌≤◌, [], length, IfOk};
+ghost use Rattle.ab_num.specs.Bounds.{IsInBounds};
+ghost use Rattle.ab_text.specs.Lines.{lines_of};
+ghost use Rattle.ab_text.specs.Built.{plan_is_built, service_is_built, height_is_built};
+ghost use Rattle.ab_text.specs.Heads.{Gives, line_at, number_at, name_at, head_at, number_after, spelled_in, plan_line, plans, service_line, services, lms_line, heights};
+ghost use Rattle.ab_text.specs.Settings.{set_up};
+
+use crate::built::{takes_height, takes_plan, takes_service};
+use crate::fault::TextFault;
+use crate::lines::next_line;
+use crate::numbers::number;
+use crate::parts::after;
+use crate::setting::{Setting, cluster_of};
+use ab_num::{Height, Plan, ServiceName};
+
+/// What comes after line `n`, which has this form.
+fn fixed<'a>(text: &'a [u8], form: &[u8], n: u32) -> Result<&'a [u8], TextFault>
+    ensures reads { Gives (λ rest. lines_of rest.now) result (line_at form.now n (lines_of text.now)) }
+    ensures shorter { IfOk result (λ rest. length rest.now ≤ length text.now) }
+{
+    match next_line(text) {
+        None => Err(TextFault::NoEnd(n)),
+        Some((line, rest)) => {
+            if line == form {
+                Ok(rest)
+            } else {
+                Err(TextFault::BadLine(n))
+            }
+        }
+    }
+}
+
+/// The number after a word.
+fn word_number(line: &[u8], word: &[u8]) -> Option<u64>
+    ensures { result ≡ number_after word.now line.now }
+{
+    match after(line, word) {
+        None => None,
+        Some(digits) => number(digits),
+    }
+}
+
+/// The number in line `n`, after its word, and what comes after that line.
+fn numbered<'a>(
+    text: &'a [u8],
+    word: &[u8],
+    low: u64,
+    high: u64,
+    n: u32,
+) -> Result<(u64, &'a [u8]), TextFault>
+    ensures reads { Gives (λ p. (p.0, lines_of p.1.now)) result (number_at word.now low high n (lines_of text.now)) }
+    ensures low { IfOk result (λ p. low ≤ p.0) }
+    ensures high { IfOk result (λ p. p.0 ≤ high) }
+    ensures shorter { IfOk result (λ p. length p.1.now ≤ length text.now) }
+{
+    match next_line(text) {
+        None => Err(TextFault::NoEnd(n)),
+        Some((line, rest)) => match word_number(line, word) {
+            None => Err(TextFault::BadLine(n)),
+            Some(k) => {
+                if k >= low && k <= high {
+                    Ok((k, rest))
+                } else {
+                    Err(TextFault::BadLine(n))
+                }
+            }
+        },
+    }
+}
+
+/// The plan that a line names.
+#[tactic(auto, unfolding(crate::specs::Heads::spelled_in))]
+fn plan_in(line: &[u8]) -> Option<Plan>
+    ensures { result ≡ spelled_in plan_line plans line.now }
+{
+    if line == b"plan azyzzyva".as_slice() {
+        return Some(Plan::AZyzzyva);
+    }
+    if line == b"plan aliph".as_slice() {
+        return Some(Plan::Aliph);
+    }
+    if line == b"plan quorum".as_slice() {
+        return Some(Plan::Quorum);
+    }
+    if line == b"plan zlight".as_slice() {
+        return Some(Plan::ZLight);
+    }
+    if line == b"plan chain".as_slice() {
+        return Some(Plan::Chain);
+    }
+    if line == b"plan backup".as_slice() {
+        return Some(Plan::Backup);
+    }
+    None
+}
+
+/// The service that a line names.
+#[tactic(auto, unfolding(crate::specs::Heads::spelled_in))]
+fn service_in(line: &[u8]) -> Option<ServiceName>
+    ensures { result ≡ spelled_in service_line services line.now }
+{
+    if line == b"service echo".as_slice() {
+        return Some(ServiceName::Echo);
+    }
+    if line == b"service kv".as_slice() {
+        return Some(ServiceName::Kv);
+    }
+    None
+}
+
+/// The height that a line names.
+#[tactic(auto, unfolding(crate::specs::Heads::spelled_in))]
+fn height_in(line: &[u8]) -> Option<Height>
+    ensures { result ≡ spelled_in lms_line heights line.now }
+{
+    if line == b"lms 5".as_slice() {
+        return Some(Height::Five);
+    }
+    if line == b"lms 10".as_slice() {
+        return Some(Height::Ten);
+    }
+    None
+}
+
+/// The plan in line `n`, and what comes after that line.
+fn plan_at(text: &[u8], n: u32) -> Result<(Plan, &[u8]), TextFault>
+    ensures reads { Gives (λ p. (p.0, lines_of p.1.now)) result (name_at plan_line plans plan_is_built n (lines_of text.now)) }
+    ensures shorter { IfOk result (λ p. length p.1.now ≤ length text.now) }
+{
+    match next_line(text) {
+        None => Err(TextFault::NoEnd(n)),
+        Some((line, rest)) => match plan_in(line) {
+            None => Err(TextFault::BadLine(n)),
+            Some(plan) => {
+                if takes_plan(plan) {
+                    Ok((plan, rest))
+                } else {
+                    Err(TextFault::NotBuilt(n))
+                }
+            }
+        },
+    }
+}
+
+/// The service in line `n`, and what comes after that line.
+fn service_at(text: &[u8], n: u32) -> Result<(ServiceName, &[u8]), TextFault>
+    ensures reads { Gives (λ p. (p.0, lines_of p.1.now)) result (name_at service_line services service_is_built n (lines_of text.now)) }
+    ensures shorter { IfOk result (λ p. length p.1.now ≤ length text.now) }
+{
+    match next_line(text) {
+        None => Err(TextFault::NoEnd(n)),
+        Some((line, rest)) => match service_in(line) {
+            None => Err(TextFault::BadLine(n)),
+            Some(service) => {
+                if takes_service(service) {
+                    Ok((service, rest))
+                } else {
+                    Err(TextFault::NotBuilt(n))
+                }
+            }
+        },
+    }
+}
+
+/// The height in line `n`, and what comes after that line.
+fn height_at(text: &[u8], n: u32) -> Result<(Height, &[u8]), TextFault>
+    ensures reads { Gives (λ p. (p.0, lines_of p.1.now)) result (name_at lms_line heights height_is_built n (lines_of text.now)) }
+    ensures shorter { IfOk result (λ p. length p.1.now ≤ length text.now) }
+{
+    match next_line(text) {
+        None => Err(TextFault::NoEnd(n)),
+        Some((line, rest)) => match height_in(line) {
+            None => Err(TextFault::BadLine(n)),
+            Some(height) => {
+                if takes_height(height) {
+                    Ok((height, rest))
+                } else {
+                    Err(TextFault::NotBuilt(n))
+                }
+            }
+        },
+    }
+}
+
+/// What six lines set up, and what comes after them.
+#[tactic(auto, unfolding(crate::specs::Heads::head_at))]
+pub(crate) fn head_of(text: &[u8]) -> Result<(Setting, &[u8]), TextFault>
+    ensures reads { Gives (λ p. (set_up p.0 [], lines_of p.1.now)) result (head_at (lines_of text.now)) }
+    ensures shorter { IfOk result (λ p. length p.1.now ≤ length text.now) }
+{
+    let rest = fixed(text, b"abstract 1", 1)?;
+    let (f, rest) = numbered(rest, b"f ", 1, 2, 2)?;
+    let (plan, rest) = plan_at(rest, 3)?;
+    let (clients, rest) = numbered(rest, b"clients ", 1, 16, 4)?;
+    let (service, rest) = service_at(rest, 5)?;
+    let (lms, rest) = height_at(rest, 6)?;
+    let cluster = cluster_of(f as u8, clients as u16, plan);
+    let setting = Setting {
+        cluster,
+        service,
+        lms,
+    };
+    Ok((setting, rest))
+}

@@ -1,0 +1,31 @@
+//! The texts of schedules and reports.
+#![tactic(auto)]
+
+mod built;
+mod bytes;
+mod cores;
+mod event;
+mod event_lines;
+mod fault;
+mod faulty;
+mod head;
+mod items;
+mod line;
+mod lines;
+mod numbers;
+mod parts;
+mod reading;
+mod report;
+mod schedule;
+mod setting;
+
+pub use event::{Core, Event};
+pub use fault::TextFault;
+pub use items::Items;
+pub use line::{Breach, Cause, Line, Premise};
+pub use reading::{fault_is_first, one_reading, read_is_spelled, read_schedule, spelled_is_read};
+pub use report::{write_end, write_log, write_premise, write_seen};
+pub use schedule::{Head, Schedule};
+
+#[cfg(test)]
+mod tests;

@@ -1,0 +1,162 @@
+//! Schedules, read.
+
+ghost use Rattle.std.specs.Prelude.{◌≡◌, ℕ, List, Result, ◌+◌, ◌-◌, ◌<◌, ◌≤◌, ◌^◌, [], length, take, MatchResult, Ok, Err, ◌⊎◌, IsTrue, ◌↔◌, codes};
+ghost use Rattle.ab_text.specs.Lines.{lines_of};
+ghost use Rattle.ab_text.specs.declared.fault.TextFault.{TextFault as TheFault};
+ghost use Rattle.ab_text.specs.Heads.{Script};
+ghost use Rattle.ab_text.specs.Settings.{set_up};
+ghost use Rattle.ab_text.specs.Faults.{BeginsBuilt, BeginsNone, BeginsNoneBuilt};
+ghost use Rattle.ab_text.specs.Spelling.{IsBuilt, IsSpelled};
+ghost use Rattle.ab_text.specs.Schedules.{ReadsEvents, ReadsFaulty, ReadsText, FaultOf, script_of};
+
+use crate::built::{takes_event, takes_faulty};
+use crate::event_lines::event_of;
+use crate::fault::TextFault;
+use crate::faulty::next_faulty;
+use crate::head::head_of;
+use crate::items::Items;
+use crate::lines::next_line;
+use crate::schedule::{Head, Schedule};
+use crate::setting::Setting;
+use ab_num::Party;
+use std::alloc::Global;
+
+/// Whether this is the last line.
+fn is_end(line: &[u8]) -> bool
+    ensures { IsTrue result ↔ (line.now ≡ codes "end") }
+{
+    line == b"end".as_slice()
+}
+
+/// Whether events follow this line.
+fn is_run(line: &[u8]) -> bool
+    ensures { IsTrue result ↔ (line.now ≡ codes "run") }
+{
+    line == b"run".as_slice()
+}
+
+/// The schedule of this head, whose events begin in line `first`.
+fn events_after(alloc: Global, head: Head, text: &[u8], first: u32) -> Result<Schedule, TextFault>
+    requires { first + length text.now < 2 ^ 32 }
+    ensures { MatchResult result
+        (λ s. ReadsEvents first (script_of head []) (lines_of text.now) (Ok (script_of s.head s.events)))
+        (λ e. FaultOf e (ReadsEvents first (script_of head []) (lines_of text.now))) }
+{
+    let mut events = Items::new(alloc);
+    let mut rest = text;
+    let mut n = first;
+    while let Some((line, after)) = next_line(rest) {
+        if is_end(line) {
+            return match next_line(after) {
+                None => Ok(Schedule { head, events }),
+                Some(_) => Err(TextFault::BadLine(n + 1)),
+            };
+        }
+        match event_of(alloc, line)? {
+            None => return Err(TextFault::BadLine(n)),
+            Some(event) => {
+                if !takes_event(&event) {
+                    return Err(TextFault::NotBuilt(n));
+                }
+                events.push(event)?;
+            }
+        }
+        rest = after;
+        n += 1;
+    }
+    Err(TextFault::NoEnd(n))
+}
+
+/// The head of this setting and these faulty parties.
+fn head_with(setting: Setting, faulty: Items<(Party, u8)>) -> Head
+    ensures { script_of result [] ≡ set_up setting faulty }
+{
+    Head {
+        cluster: setting.cluster,
+        service: setting.service,
+        lms: setting.lms,
+        faulty,
+    }
+}
+
+/// The schedule of this setting, whose faulty parties begin in line `first`.
+fn faulty_after(
+    alloc: Global,
+    setting: Setting,
+    text: &[u8],
+    first: u32,
+) -> Result<Schedule, TextFault>
+    requires { first + length text.now < 2 ^ 32 }
+    ensures { MatchResult result
+        (λ s. ReadsFaulty first (set_up setting []) (lines_of text.now) (Ok (script_of s.head s.events)))
+        (λ e. FaultOf e (ReadsFaulty first (set_up setting []) (lines_of text.now))) }
+{
+    let mut faulty = Items::new(alloc);
+    let mut rest = text;
+    let mut n = first;
+    while let Some((line, after)) = next_line(rest) {
+        if is_run(line) {
+            let head = head_with(setting, faulty);
+            return events_after(alloc, head, after, n + 1);
+        }
+        match next_faulty(setting, faulty.as_slice(), line) {
+            None => return Err(TextFault::BadLine(n)),
+            Some((party, twins)) => {
+                if !takes_faulty(twins) {
+                    return Err(TextFault::NotBuilt(n));
+                }
+                faulty.push((party, twins))?;
+            }
+        }
+        rest = after;
+        n += 1;
+    }
+    Err(TextFault::NoEnd(n))
+}
+
+/// The schedule that a text spells. A line that is out of form, not built or missing is the first one.
+pub fn read_schedule(alloc: Global, text: &[u8]) -> Result<Schedule, TextFault>
+    requires { length text.now < 2 ^ 31 }
+    ensures { MatchResult result
+        (λ s. ReadsText text.now (Ok (script_of s.head s.events)))
+        (λ e. FaultOf e (ReadsText text.now)) }
+{
+    let (setting, rest) = head_of(text)?;
+    faulty_after(alloc, setting, rest, 7)
+}
+
+/// What is read as a schedule is spelled so, and all of its forms are built.
+pub fn read_is_spelled()
+    ensures { (text : List ℕ) (s : Script) → ReadsText text (Ok s) → IsSpelled text s × IsBuilt s }
+{}
+
+/// What is spelled so is read where all of its forms are built, and is otherwise no bad line.
+pub fn spelled_is_read()
+    ensures built { (text : List ℕ) (s : Script) → IsSpelled text s → IsBuilt s → ReadsText text (Ok s) }
+    ensures other { (text : List ℕ) (s : Script) → IsSpelled text s
+        → ReadsText text (Ok s) ⊎ ((n : ℕ) × ReadsText text (Err (TextFault.NotBuilt n))) }
+{}
+
+/// A text gives one result.
+pub fn one_reading()
+    ensures { (text : List ℕ) (r q : Result Script TheFault) → ReadsText text r → ReadsText text q → r ≡ q }
+{}
+
+/// A fault names the first line that is out of form, not built or missing: the lines before it begin a
+/// schedule that is built, and with it they begin none of the grammar, or none that is built.
+pub fn fault_is_first()
+    ensures before_bad { (text : List ℕ) (n : ℕ) → ReadsText text (Err (TextFault.BadLine n))
+        → BeginsBuilt (take (n - 1) (lines_of text)) }
+    ensures bad { (text : List ℕ) (n : ℕ) → ReadsText text (Err (TextFault.BadLine n))
+        → (1 ≤ n) × (n ≤ length (lines_of text)) × BeginsNone (take n (lines_of text)) }
+
+    ensures before_not_built { (text : List ℕ) (n : ℕ) → ReadsText text (Err (TextFault.NotBuilt n))
+        → BeginsBuilt (take (n - 1) (lines_of text)) }
+    ensures not_built { (text : List ℕ) (n : ℕ) → ReadsText text (Err (TextFault.NotBuilt n))
+        → (1 ≤ n) × (n ≤ length (lines_of text)) × BeginsNoneBuilt (take n (lines_of text)) }
+
+    ensures before_no_end { (text : List ℕ) (n : ℕ) → ReadsText text (Err (TextFault.NoEnd n))
+        → BeginsBuilt (take (n - 1) (lines_of text)) }
+    ensures no_end { (text : List ℕ) (n : ℕ) → ReadsText text (Err (TextFault.NoEnd n))
+        → (n ≡ length (lines_of text) + 1) × ((s : Script) → IsSpelled text s → ⊥) }
+{}

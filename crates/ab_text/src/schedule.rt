@@ -1,0 +1,21 @@
+//! Schedules.
+
+use crate::event::Event;
+use crate::items::Items;
+use ab_num::{Cluster, Height, Party, ServiceName};
+
+/// What a cluster is set up with, and how many twins each faulty party has.
+#[derive(Debug, Drop)]
+pub struct Head {
+    pub cluster: Cluster,
+    pub service: ServiceName,
+    pub lms: Height,
+    pub faulty: Items<(Party, u8)>,
+}
+
+/// A cluster, and what happens in it.
+#[derive(Debug, Drop)]
+pub struct Schedule {
+    pub head: Head,
+    pub events: Items<Event>,
+}

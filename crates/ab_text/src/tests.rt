@@ -1,0 +1,275 @@
+//! Schedules and reports against worked ones.
+
+ghost use Rattle.std.specs.Prelude.{◌≡◌, ◌<◌, ◌^◌};
+
+use crate::{
+    Breach, Cause, Event, Items, Line, Premise, TextFault, one_reading, read_is_spelled,
+    read_schedule, spelled_is_read, write_end, write_log, write_premise, write_seen,
+};
+use ab_num::{Height, Party, Plan, ServiceName};
+use arrayvec::ArrayVec;
+use std::alloc::Global;
+use std::process::Abort;
+use std::test::Fail;
+
+/// What is wrong with a text, if anything is.
+fn fault_in(alloc: Global, rt: &impl Abort, text: &[u8]) -> Option<TextFault> {
+    assert!(rt; text.len() < 10000);
+    read_schedule(alloc, text).err()
+}
+
+const HEAD: &str = "abstract 1\nf 1\nplan quorum\nclients 2\nservice echo\nlms 5\n";
+
+#[test]
+fn heads(rt: HostRuntime) -> Result<(), Fail> {
+    let alloc = rt.alloc();
+    let cases = [
+        ("", TextFault::NoEnd(1)),
+        ("\n", TextFault::BadLine(1)),
+        ("abstract 4\nf 1\n", TextFault::BadLine(1)),
+        ("abstract 1\r\nf 1\r\n", TextFault::BadLine(1)),
+        ("abstract 1\n", TextFault::NoEnd(2)),
+        ("abstract 1\nf 3\n", TextFault::BadLine(2)),
+        ("abstract 1\nf 01\n", TextFault::BadLine(2)),
+        ("abstract 1\nf 2\nplan quorums\n", TextFault::BadLine(3)),
+        ("abstract 1\nf 2\nplan azyzzyva\n", TextFault::NotBuilt(3)),
+        ("abstract 1\nf 2\nplan aliph\n", TextFault::NotBuilt(3)),
+        ("abstract 1\nf 2\nplan zlight\n", TextFault::NotBuilt(3)),
+        ("abstract 1\nf 2\nplan chain\n", TextFault::NotBuilt(3)),
+        ("abstract 1\nf 2\nplan backup\n", TextFault::NotBuilt(3)),
+        (
+            "abstract 1\nf 1\nplan quorum\nclients 0\n",
+            TextFault::BadLine(4),
+        ),
+        (
+            "abstract 1\nf 1\nplan quorum\nclients 17\n",
+            TextFault::BadLine(4),
+        ),
+        (
+            "abstract 1\nf 1\nplan quorum\nclients 16\nservice KV\n",
+            TextFault::BadLine(5),
+        ),
+        (
+            "abstract 1\nf 1\nplan quorum\nclients 2\nservice kv\n",
+            TextFault::NotBuilt(5),
+        ),
+        (
+            "abstract 1\nf 1\nplan quorum\nclients 2\nservice echo\nlms  5\n",
+            TextFault::BadLine(6),
+        ),
+        (
+            "abstract 1\nf 1\nplan quorum\nclients 2\nservice echo\nlms 6\n",
+            TextFault::BadLine(6),
+        ),
+        (
+            "abstract 1\nf 1\nplan quorum\nclients 2\nservice echo\nlms 10",
+            TextFault::NoEnd(7),
+        ),
+    ];
+    for (text, fault) in cases {
+        assert_eq!(rt;
+            fault_in(alloc, &rt, text.as_bytes()),
+            Some(fault),
+            "{text}"
+        );
+    }
+    Ok(())
+}
+
+#[test]
+fn lines(rt: HostRuntime) -> Result<(), Fail> {
+    let alloc = rt.alloc();
+    let long =
+        "invoke c0 aaaaaaaaaaaaaaaaaaaaaaaaaaaaaaaaaaaaaaaaaaaaaaaaaaaaaaaaaaaaaaaaaaaaaaaaaaaaaaaaaaaaaaaaaaaaaaaaaaaaaaaaaaaaaaaaaaaaaaaaaaaaaaaaa";
+    let cases = [
+        ("faulty r1 0", TextFault::BadLine(7)),
+        ("faulty r1 5", TextFault::BadLine(7)),
+        ("faulty r4 1", TextFault::BadLine(7)),
+        ("faulty c2 1", TextFault::BadLine(7)),
+        ("faulty r1 2", TextFault::NotBuilt(7)),
+        ("faulty c1 1", TextFault::NotBuilt(7)),
+        ("run", TextFault::NoEnd(8)),
+        ("run\ndeliver 99", TextFault::NoEnd(9)),
+        ("run\nend\n\n", TextFault::BadLine(9)),
+        ("run\nend\nend", TextFault::BadLine(9)),
+        ("run\n\nend", TextFault::BadLine(8)),
+        ("run\ndeliver 99\nfoo\nend", TextFault::BadLine(9)),
+        ("run\ndeliver +1", TextFault::BadLine(8)),
+        ("run\ndeliver 01", TextFault::BadLine(8)),
+        ("run\ndeliver 1 ", TextFault::BadLine(8)),
+        ("run\ndeliver 1 r0 r0", TextFault::BadLine(8)),
+        ("run\ndeliver 99 r9", TextFault::NotBuilt(8)),
+        ("run\ndeliver 18446744073709551616", TextFault::BadLine(8)),
+        ("run\ntimeout r300", TextFault::BadLine(8)),
+        ("run\ntimeout r9", TextFault::NotBuilt(8)),
+        ("run\ntimeout r1.0", TextFault::BadLine(8)),
+        ("run\ntimeout r1.3", TextFault::NotBuilt(8)),
+        ("run\ntimeout r1.", TextFault::BadLine(8)),
+        ("run\ntimeout R0", TextFault::BadLine(8)),
+        ("run\ntimeout r00", TextFault::BadLine(8)),
+        ("run\ninject r0 ", TextFault::BadLine(8)),
+        ("run\ninject r0 abc", TextFault::BadLine(8)),
+        ("run\ninject r0 AB", TextFault::BadLine(8)),
+        ("run\ninject r0.1 0abf", TextFault::NotBuilt(8)),
+        ("run\ninvoke c0 a\x7f", TextFault::BadLine(8)),
+        ("run\ninvoke c0 a\tb", TextFault::BadLine(8)),
+        ("run\ninvoke c0 ", TextFault::BadLine(8)),
+        ("run\ninvoke c0", TextFault::BadLine(8)),
+        ("run\ninvoke r0 x", TextFault::BadLine(8)),
+        ("run\ninvoke r9 x", TextFault::BadLine(8)),
+        (long, TextFault::BadLine(7)),
+    ];
+    for (rest, fault) in cases {
+        let text = format!(in alloc; "{HEAD}{rest}")?;
+        assert_eq!(rt;
+            fault_in(alloc, &rt, text.as_bytes()),
+            Some(fault),
+            "{rest}"
+        );
+    }
+    let text = format!(in alloc; "{HEAD}run\n{long}")?;
+    assert_eq!(rt;
+        fault_in(alloc, &rt, text.as_bytes()),
+        Some(TextFault::BadLine(8))
+    );
+    let text = format!(in alloc;
+        "{HEAD}run\ninvoke c99 a\ndeliver 0\ndeliver 18446744073709551615\nend"
+    )?;
+    assert_eq!(rt; fault_in(alloc, &rt, text.as_bytes()), None);
+    Ok(())
+}
+
+#[test]
+fn reads(rt: HostRuntime) -> Result<(), Fail> {
+    let text =
+        b"abstract 1\nf 1\nplan quorum\nclients 1\nservice echo\nlms 5\nrun\ninvoke c0  x \ndeliver 1\ndeliver 8\nend\n";
+    read_is_spelled();
+    spelled_is_read();
+    one_reading();
+    assert!(rt; text.len() < 1000);
+    match read_schedule(rt.alloc(), text) {
+        Err(_) => assert!(rt; false),
+        Ok(schedule) => {
+            let head = &schedule.head;
+            assert_eq!(rt; (head.cluster.f, head.cluster.clients), (1, 1));
+            assert_eq!(rt;
+                (head.cluster.plan, head.service, head.lms),
+                (Plan::Quorum, ServiceName::Echo, Height::Five)
+            );
+            assert_eq!(rt; head.faulty.as_slice().len(), 0);
+            match schedule.events.as_slice() {
+                [
+                    Event::Invoke { core, command },
+                    Event::Deliver { packet: 1, .. },
+                    Event::Deliver {
+                        packet: 8,
+                        core: None,
+                    },
+                ] => {
+                    assert_eq!(rt; core.party, Party::Client(0));
+                    assert_eq!(rt; command.as_slice(), b" x ".as_slice());
+                }
+                _ => assert!(rt; false),
+            }
+        }
+    }
+    Ok(())
+}
+
+/// A list of three entries.
+fn three(alloc: Global) -> Result<Items<(u16, u64)>, Fail> {
+    let mut entries = Items::new(alloc);
+    entries.push((0, 1))?;
+    entries.push((1, 1))?;
+    entries.push((2, 1))?;
+    Ok(entries)
+}
+
+/// A reply.
+fn reply(text: &[u8]) -> ArrayVec<u8, 72> {
+    let mut reply = ArrayVec::new();
+    let _ = reply.try_extend_from_slice(text);
+    reply
+}
+
+#[test]
+fn writes(rt: HostRuntime) -> Result<(), Fail> {
+    let alloc = rt.alloc();
+    let mut out = Vec::new(alloc);
+    let lines = [
+        Line::Refused {
+            event: 9,
+            party: Party::Client(0),
+            cause: Cause::Tag,
+        },
+        Line::Refused {
+            event: 18,
+            party: Party::Replica(0),
+            cause: Cause::Bad,
+        },
+        Line::Refused {
+            event: 18,
+            party: Party::Replica(0),
+            cause: Cause::Kind,
+        },
+        Line::Cert {
+            event: 22,
+            party: Party::Client(0),
+            instance: 1,
+            entries: three(alloc)?,
+        },
+        Line::Init {
+            event: 23,
+            replica: 0,
+            instance: 2,
+            entries: three(alloc)?,
+        },
+        Line::Invoked {
+            event: 31,
+            client: 0,
+            instance: 1,
+            stamp: 2,
+        },
+        Line::Commit {
+            event: 9,
+            client: 0,
+            instance: 1,
+            stamp: 1,
+            n: 1,
+            reply: reply(b"put a 1"),
+        },
+        Line::Spent {
+            event: 33,
+            replica: 1,
+        },
+    ];
+    for line in &lines {
+        write_seen(alloc, &mut out, line)?;
+    }
+    write_log(alloc, &mut out, 1, 1, &[(0, 1)])?;
+    write_log(alloc, &mut out, 2, 1, &[])?;
+    write_premise(alloc, &mut out, &Premise::Held)?;
+    write_premise(
+        alloc,
+        &mut out,
+        &Premise::Broken {
+            event: 9,
+            breach: Breach::Forged,
+            party: Party::Replica(3),
+        },
+    )?;
+    write_premise(
+        alloc,
+        &mut out,
+        &Premise::Broken {
+            event: 0,
+            breach: Breach::Faulty,
+            party: Party::Replica(1),
+        },
+    )?;
+    write_end(alloc, &mut out, 35, 62)?;
+    let want =
+        b"refused 9 c0 tag\nrefused 18 r0 bad\nrefused 18 r0 kind\ncert 22 c0 1 c0.1,c1.1,c2.1\ninit 23 r0 2 c0.1,c1.1,c2.1\ninvoked 31 c0 1 2\ncommit 9 c0 1 1 1 put a 1\nspent 33 r1\nlog r1 1 c0.1\nlog r2 1 -\npremise held\npremise broken 9 forged r3\npremise broken 0 faulty r1\nend 35 62\n";
+    assert_eq!(rt; out.as_slice(), want.as_slice());
+    Ok(())
+}
