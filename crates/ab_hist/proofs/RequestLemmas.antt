@@ -1,5 +1,5 @@
 -- Requests that are equal, and their places.
-use Rattle.std.proofs.Common.{◌≡◌, ℕ, zero, suc, ◌+◌, ◌-◌, ◌<◌, List, [], ◌∷◌, length, map, get_or, Contains, Bool, true, false, ◌||◌, Some, None, ap, sym, ◌∙◌, arith, refl, inl, inr, take, subst, true≢false, IsTrue, slice_get, if◌then◌else◌}
+use Rattle.std.proofs.Common.{◌≡◌, ℕ, zero, suc, ◌+◌, ◌-◌, ◌<◌, List, [], ◌∷◌, ◌++◌, length, drop, take-append-drop, map, get_or, Contains, Bool, true, false, ◌||◌, Some, None, ap, sym, ◌∙◌, arith, refl, inl, inr, take, subst, true≢false, IsTrue, slice_get, if◌then◌else◌}
 use Rattle.std.specs.Bool.{Decides}
 use Rattle.std.specs.List.{position, list_any, list_all}
 use Rattle.std.specs.Option.{option_map}
@@ -8,8 +8,9 @@ use Rattle.std.proofs.lemmas.Bool.{cases_order, cases_Bool, false_from_ne_true}
 use Rattle.std.proofs.lemmas.Bool.Decides.{Decides-eqb, Decides-and, Decides-like, Decides-ltb, Decides-by_and, nat_tests}
 use Rattle.std.proofs.lemmas.Slice.Eq.{bytes_eq-Decides, slice_eq-Decides}
 use Rattle.std.proofs.lemmas.Option.{slice_get_read, slice_get_within, get_or_from_slice_get}
-use Rattle.std.proofs.lemmas.List.{get_or-map, get_or-take, length-map, length-take}
+use Rattle.std.proofs.lemmas.List.{get_or-map, get_or-take, length-map, length-take, take_all, take-append-le}
 use Rattle.std.proofs.lemmas.List.Quantifiers.{position-Some}
+use mathlib.Core.List.{IsPrefix}
 use Rattle.ab_hist.specs.declared.request.Request.{Request}
 use Rattle.ab_hist.specs.Requests.{key_of, is_key_of, request_eq}
 use Rattle.ab_hist.specs.Histories.{IsHistory, IsNext, Precedes, place_in, can_push, CanPush, may_follow}
@@ -87,6 +88,13 @@ pub prefix_says : (mine other front : List Request) (b : Bool) → b ≡ pointwi
 prefix_says mine other front b equal is =
     let tells = slice_eq-Decides request_eq-Decides front mine b equal in
     ((λ t. sym is ∙ tells.0 t), (λ e. tells.1 (is ∙ e)))
+
+-- a list begins with its front, and its front is what it begins with
+pub prefix_from_front : (h k : List Request) → take (length h) k ≡ h → IsPrefix h k
+prefix_from_front h k e = (drop (length h) k, ap (λ xs. xs ++ drop (length h) k) (sym e) ∙ take-append-drop (length h) k)
+
+pub front_from_prefix : (h k : List Request) → IsPrefix h k → take (length h) k ≡ h
+front_from_prefix h k (rest, e) = ap (take (length h)) (sym e) ∙ take-append-le (length h) h rest (omega arith) ∙ take_all (length h) h (omega arith)
 
 differs : (m x : Request) → Precedes x m → is_key_of m (key_of x) ≡ false
 differs m x before = elim (cases_Bool (is_key_of m (key_of x))) [

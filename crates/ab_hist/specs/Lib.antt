@@ -2,4 +2,5 @@
 pub mod Requests
 pub mod Histories
 pub mod Digests
+pub mod Indexes
 pub mod Kept

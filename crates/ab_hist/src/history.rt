@@ -1,17 +1,16 @@
 //! Histories.
 
-ghost use Rattle.std.specs.Prelude.{◌≡◌, ◌+◌, ◌-◌, ◌<◌, ◌≤◌, ◌↔◌, [], ◌∷◌, ◌++◌, length, take, slice_get, map, IsTrue, Some, OnOk, OnErr, IsErrOf, IfOk, IfSome, IfNone, Contains, vec_len, false};
+ghost use Rattle.std.specs.Prelude.{◌≡◌, ◌+◌, ◌-◌, ◌<◌, ◌≤◌, ◌↔◌, [], ◌∷◌, ◌++◌, length, take, slice_get, map, IsTrue, Some, OnOk, OnErr, IsErrOf, IfOk, IfSome, IfNone, Contains, vec_len};
 ghost use Rattle.std.specs.Vec.{vec_capacity};
-ghost use Rattle.std.specs.List.{list_any};
-ghost use Rattle.indexmap.specs.IndexSet.{spare};
-ghost use Rattle.ab_hist.specs.Requests.{key_of, is_key_of};
+ghost use mathlib.Core.List.{IsPrefix};
+ghost use Rattle.ab_hist.specs.Requests.{key_of};
 ghost use Rattle.ab_hist.specs.Digests.{digest_of};
 ghost use Rattle.ab_hist.specs.Histories.{IsHistory, IsNext, CanPush, place_in, can_push as test_push};
 
 use crate::digest::link;
+use crate::index::Index;
 use crate::request::Request;
 use ab_num::OutOfMemory;
-use indexmap::IndexSet;
 use std::alloc::{AllocError, Global};
 use std::marker::Model;
 
@@ -26,13 +25,13 @@ pub enum PushFault {
     OutOfMemory,
 }
 
-/// A list of requests in which the stamps of each client rise, with a digest for each place, and an
-/// index from client and stamp to place.
+/// A list of requests in which the stamps of each client rise. A digest is kept for each place, and
+/// an index of the entries, so that no call but `copy`, `is_prefix_of` and `cut` walks the list.
 #[derive(Drop)]
 pub struct History {
     requests: Vec<Request>,
     digests: Vec<[u8; 32]>,
-    keys: IndexSet<(u16, u64)>,
+    index: Index,
 }
 
 impl Model for History {
@@ -44,7 +43,7 @@ impl Model for History {
 
     ghost view = { λ h. h.requests.items };
 
-    ghost invariant = { λ h. IsKept h.requests.items h.digests.items h.keys.keys };
+    ghost invariant = { λ h. IsKept h.requests.items h.digests.items h.index };
 }
 
 impl From<AllocError> for PushFault {
@@ -58,43 +57,13 @@ impl From<AllocError> for PushFault {
     }
 }
 
-/// Room for one more entry in each.
-fn make_room(
-    requests: &mut Vec<Request>,
-    digests: &mut Vec<[u8; 32]>,
-    keys: &mut IndexSet<(u16, u64)>,
-) -> Result<(), AllocError>
-    ensures requests { requests.new.items ≡ requests.old.items }
-    ensures digests { digests.new.items ≡ digests.old.items }
-    ensures keys { keys.new.keys ≡ keys.old.keys }
-    ensures room { OnOk result ((vec_len requests.new < vec_capacity requests.new)
-        × (vec_len digests.new < vec_capacity digests.new) × (0 < spare keys.new)) }
-{
-    requests.reserve(1)?;
-    digests.reserve(1)?;
-    keys.reserve(1)?;
-    Ok(())
-}
-
 /// Adds an entry where there is room for it.
-fn add(
-    requests: &mut Vec<Request>,
-    digests: &mut Vec<[u8; 32]>,
-    keys: &mut IndexSet<(u16, u64)>,
-    m: Request,
-    digest: [u8; 32],
-)
+fn add(requests: &mut Vec<Request>, digests: &mut Vec<[u8; 32]>, m: Request, digest: [u8; 32])
     requires room { (vec_len requests.old < vec_capacity requests.old)
-        × (vec_len digests.old < vec_capacity digests.old) × (0 < spare keys.old) }
-    requires new { list_any (is_key_of m) keys.old.keys ≡ false }
+        × (vec_len digests.old < vec_capacity digests.old) }
     ensures requests { requests.new.items ≡ requests.old.items ++ m ∷ [] }
     ensures digests { digests.new.items ≡ digests.old.items ++ digest ∷ [] }
-    ensures keys { keys.new.keys ≡ keys.old.keys ++ key_of m ∷ [] }
 {
-    match keys.insert((m.client, m.stamp)) {
-        Ok(_) => {}
-        Err(_) => unreachable!(),
-    }
     match digests.push(digest) {
         Ok(()) => {}
         Err(_) => unreachable!(),
@@ -116,16 +85,16 @@ fn copy_requests(alloc: Global, requests: &[Request]) -> Result<Vec<Request>, Al
     Ok(made)
 }
 
-/// The keys of requests that each have their own.
-fn keys_of(alloc: Global, requests: &[Request]) -> Result<IndexSet<(u16, u64)>, AllocError>
+/// The index of a history.
+fn index_of(alloc: Global, requests: &[Request]) -> Result<Index, AllocError>
     requires { IsHistory requests.now }
-    ensures { IfOk result (λ s. s.keys ≡ map key_of requests.now) }
+    ensures { IfOk result (λ index. index ≡ map key_of requests.now) }
 {
-    let mut keys = IndexSet::new(alloc);
+    let mut index = Index::new(alloc);
     for m in requests {
-        keys.insert((m.client, m.stamp))?;
+        index.push(m)?;
     }
-    Ok(keys)
+    Ok(index)
 }
 
 impl History {
@@ -136,7 +105,7 @@ impl History {
         History {
             requests: Vec::new(alloc),
             digests: Vec::new(alloc),
-            keys: IndexSet::new(alloc),
+            index: Index::new(alloc),
         }
     }
 
@@ -146,6 +115,13 @@ impl History {
         ensures history { IsHistory self.now }
     {
         self.requests.len()
+    }
+
+    /// The entries, in their order.
+    pub fn entries(&self) -> &[Request]
+        ensures { result.now ≡ self.now }
+    {
+        self.requests.as_slice()
     }
 
     /// The entry at place `n`.
@@ -176,11 +152,17 @@ impl History {
     fn may_push(&self, m: &Request) -> bool
         ensures { IsTrue result ↔ CanPush self.now m.now }
     {
-        self.requests.len() < CAPACITY
-            && self
-                .requests
-                .iter()
-                .all(|e| e.client != m.client || e.stamp < m.stamp)
+        self.requests.len() < CAPACITY && self.is_later(m)
+    }
+
+    /// Whether the stamp of `m` is above the latest one of its client.
+    fn is_later(&self, m: &Request) -> bool
+        ensures { IsTrue result ↔ IsNext self.now m.now }
+    {
+        match self.index.latest(m.client) {
+            Some(stamp) => stamp < m.stamp,
+            None => true,
+        }
     }
 
     /// The place whose entry equals `m`.
@@ -189,7 +171,7 @@ impl History {
         ensures found { IfSome result (λ n. (1 ≤ n) × (slice_get self.now (n - 1) ≡ Some m.now)) }
         ensures none { IfNone result (¬ Contains self.now m.now) }
     {
-        let place = self.keys.get_index_of(&(m.client, m.stamp))?;
+        let place = self.index.index_of(m)?;
         if self.requests[place] == *m {
             Some(place + 1)
         } else {
@@ -199,7 +181,8 @@ impl History {
 
     /// Whether `h` begins with these entries.
     pub fn is_prefix_of(&self, h: &History) -> bool
-        ensures { IsTrue result ↔ (take (length self.now) h.now ≡ self.now) }
+        ensures front { IsTrue result ↔ (take (length self.now) h.now ≡ self.now) }
+        ensures prefix { IsTrue result ↔ IsPrefix self.now h.now }
     {
         match h.requests.get(..self.requests.len()) {
             Some(front) => front == self.requests.as_slice(),
@@ -221,14 +204,10 @@ impl History {
             return Err(PushFault::Repeat);
         }
         let digest = link(&self.digest_at(self.len()), &m);
-        make_room(&mut self.requests, &mut self.digests, &mut self.keys)?;
-        add(
-            &mut self.requests,
-            &mut self.digests,
-            &mut self.keys,
-            m,
-            digest,
-        );
+        self.requests.reserve(1)?;
+        self.digests.reserve(1)?;
+        self.index.push(&m)?;
+        add(&mut self.requests, &mut self.digests, m, digest);
         Ok(())
     }
 
@@ -238,11 +217,11 @@ impl History {
     {
         let requests = copy_requests(alloc, &self.requests)?;
         let digests = Vec::from_slice(alloc, &self.digests)?;
-        let keys = keys_of(alloc, &self.requests)?;
+        let index = index_of(alloc, &self.requests)?;
         Ok(History {
             requests,
             digests,
-            keys,
+            index,
         })
     }
 
@@ -253,6 +232,6 @@ impl History {
     {
         self.requests.truncate(n);
         self.digests.truncate(n);
-        self.keys.truncate(n);
+        self.index.cut(n);
     }
 }

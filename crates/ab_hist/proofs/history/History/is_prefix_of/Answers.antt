@@ -4,7 +4,7 @@ use Rattle.std.specs.Cmp.Lexicographic.{pointwise}
 use Rattle.std.specs.List.{slice_range}
 use Rattle.ab_hist.specs.declared.request.Request.{Request}
 use Rattle.ab_hist.specs.Requests.{request_eq}
-use Rattle.ab_hist.proofs.RequestLemmas.{prefix_says}
+use Rattle.ab_hist.proofs.RequestLemmas.{prefix_says, prefix_from_front, front_from_prefix}
 use Rattle.ab_hist.proofs.history.History.is_prefix_of.Goals as goal
 
 -- the front of a list, as a range
@@ -16,4 +16,8 @@ returns-in-Some c =
     let front : c.in-Some.front.now ≡ take (length c.args.self.now) c.args.h.now =
     c.in-Some.ensures.lookup.0.2 ∙ front_is c.deref.result.now c.len.result
     ∙ (λ j. take ((c.len.ensures ∙ sym c.as_slice.ensures.len ∙ ap length (c.as_slice.ensures.value ∙ c.self.view_is)) j) ((c.deref.ensures.value ∙ c.h.view_is) j)) in
-    prefix_says c.args.self.now c.args.h.now c.in-Some.front.now c.eq.result (c.eq.ensures ∙ ap (pointwise request_eq c.in-Some.front.now) (c.as_slice.ensures.value ∙ c.self.view_is)) front
+    let says = prefix_says c.args.self.now c.args.h.now c.in-Some.front.now c.eq.result (c.eq.ensures ∙ ap (pointwise request_eq c.in-Some.front.now) (c.as_slice.ensures.value ∙ c.self.view_is)) front in
+    record {
+      front = says;
+      prefix = (λ t. prefix_from_front c.args.self.now c.args.h.now (says.0 t), λ p. says.1 (front_from_prefix c.args.self.now c.args.h.now p));
+    }

@@ -8,10 +8,10 @@ use Rattle.ab_hist.proofs.RequestLemmas.{fresh_key}
 use Rattle.ab_hist.proofs.KeptLemmas.{IsKept-push}
 use Rattle.ab_hist.proofs.history.History.push.Goals as goal
 
-pub add-requires-clause-new : goal.add-requires-clause-new
-add-requires-clause-new c =
+pub push-requires : goal.push-requires
+push-requires c =
     let can : CanPush c.args.self.now c.args.m = c.can_push.ensures.says.0 c.if-not-can_push.false in
-    ap (list_any (is_key_of c.args.m)) (c.make_room.ensures.keys ∙ c.self.invariant.in_order ∙ ap (map key_of) c.self.view_is) ∙ fresh_key c.args.self.now c.args.m can.1
+    ap (list_any (is_key_of c.args.m)) (c.self.invariant.in_order ∙ ap (map key_of) c.self.view_is) ∙ fresh_key c.args.self.now c.args.m can.1
 
 pub invariant_of-self-2 : goal.invariant_of-self-2
 invariant_of-self-2 c =
@@ -21,5 +21,5 @@ invariant_of-self-2 c =
     let digest : c.link-digest.result ≡ link (digest_of c.self.inside.requests.items) c.args.m = chained ∙ ap (λ d. link d c.args.m) (c.digest_at.ensures ∙ ap digest_of (whole ∙ sym c.self.view_is)) in
     let next : IsNext c.self.inside.requests.items c.args.m = subst (λ h. IsNext h c.args.m) (sym c.self.view_is) can.1 in
     let room : length c.self.inside.requests.items < 1024 = subst (λ h. length h < 1024) (sym c.self.view_is) can.0 in
-    rw (c.add.ensures.requests, c.add.ensures.digests, c.add.ensures.keys, c.make_room.ensures.requests, c.make_room.ensures.digests, c.make_room.ensures.keys, digest)
+    rw (c.add.ensures.requests, c.add.ensures.digests, c.in_ok-push.ensures.ok, c.in_ok-reserve.ensures.items, c.in_ok-reserve-2.ensures.items, digest)
     (IsKept-push _ _ _ c.args.m c.self.invariant room next)
