@@ -1,0 +1,13 @@
+//! The signatures of RFC 8554 (LMS), by its sets LMS_SHA256_M32_H5 and LMS_SHA256_M32_H10 over
+//! LMOTS_SHA256_N32_W4: a tree of 32 or 1,024 one-time keys, each of which signs once.
+#![tactic(auto)]
+
+mod nodes;
+mod signer;
+mod verification;
+
+pub use signer::{SignFault, Signer, signature_verifies};
+pub use verification::verify;
+
+#[cfg(test)]
+mod tests;
