@@ -35,10 +35,9 @@ fn first_bytes(m: &Request) -> Reply
 }
 
 impl Service for Echo {
-    ghost use Rattle.ab_svc.specs.declared.echo.Echo.{Echo};
-    ghost use Rattle.ab_svc.specs.Echoes.{echo_of};
+    ghost use Rattle.ab_svc.specs.Echoes.{echo_machine};
 
-    ghost machine = { record { begin = record {}; after = λ s m. s; answer = λ s m. echo_of m } };
+    ghost machine = { echo_machine };
 
     fn start(_alloc: Global) -> Result<Self, OutOfMemory> {
         Ok(Echo)

@@ -6,3 +6,6 @@ mod service;
 
 pub use echo::Echo;
 pub use service::{Reply, Service};
+
+#[cfg(test)]
+mod tests;
