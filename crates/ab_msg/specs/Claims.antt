@@ -1,5 +1,5 @@
 -- What messages claim of their makers.
-use Rattle.std.specs.Prelude.{ℕ, List, [], ◌∷◌}
+use Rattle.std.specs.Prelude.{ℕ, Bool, true, false, List, [], ◌∷◌}
 use Rattle.ab_num.specs.declared.party.Party.{Party}
 use Rattle.ab_msg.specs.declared.content.Content.{Content}
 use Rattle.ab_msg.specs.declared.content.Content.TheVariants.{Req, Order, Resp, ChainTag, Panic, Abort, PrePrepare, Prepare, Commit, ViewChange, NewView}
@@ -33,6 +33,17 @@ instance_of (Prepare maker instance view slot x) = instance
 instance_of (Commit maker instance view slot x) = instance
 instance_of (ViewChange maker instance view entries) = instance
 instance_of (NewView maker instance view) = instance
+
+-- what a message states
+abbrev pub content_of : Msg → Content
+content_of (msg.Req content tags) = content
+content_of (msg.Resp content tag) = content
+
+-- it is a client's request
+abbrev pub is_request : Msg → Bool
+is_request (msg.Req (Req maker instance request) tags) = true
+is_request (msg.Req content tags) = false
+is_request (msg.Resp content tag) = false
 
 -- the statements that a receiver checks in a message, in their order
 abbrev pub claims_of : Msg → List Content

@@ -1,5 +1,8 @@
 //! What a party states under its tag or signature.
 
+ghost use Rattle.std.specs.Prelude.{◌≡◌};
+ghost use Rattle.ab_msg.specs.Claims.{maker_of, instance_of};
+
 use crate::entries::ViewEntries;
 use ab_hist::{History, Request};
 use ab_num::Party;
@@ -84,4 +87,44 @@ pub enum Content {
         instance: u32,
         view: u32,
     },
+}
+
+impl Content {
+    /// Who states it.
+    pub fn maker(&self) -> Party
+        ensures { result ≡ maker_of self.now }
+    {
+        match self {
+            Content::Req { maker, .. } => *maker,
+            Content::Order { maker, .. } => *maker,
+            Content::Resp { maker, .. } => *maker,
+            Content::ChainTag { maker, .. } => *maker,
+            Content::Panic { maker, .. } => *maker,
+            Content::Abort { maker, .. } => *maker,
+            Content::PrePrepare { maker, .. } => *maker,
+            Content::Prepare { maker, .. } => *maker,
+            Content::Commit { maker, .. } => *maker,
+            Content::ViewChange { maker, .. } => *maker,
+            Content::NewView { maker, .. } => *maker,
+        }
+    }
+
+    /// The instance of which it speaks.
+    pub fn instance(&self) -> u32
+        ensures { result ≡ instance_of self.now }
+    {
+        match self {
+            Content::Req { instance, .. } => *instance,
+            Content::Order { instance, .. } => *instance,
+            Content::Resp { instance, .. } => *instance,
+            Content::ChainTag { instance, .. } => *instance,
+            Content::Panic { instance, .. } => *instance,
+            Content::Abort { instance, .. } => *instance,
+            Content::PrePrepare { instance, .. } => *instance,
+            Content::Prepare { instance, .. } => *instance,
+            Content::Commit { instance, .. } => *instance,
+            Content::ViewChange { instance, .. } => *instance,
+            Content::NewView { instance, .. } => *instance,
+        }
+    }
 }

@@ -4,7 +4,9 @@
 mod content;
 mod entries;
 mod message;
+mod outs;
 
 pub use content::{Content, Reply};
 pub use entries::ViewEntries;
-pub use message::{Msg, NO_TAG, Out, Outs, Tag, Tags};
+pub use message::{Msg, NO_TAG, Out, Tag, Tags};
+pub use outs::Outs;

@@ -1,9 +1,11 @@
 //! Messages, and to whom they go.
 
+ghost use Rattle.std.specs.Prelude.{◌≡◌};
+ghost use Rattle.ab_msg.specs.Claims.{content_of, is_request};
+
 use crate::content::Content;
 use ab_num::Party;
 use arrayvec::ArrayVec;
-use std::marker::Model;
 
 /// A tag over a content.
 pub type Tag = [u8; 32];
@@ -30,18 +32,27 @@ pub struct Out {
     pub msg: Msg,
 }
 
-/// What a party sends in one event, in the order of sending.
-#[derive(Drop)]
-pub struct Outs {
-    outs: Vec<Out>,
-}
+impl Msg {
+    /// What it states.
+    pub fn content(&self) -> &Content
+        ensures { result.now ≡ content_of self.now }
+    {
+        match self {
+            Msg::Req { content, tags: _ } => content,
+            Msg::Resp { content, tag: _ } => content,
+        }
+    }
 
-/// It is seen as the list of what it holds.
-impl Model for Outs {
-    ghost use Rattle.std.specs.Prelude.{List};
-    ghost use Rattle.ab_msg.specs.declared.message.Out.{Out as OutMessage};
-
-    ghost Value = { List OutMessage };
-
-    ghost view = { λ o. o.outs.items };
+    /// Whether it is a client's request.
+    pub fn is_request(&self) -> bool
+        ensures { result ≡ is_request self.now }
+    {
+        match self {
+            Msg::Req {
+                content: Content::Req { .. },
+                ..
+            } => true,
+            _ => false,
+        }
+    }
 }
