@@ -1,2 +1,22 @@
 -- Lemmas of this crate.
 pub mod Composition
+pub mod VotesLemmas
+pub mod Prefixes
+pub mod Counting
+pub mod Lists
+pub mod Parts
+pub mod Extracts
+pub mod ExtractionLaws
+pub mod ExampleRuns
+pub mod ExampleLists
+pub mod Voters
+pub mod Fronts
+pub mod Facts
+pub mod Statements
+pub mod Abstracts
+pub mod Whole
+pub mod ConsequenceLaws
+pub mod Reach
+pub mod BookLemmas
+pub mod Steps
+pub mod Witness

@@ -76,10 +76,10 @@ named_in x acts = history_at x.faulty (3 * x.f + 1) (log_of acts)
 abbrev pub begun_with : List Request → State
 begun_with base = record { base = base; log = base; stopped = false }
 
--- a replica begins with a base, which it has a mark of from instance 2 on
-abbrev pub start_of : Setting → ℕ → List Request → Act
-start_of x r base =
-    record { party = Replica r; claims = []; made = []; observations = if x.i == 1 then [] else Init x.i r base ∷ []; state = Some (begun_with base) }
+-- a replica begins with a base, where its protocol puts it, and has a mark of the base from instance 2 on
+abbrev pub start_of : Setting → ℕ → List Request → State → Act
+start_of x r base s =
+    record { party = Replica r; claims = []; made = []; observations = if x.i == 1 then [] else Init x.i r base ∷ []; state = Some s }
 
 -- a replica goes on
 abbrev pub call_of : ℕ → List Content → List Content → State → Act

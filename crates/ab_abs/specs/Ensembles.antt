@@ -46,6 +46,10 @@ put f r v q = if q == r then v else f q
 abbrev pub did : ℕ → Act → List Deed → List Deed
 did i a run = record { i = i; act = a } ∷ run
 
+-- replica r begins with a base, where the protocol puts it
+abbrev pub begin_of : {P : Type 0} → Proto P → Setting → ℕ → List Request → Act
+begin_of proto x r base = start_of x r base (proto.state (proto.begin x.i r base))
+
 -- replica r takes a call, whose claims are those that name the instance, and is stopped
 abbrev pub asked_of : {P : Type 0} → Proto P → Setting → ℕ → P → Call → Act
 asked_of proto x r p m = call_of r (claims_in x.i (call_claims m)) (makes proto r p m) (proto.state (proto.after p m))
@@ -60,7 +64,7 @@ note_of x r h = record { party = Replica r; claims = []; made = []; observations
 -- one event of a correct party
 pub data Step {P : Type 0} (proto : Proto P) (f : ℕ) (faulty : List Party) (w : Ensemble P) : Ensemble P → Type 0 where
   begins : (r : ℕ) → r < 3 * f + 1 → is_faulty faulty (Replica r) ≡ false → w.at r ≡ 0
-      → Step proto f faulty w (record { at = put w.at r 1; value = put w.value r (proto.begin 1 r []); run = did 1 (start_of (setting f faulty 1) r []) w.run })
+      → Step proto f faulty w (record { at = put w.at r 1; value = put w.value r (proto.begin 1 r []); run = did 1 (begin_of proto (setting f faulty 1) r []) w.run })
   asked : (r : ℕ) (m : Call) → r < 3 * f + 1 → is_faulty faulty (Replica r) ≡ false → 1 ≤ w.at r → IsFor (w.at r) m
       → Step proto f faulty w (record { at = w.at; value = put w.value r (proto.after (w.value r) m); run = did (w.at r) (asked_of proto (setting f faulty (w.at r)) r (w.value r) m) w.run })
   panics : (r : ℕ) → r < 3 * f + 1 → is_faulty faulty (Replica r) ≡ false → 1 ≤ w.at r
@@ -71,7 +75,7 @@ pub data Step {P : Type 0} (proto : Proto P) (f : ℕ) (faulty : List Party) (w 
       → Step proto f faulty w (record {
         at = put w.at r (j + 1);
         value = put w.value r (proto.begin (j + 1) r h);
-        run = did (j + 1) (start_of (setting f faulty (j + 1)) r h) (did j (cert_of (setting f faulty j) r claims h) w.run);
+        run = did (j + 1) (begin_of proto (setting f faulty (j + 1)) r h) (did j (cert_of (setting f faulty j) r claims h) w.run);
       })
   notes : (r j : ℕ) (claims : List Content) (h : List Request) → r < 3 * f + 1 → is_faulty faulty (Replica r) ≡ false → 1 ≤ j → proto.notes (j + 1) ≡ true → IsValidCert (setting f faulty j) claims h → IsHistory h
       → Step proto f faulty w (record {

@@ -4,9 +4,16 @@ pub mod Observations
 pub mod Instances
 pub mod Order
 pub mod Extraction
+pub mod Examples
 pub mod Acts
 pub mod Rules
 pub mod Deeds
 pub mod Messages
 pub mod Ensembles
 pub mod Promises
+pub mod Votes
+pub mod Places
+pub mod Answers
+pub mod Books
+pub mod Members
+pub mod SmallActs

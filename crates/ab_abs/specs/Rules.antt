@@ -67,7 +67,7 @@ pub record IsCall {S : Type 0} (machine : Machine S) (x : Setting) (claims made 
   pub states : (s : Content) → Contains made s → IsAnswer machine x claims new r s
 
 pub data IsLawful {S : Type 0} (machine : Machine S) (x : Setting) (acts : List Act) (a : Act) : Type 0 where
-  first : (r : ℕ) (base : List Request) → r < 3 * x.f + 1 → state_of acts r ≡ None → IsHistory base → (x.i ≡ 1 → base ≡ []) → a ≡ start_of x r base → IsLawful machine x acts a
+  first : (r : ℕ) (s : State) → r < 3 * x.f + 1 → state_of acts r ≡ None → IsHistory s.base → (x.i ≡ 1 → s.base ≡ []) → s.log ≡ s.base → a ≡ start_of x r s.base s → IsLawful machine x acts a
   call : (r : ℕ) (claims made : List Content) (old new : State) → r < 3 * x.f + 1 → state_of acts r ≡ Some old → IsCall machine x claims made r old new → a ≡ call_of r claims made new → IsLawful machine x acts a
   other : IsOther x acts a → IsLawful machine x acts a
 
