@@ -1,0 +1,16 @@
+//! What a replica of Quorum sends, and how its log grows.
+
+ghost use Rattle.ab_abs.specs.Places.{SendsOwn, LogsGrow};
+ghost use Rattle.ab_quorum.specs.Rules.{quorum};
+
+use ab_svc::Service;
+
+/// Whatever a replica of Quorum sends, it states itself: it passes on no statement of another.
+pub fn quorum_sends_its_own<S: Service>()
+    ensures { SendsOwn (quorum S.machine) }
+{}
+
+/// No call and no stop takes a request from the log of a replica of Quorum.
+pub fn quorum_logs_grow<S: Service>()
+    ensures { LogsGrow (quorum S.machine) }
+{}
