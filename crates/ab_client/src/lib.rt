@@ -1,0 +1,6 @@
+//! A client of a cluster: it sends its requests to replicas and commits what enough of them answer.
+#![tactic(auto)]
+
+mod client;
+
+pub use client::{Client, InvokeFault};
