@@ -1,0 +1,23 @@
+-- The lines of a report that observations make.
+use Rattle.std.specs.Prelude.{ℕ, List, map}
+use Rattle.ab_hist.specs.declared.request.Request.{Request}
+use Rattle.ab_hist.specs.Requests.{key_of}
+use Rattle.ab_text.specs.declared.line.Line.{Line}
+use Rattle.ab_text.specs.declared.line.Line.TheVariants as line
+use Rattle.ab_abs.specs.declared.seen.Seen.{Seen}
+use Rattle.ab_run.specs.declared.noted.Noted.{Noted}
+use Rattle.ab_abs.specs.declared.seen.Seen.TheVariants.{Invoked, Init, Cert, Committed}
+
+-- client and stamp of each request
+abbrev pub entries_of : List Request → List (ℕ × ℕ)
+entries_of h = map key_of h
+
+-- what is written of an observation in event e
+abbrev pub line_of : ℕ → Seen → Line
+line_of e (Invoked i c m) = line.Invoked e c i m.stamp
+line_of e (Init i r h) = line.Init e r i (entries_of h)
+line_of e (Cert i p h) = line.Cert e p i (entries_of h)
+line_of e (Committed i c m n d reply) = line.Commit e c i m.stamp n reply
+
+abbrev pub noted_line : Noted → Line
+noted_line n = line_of n.event n.what

@@ -1,0 +1,43 @@
+//! Why a step was refused.
+
+use ab_num::OutOfMemory;
+use std::alloc::AllocError;
+
+/// Why a world took no event.
+#[derive(Clone, Copy, Debug, PartialEq, Eq)]
+pub enum WorldFault {
+    /// It has taken 100,000 events, and takes no more.
+    Limit,
+    /// Its form is not taken yet.
+    NotBuilt,
+    /// No packet has this number.
+    NoPacket,
+    /// The cluster has no such core.
+    BadParty,
+    /// The client has a request open.
+    Busy,
+    /// Memory was refused, now or before: the world takes no more.
+    OutOfMemory,
+}
+
+impl From<AllocError> for WorldFault {
+    ghost use Rattle.std.specs.Prelude.{◌≡◌};
+    ghost use Rattle.ab_world.specs.declared.fault.WorldFault.TheVariants.{OutOfMemory as NoMemory};
+
+    ghost from_gives = { λ _ e. e ≡ NoMemory };
+
+    fn from(_refused: AllocError) -> WorldFault {
+        WorldFault::OutOfMemory
+    }
+}
+
+impl From<OutOfMemory> for WorldFault {
+    ghost use Rattle.std.specs.Prelude.{◌≡◌};
+    ghost use Rattle.ab_world.specs.declared.fault.WorldFault.TheVariants.{OutOfMemory as NoMemory};
+
+    ghost from_gives = { λ _ e. e ≡ NoMemory };
+
+    fn from(_refused: OutOfMemory) -> WorldFault {
+        WorldFault::OutOfMemory
+    }
+}
