@@ -1,0 +1,4 @@
+pub mod Replays
+pub mod Statuses
+pub mod Streams
+pub mod Texts

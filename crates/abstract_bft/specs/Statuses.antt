@@ -1,0 +1,87 @@
+-- The statuses of the top call, each with its cause.
+use Rattle.std.specs.Prelude.{◌≡◌, ◌≤◌, ℕ, List, [], ◌∷◌, ◌⊎◌, Option, Some, Ok, length, codes}
+use Rattle.std.specs.Io.KnownBytes.{Appends, Keeps}
+use Rattle.ab_io.specs.Causes.{Rose}
+use Rattle.abstract_bft.specs.declared.status.Bound.TheVariants.{Bytes, Events}
+use Rattle.abstract_bft.specs.declared.status.Status.{Status}
+use Rattle.abstract_bft.specs.declared.status.Status.TheVariants.{Done, Usage, Refused, ReadFault, WriteFault, Limit, OutOfMemory}
+use Rattle.abstract_bft.specs.Texts.{code_of, text_of}
+use Rattle.abstract_bft.specs.Streams.{IsAllOf, IsTooLong, AppendsFront}
+use Rattle.ab_abs.specs.Members.{Member}
+use Rattle.ab_text.specs.Heads.{Script}
+use Rattle.ab_text.specs.Schedules.{ReadsText}
+use Rattle.ab_world.specs.Steps.{World}
+use Rattle.abstract_bft.specs.Replays.{Replays, IsRefused, HasTooManyEvents, run_of}
+
+-- what a call of the program met: its words, what was left of the input, what out and err held before and after, and the
+-- counts of faults before and after
+pub record Call : Type 0 where
+  pub words : List (List ℕ)
+  pub left : Option (List ℕ)
+  pub out_old : Option (List ℕ)
+  pub out_new : Option (List ℕ)
+  pub err_old : Option (List ℕ)
+  pub err_new : Option (List ℕ)
+  pub read_before : ℕ
+  pub read_now : ℕ
+  pub out_before : ℕ
+  pub out_now : ℕ
+  pub err_before : ℕ
+  pub err_now : ℕ
+
+-- the status was said on err
+abbrev pub Says : Status → Call → Type 0
+Says s c = Appends c.err_old c.err_new (text_of s)
+
+-- nothing was written to out
+abbrev pub KeepsOut : Call → Type 0
+KeepsOut c = Keeps c.out_old c.out_new
+
+abbrev pub IsReplay : List (List ℕ) → Type 0
+IsReplay words = words ≡ codes "replay" ∷ []
+
+-- the input was read to its end, and its bytes are so
+abbrev pub HasInput : (List ℕ → Type 0) → Call → Type 0
+HasInput Is c = (text : List ℕ) × IsAllOf c.left text × Is text
+
+-- out got the report of the run that the input spells, and nothing else
+abbrev pub HasReport : Call → Type 0
+HasReport c = (report : List ℕ) × HasInput (λ text. Replays text report) c × Appends c.out_old c.out_new report
+
+-- out got a front of the report, or nothing
+abbrev pub HasFront : Call → Type 0
+HasFront c = KeepsOut c ⊎ ((report : List ℕ) × HasInput (λ text. Replays text report) c × AppendsFront c.out_old c.out_new report)
+
+-- when each status comes, and what it leaves on out and err
+abbrev pub StatusCause : Status → Call → Type 0
+StatusCause Done c = IsReplay c.words × HasReport c × Keeps c.err_old c.err_new
+StatusCause Usage c = (IsReplay c.words → ⊥) × KeepsOut c × Says Usage c
+StatusCause (Refused r) c = IsReplay c.words × HasInput (λ text. IsRefused text r) c × KeepsOut c × Says (Refused r) c
+StatusCause ReadFault c = IsReplay c.words × Rose c.read_before c.read_now × KeepsOut c × Says ReadFault c
+StatusCause WriteFault c = ((Rose c.out_before c.out_now × Says WriteFault c) ⊎ Rose c.err_before c.err_now) × HasFront c
+StatusCause (Limit Bytes) c = IsReplay c.words × IsTooLong c.left × KeepsOut c × Says (Limit Bytes) c
+StatusCause (Limit Events) c = IsReplay c.words × HasInput HasTooManyEvents c × KeepsOut c × Says (Limit Events) c
+StatusCause OutOfMemory c = HasFront c
+
+-- nothing stands in the way of a call: the input tells that it is a schedule within the limits, of which no event is refused,
+-- and no object has counted a fault
+pub record IsClear (c : Call) : Type 0 where
+  pub words : IsReplay c.words
+  pub text : List ℕ
+  pub schedule : Script
+  pub end : World Member
+  pub input : c.left ≡ Some text
+  pub short : length text ≤ 67108864
+  pub reads : ReadsText text (Ok schedule)
+  pub few : length schedule.events ≤ 100000
+  pub runs : run_of schedule ≡ Ok end
+  pub read : Rose c.read_before c.read_now → ⊥
+  pub out : Rose c.out_before c.out_now → ⊥
+  pub err : Rose c.err_before c.err_now → ⊥
+
+-- the number is that of a status that has its cause. Where nothing stands in the way, it is 0, or memory was refused
+pub record HasCauseOf (n : ℕ) (c : Call) : Type 0 where
+  pub status : Status
+  pub code : n ≡ code_of status
+  pub cause : StatusCause status c
+  pub complete : IsClear c → (n ≡ 0) ⊎ (n ≡ 9)

@@ -1,0 +1,70 @@
+//! Reads a schedule from standard input, runs it, and writes the report to standard output.
+#![tactic(auto)]
+
+mod replay;
+mod report;
+mod standard;
+mod status;
+mod stream;
+#[cfg(test)]
+mod tests;
+mod top;
+
+use ab_io::{MemClock, MemLink};
+use standard::{StdSink, StdSource};
+use std::alloc::{AllocError, Global};
+use std::env::{self, Env};
+use std::io;
+use std::process::ExitCode;
+
+/// The words after the program's name.
+fn words(rt: &(impl Env + AllocGlobal)) -> io::Result<Vec<String>> {
+    let mut all = Vec::new(rt.alloc());
+    for word in env::args(rt)?.skip(1) {
+        all.push(word)?;
+    }
+    Ok(all)
+}
+
+/// The words as texts.
+fn texts<'a>(alloc: Global, words: &'a [String]) -> Result<Vec<&'a str>, AllocError> {
+    let mut all = Vec::new(alloc);
+    for word in words {
+        all.push(word.as_str())?;
+    }
+    Ok(all)
+}
+
+fn main(rt: HostRuntime) -> ExitCode {
+    let alloc = rt.alloc();
+    let mut err = StdSink::new(rt.stderr());
+    let words = match words(&rt) {
+        Ok(words) => words,
+        // A command has no word that isn't UTF-8.
+        Err(fault) if fault.kind() == io::ErrorKind::InvalidData => Vec::new(alloc),
+        Err(_) => return ExitCode::from(top::refuse_memory(&mut err)),
+    };
+    let Ok(texts) = texts(alloc, words.as_slice()) else {
+        return ExitCode::from(top::refuse_memory(&mut err));
+    };
+    let mut input = StdSource::new(rt.reader());
+    let mut out = StdSink::new(rt.stdout());
+    let mut link = MemLink::new(
+        alloc,
+        Vec::new(alloc),
+        Vec::new(alloc),
+        Vec::new(alloc),
+        Vec::new(alloc),
+    );
+    let mut clock = MemClock::new(Vec::new(alloc));
+    let status = top::run(
+        alloc,
+        texts.as_slice(),
+        &mut input,
+        &mut out,
+        &mut err,
+        &mut link,
+        &mut clock,
+    );
+    ExitCode::from(status)
+}

@@ -1,0 +1,175 @@
+//! Runs over objects in memory.
+
+use crate::top::run;
+use ab_io::{MemClock, MemLink, MemSink, MemSource, SureSink, SureSource};
+use std::alloc::Global;
+use std::process::Abort;
+use std::test::Fail;
+
+/// The head of a schedule of four replicas and two clients.
+const HEAD: &str = "abstract 1\nf 1\nplan quorum\nclients 2\nservice echo\nlms 5\nrun\n";
+
+const USAGE: &str = "usage: abstract_bft <keys|node|replay|storm> [options]\n";
+
+/// A link that is quiet.
+fn quiet(alloc: Global) -> MemLink {
+    MemLink::new(
+        alloc,
+        Vec::new(alloc),
+        Vec::new(alloc),
+        Vec::new(alloc),
+        Vec::new(alloc),
+    )
+}
+
+/// Runs the command on the lines after the head, and compares its status, out and err.
+fn expect(
+    rt: &impl Abort,
+    alloc: Global,
+    words: &[&str],
+    lines: &str,
+    status: u8,
+    out: &str,
+    err: &str,
+) -> Result<(), Fail> {
+    let mut content = Vec::from_slice(alloc, HEAD.as_bytes())?;
+    content.extend_from_slice(lines.as_bytes())?;
+    let mut input = SureSource::new(content);
+    let mut written = SureSink::new(alloc);
+    let mut said = SureSink::new(alloc);
+    let mut link = quiet(alloc);
+    let mut clock = MemClock::new(Vec::new(alloc));
+    let number = run(
+        alloc,
+        words,
+        &mut input,
+        &mut written,
+        &mut said,
+        &mut link,
+        &mut clock,
+    );
+    assert_eq!(rt; number, status);
+    assert_eq!(rt; written.bytes(), out.as_bytes());
+    assert_eq!(rt; said.bytes(), err.as_bytes());
+    Ok(())
+}
+
+#[test]
+fn reports_are_written(rt: HostRuntime) -> Result<(), Fail> {
+    expect(
+        &rt,
+        rt.alloc(),
+        &["replay"],
+        "end\n",
+        0,
+        "log r0 1 -\nlog r1 1 -\nlog r2 1 -\nlog r3 1 -\npremise held\nend 0 0\n",
+        "",
+    )?;
+    expect(
+        &rt,
+        rt.alloc(),
+        &["replay"],
+        "invoke c0 put a 1\ndeliver 1\ndeliver 2\ndeliver 3\ndeliver 4\ndeliver 5\ndeliver 6\ndeliver 7\ndeliver 8\nend\n",
+        0,
+        "invoked 1 c0 1 1\ncommit 9 c0 1 1 1 put a 1\nlog r0 1 c0.1\nlog r1 1 c0.1\nlog r2 1 c0.1\nlog r3 1 c0.1\npremise held\nend 9 8\n",
+        "",
+    )?;
+    expect(
+        &rt,
+        rt.alloc(),
+        &["replay"],
+        "invoke c0 put a 1\ninvoke c1 put a 2\ndeliver 1\ndeliver 5\ndeliver 6\ndeliver 2\ndeliver 3\ndeliver 7\ndeliver 4\ndeliver 8\ndeliver 9\ndeliver 12\ndeliver 13\ndeliver 15\ndeliver 10\ndeliver 11\ndeliver 14\ndeliver 16\nend\n",
+        0,
+        "invoked 1 c0 1 1\ninvoked 2 c1 1 1\nlog r0 1 c0.1,c1.1\nlog r1 1 c1.1,c0.1\nlog r2 1 c0.1,c1.1\nlog r3 1 c0.1,c1.1\npremise held\nend 18 16\n",
+        "",
+    )
+}
+
+#[test]
+fn what_is_refused_is_said(rt: HostRuntime) -> Result<(), Fail> {
+    expect(&rt, rt.alloc(), &[], "end\n", 2, "", USAGE)?;
+    expect(&rt, rt.alloc(), &["replay", "x"], "end\n", 2, "", USAGE)?;
+    expect(&rt, rt.alloc(), &["node"], "end\n", 2, "", USAGE)?;
+    expect(
+        &rt,
+        rt.alloc(),
+        &["replay"],
+        "deliver 01\nend\n",
+        3,
+        "",
+        "line 8: bad line\n",
+    )?;
+    expect(&rt, rt.alloc(), &["replay"], "", 3, "", "line 8: no end\n")?;
+    expect(
+        &rt,
+        rt.alloc(),
+        &["replay"],
+        "invoke c0 put a 1\ninvoke c0 get a\nend\n",
+        3,
+        "",
+        "line 9: busy\n",
+    )?;
+    expect(
+        &rt,
+        rt.alloc(),
+        &["replay"],
+        "invoke c0 put a 1\ndeliver 9\nend\n",
+        3,
+        "",
+        "line 9: no packet\n",
+    )
+}
+
+/// Runs the command on an empty schedule over a source and sinks whose calls with these numbers
+/// fail, and compares its status and what it says.
+fn expect_fault(
+    rt: &impl Abort,
+    alloc: Global,
+    words: &[&str],
+    fail: (&[u64], &[u64], &[u64]),
+    status: u8,
+    err: &str,
+) -> Result<(), Fail> {
+    let mut content = Vec::from_slice(alloc, HEAD.as_bytes())?;
+    content.extend_from_slice(b"end\n")?;
+    let mut input = MemSource::new(content, Vec::from_slice(alloc, fail.0)?);
+    let mut written = MemSink::new(alloc, Vec::from_slice(alloc, fail.1)?);
+    let mut said = MemSink::new(alloc, Vec::from_slice(alloc, fail.2)?);
+    let mut link = quiet(alloc);
+    let mut clock = MemClock::new(Vec::new(alloc));
+    let number = run(
+        alloc,
+        words,
+        &mut input,
+        &mut written,
+        &mut said,
+        &mut link,
+        &mut clock,
+    );
+    assert_eq!(rt; number, status);
+    assert_eq!(rt; written.bytes(), b"".as_slice());
+    assert_eq!(rt; said.bytes(), err.as_bytes());
+    Ok(())
+}
+
+#[test]
+fn faults_of_the_streams_are_said(rt: HostRuntime) -> Result<(), Fail> {
+    expect_fault(
+        &rt,
+        rt.alloc(),
+        &["replay"],
+        (&[2], &[], &[]),
+        4,
+        "read fault\n",
+    )?;
+    expect_fault(
+        &rt,
+        rt.alloc(),
+        &["replay"],
+        (&[], &[1], &[]),
+        5,
+        "write fault\n",
+    )?;
+    expect_fault(&rt, rt.alloc(), &["replay"], (&[], &[1], &[1]), 5, "")?;
+    expect_fault(&rt, rt.alloc(), &["node"], (&[], &[], &[1]), 5, "")
+}

@@ -1,0 +1,139 @@
+//! The top call.
+
+ghost use Rattle.std.specs.Prelude.{◌≡◌, ◌≤◌, ◌↔◌, ◌⊎◌, ℕ, List, IsTrue, map, codes};
+ghost use Rattle.std.specs.Io.KnownBytes.{Appends};
+ghost use Rattle.ab_io.specs.Causes.{Rose};
+ghost use Rattle.abstract_bft.specs.Texts.{code_of, refusal_text};
+ghost use Rattle.abstract_bft.specs.Statuses.{Call, IsReplay, StatusCause, HasCauseOf};
+
+use crate::replay::{ReplayFault, replay};
+use crate::status::{Bound, Refusal, Status, refusal_line};
+use crate::stream::{WriteFault, write_all};
+use ab_io::{Clock, Link, Sink, Source};
+use ab_text::one_reading;
+use std::alloc::Global;
+
+const USAGE: &str = "usage: abstract_bft <keys|node|replay|storm> [options]\n";
+
+/// Whether these are the words of the command.
+fn is_replay(words: &[&str]) -> bool
+    ensures { IsTrue result ↔ IsReplay (map (λ w. w.now) words.now) }
+{
+    match words {
+        [word] => *word == "replay",
+        _ => false,
+    }
+}
+
+/// Writes the text of a status, and gives the status, or that of the fault of writing it.
+fn say<E: Sink>(err: &mut E, text: &str, status: Status) -> Status
+    ensures status { ((result ≡ status) × Appends (E.contents err.old) (E.contents err.new) text.now) ⊎ (((result ≡ Status.WriteFault) × Rose (E.faults err.old) (E.faults err.new)) ⊎ (result ≡ Status.OutOfMemory)) }
+    ensures later { E.faults err.old ≤ E.faults err.new }
+{
+    match write_all(err, text.as_bytes()) {
+        Ok(()) => status,
+        Err(WriteFault::Failed) => Status::WriteFault,
+        Err(WriteFault::OutOfMemory) => Status::OutOfMemory,
+    }
+}
+
+/// Says which line is refused.
+fn say_refusal<E: Sink>(alloc: Global, err: &mut E, refusal: Refusal) -> Status
+    ensures status { ((result ≡ Status.Refused refusal) × Appends (E.contents err.old) (E.contents err.new) (refusal_text refusal)) ⊎ (((result ≡ Status.WriteFault) × Rose (E.faults err.old) (E.faults err.new)) ⊎ (result ≡ Status.OutOfMemory)) }
+    ensures later { E.faults err.old ≤ E.faults err.new }
+{
+    match refusal_line(alloc, refusal) {
+        Ok(line) => say(err, line.as_str(), Status::Refused(refusal)),
+        Err(_) => say(err, "out of memory\n", Status::OutOfMemory),
+    }
+}
+
+/// What the program does.
+fn serve<I: Source, O: Sink, E: Sink>(
+    alloc: Global,
+    words: &[&str],
+    input: &mut I,
+    out: &mut O,
+    err: &mut E,
+) -> Status
+    ensures cause { StatusCause result (record {
+      words = map (λ w. w.now) words.now;
+      left = I.left input.old;
+      out_old = O.contents out.old;
+      out_new = O.contents out.new;
+      err_old = E.contents err.old;
+      err_new = E.contents err.new;
+      read_before = I.faults input.old;
+      read_now = I.faults input.new;
+      out_before = O.faults out.old;
+      out_now = O.faults out.new;
+      err_before = E.faults err.old;
+      err_now = E.faults err.new;
+    }) }
+{
+    if !is_replay(words) {
+        return say(err, USAGE, Status::Usage);
+    }
+    let report = match replay(alloc, input) {
+        Ok(report) => report,
+        Err(ReplayFault::Read) => return say(err, "read fault\n", Status::ReadFault),
+        Err(ReplayFault::TooLong) => {
+            return say(err, "limit bytes\n", Status::Limit(Bound::Bytes));
+        }
+        Err(ReplayFault::Refused(refusal)) => return say_refusal(alloc, err, refusal),
+        Err(ReplayFault::TooManyEvents) => {
+            return say(err, "limit events\n", Status::Limit(Bound::Events));
+        }
+        Err(ReplayFault::OutOfMemory) => return say(err, "out of memory\n", Status::OutOfMemory),
+    };
+    match write_all(out, report.as_slice()) {
+        Ok(()) => Status::Done,
+        Err(WriteFault::Failed) => say(err, "write fault\n", Status::WriteFault),
+        Err(WriteFault::OutOfMemory) => say(err, "out of memory\n", Status::OutOfMemory),
+    }
+}
+
+/// Does the command that the words are, and returns the number of its status.
+///
+/// `replay` reads a schedule from `input` to its end, runs it, and writes the report of the run to
+/// `out`: 0. Other words are no command: 2. A schedule that is out of form or whose event is
+/// refused is refused: 3. A fault of `input` is 4, of `out` or `err` 5, an input of more bytes or
+/// events than are taken is 7, and want of memory 9. Each status but 0 is said on `err`. `link` and
+/// `clock` are not called.
+pub fn run<I: Source, O: Sink, E: Sink, L: Link, C: Clock>(
+    alloc: Global,
+    words: &[&str],
+    input: &mut I,
+    out: &mut O,
+    err: &mut E,
+    _link: &mut L,
+    _clock: &mut C,
+) -> u8
+    ensures cause { HasCauseOf result (record {
+      words = map (λ w. w.now) words.now;
+      left = I.left input.old;
+      out_old = O.contents out.old;
+      out_new = O.contents out.new;
+      err_old = E.contents err.old;
+      err_new = E.contents err.new;
+      read_before = I.faults input.old;
+      read_now = I.faults input.new;
+      out_before = O.faults out.old;
+      out_now = O.faults out.new;
+      err_before = E.faults err.old;
+      err_now = E.faults err.new;
+    }) }
+    ensures link { _link.new ≡ _link.old }
+    ensures clock { _clock.new ≡ _clock.old }
+{
+    let status = serve(alloc, words, input, out, err);
+    one_reading();
+    status.code()
+}
+
+/// Says that memory was refused before the command began, and returns the number of the status.
+pub(crate) fn refuse_memory<E: Sink>(err: &mut E) -> u8
+    ensures { (result ≡ 9) ⊎ ((result ≡ 5) × Rose (E.faults err.old) (E.faults err.new)) }
+{
+    say(err, "out of memory\n", Status::OutOfMemory).code()
+}
