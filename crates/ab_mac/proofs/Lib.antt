@@ -1,2 +1,3 @@
 -- Lemmas on digests.
 pub mod Sha256Lemmas
+pub mod Pads

@@ -1,11 +1,16 @@
-//! SHA-256 (FIPS 180-4), and digests under a mark.
+//! SHA-256 (FIPS 180-4), digests under a mark, and tags by HMAC (RFC 2104).
 #![tactic(auto)]
 
 ghost use Rattle.std.specs.Prelude.{◌≡◌, ◌↔◌, IsTrue};
 ghost use Rattle.sha2.specs.Sha256.{sha256};
 ghost use Rattle.ab_mac.specs.Digests.{linked, marked};
 
+mod key;
+mod tag;
+
+pub use key::Key;
 use sha2::{Digest, Sha256};
+pub use tag::hmac;
 
 /// The SHA-256 digest of a text.
 pub fn hash(m: &[u8]) -> [u8; 32]
