@@ -1,0 +1,4 @@
+-- The definitions that the contracts of this crate cite.
+pub mod Readers
+pub mod Formats
+pub mod Example
