@@ -1,0 +1,3 @@
+-- Lemmas on rings.
+pub mod RingLemmas
+pub mod TextLemmas
