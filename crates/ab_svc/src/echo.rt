@@ -3,8 +3,8 @@
 ghost use Rattle.std.specs.Prelude.{◌≡◌, ◌≤◌, length, take};
 ghost use Rattle.ab_svc.specs.Echoes.{echo_of};
 
-use crate::service::{Reply, Service};
-use ab_hist::Request;
+use crate::service::Service;
+use ab_hist::{Reply, Request};
 use ab_num::OutOfMemory;
 use arrayvec::ArrayVec;
 use std::alloc::Global;
@@ -50,4 +50,8 @@ impl Service for Echo {
     fn copy(&self, _alloc: Global) -> Result<Self, OutOfMemory> {
         Ok(Echo)
     }
+
+    ghost use Rattle.ab_svc.specs.Laws.{short_law};
+
+    ghost short = { λ h m. short_law m };
 }

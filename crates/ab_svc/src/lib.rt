@@ -4,8 +4,9 @@
 mod echo;
 mod service;
 
+pub use ab_hist::Reply;
 pub use echo::Echo;
-pub use service::{Reply, Service};
+pub use service::Service;
 
 #[cfg(test)]
 mod tests;

@@ -1,18 +1,15 @@
 //! What a cluster replicates.
 
-use ab_hist::Request;
+use ab_hist::{Reply, Request};
 use ab_num::OutOfMemory;
-use arrayvec::ArrayVec;
 use std::alloc::Global;
-
-/// What a service answers to a request.
-pub type Reply = ArrayVec<u8, 72>;
 
 /// A service, as a function of its state and a request: the same requests in the same order leave
 /// the same state and get the same replies, at each replica.
 pub trait Service: Sized + Drop {
-    ghost use Rattle.std.specs.Prelude.{◌≡◌, IfOk, OnErr};
-    ghost use Rattle.ab_svc.specs.Machines.{Machine};
+    ghost use Rattle.std.specs.Prelude.{◌≡◌, ◌≤◌, List, length, IfOk, OnErr};
+    ghost use Rattle.ab_hist.specs.declared.request.Request.{Request as Asked};
+    ghost use Rattle.ab_svc.specs.Machines.{Machine, serve};
 
     /// The state at the beginning, and what a request does to it and gets from it.
     ghost machine: { Machine Self };
@@ -29,4 +26,7 @@ pub trait Service: Sized + Drop {
     /// An equal service.
     fn copy(&self, alloc: Global) -> Result<Self, OutOfMemory>
         ensures { IfOk result (λ s. s ≡ self.now) };
+
+    /// Whatever was served before, a reply has at most 72 bytes.
+    ghost short: { (h : List Asked) (m : Asked) → length (machine.answer (serve machine h) m).items ≤ 72 };
 }
