@@ -1,0 +1,4 @@
+pub mod PartLemmas
+pub mod ReadingLaws
+pub mod StoreLemmas
+pub mod RowLaws
