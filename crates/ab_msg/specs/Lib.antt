@@ -1,2 +1,5 @@
 -- The definitions that the contracts of this crate cite.
 pub mod Claims
+pub mod Parts
+pub mod Grammar
+pub mod Views
