@@ -1,0 +1,195 @@
+-- What ties sealing and opening.
+use Rattle.std.proofs.Common.{◌≡◌, ◌≤◌, ◌<◌, ℕ, zero, suc, Bool, true, false, not, ◌&&◌, cond, eqb, IsTrue, List, [], ◌∷◌, ◌++◌, map, length, replicate, unwrap_or, get_or, Option, Some, None, Result, Ok, Err, refl, sym, ap, ◌∙◌, arith, All}
+use Rattle.std.specs.List.{AllByRecursion, Contains, list_all}
+use Rattle.std.specs.Option.{option_map}
+use Rattle.std.proofs.lemmas.Bool.{false≢true, and_parts, and_right}
+use Rattle.std.proofs.lemmas.Bool.Decides.{Decides-eqb}
+use Rattle.std.proofs.lemmas.List.Elements.{All-from_recursion, All-weaker}
+use Rattle.ab_num.specs.declared.party.Party.{Party}
+use Rattle.ab_num.specs.declared.party.Party.TheVariants.{Replica, Client}
+use Rattle.ab_num.specs.declared.plan.Plan.{Plan}
+use Rattle.ab_num.specs.Bounds.{IsInBounds}
+use Rattle.ab_mac.specs.Tags.{hmac}
+use Rattle.ab_form.specs.Formats.{IsBytes, IsFormat, u8_bytes}
+use Rattle.ab_form.specs.Readers.{Reader}
+use Rattle.ab_form.specs.declared.bad.Bad.{Bad}
+use Rattle.ab_keys.specs.Keys.{is_party, exchanges, key_of}
+use Rattle.ab_keys.specs.Rings.{Ring, ring_of, exchanges_in, key_from, tag_from}
+use Rattle.ab_keys.proofs.RingLemmas.{key_from-ring_of, tag_is_there, tags_agree}
+use Rattle.arrayvec.specs.ArrayVec.{ArrayVec}
+use Rattle.ab_msg.specs.declared.content.Content.{Content}
+use Rattle.ab_msg.specs.declared.content.Content.TheVariants.{Req, Resp}
+use Rattle.ab_msg.specs.declared.message.Msg.{Msg}
+use Rattle.ab_msg.specs.declared.message.Msg.TheVariants as msg
+use Rattle.ab_msg.specs.declared.message.Out.{Out}
+use Rattle.ab_msg.specs.Claims.{maker_of, instance_of, content_of, claims_of}
+use Rattle.ab_msg.specs.Grammar.{IsDraft, req_at, resp_at, IsReq, IsResp, IsContent, IsMessage, spell_content, spell_message}
+use Rattle.ab_msg.specs.Views.{tag_in}
+use Rattle.ab_msg.proofs.GrammarLemmas.{message-law, req-format, resp-format}
+use Rattle.ab_msg.proofs.SizeLemmas.{content-from_req, content-from_resp}
+use Rattle.ab_seal.specs.Receivers.{receivers}
+use Rattle.ab_seal.specs.Checks.{Check, checks_of, claims}
+use Rattle.ab_seal.specs.Opening.{is_answer_to, goes_to, parties_of, is_tag, takes, is_right, IsRight, checks, opening}
+use Rattle.ab_seal.specs.Sealing.{IsReceiver, tag_made, answer_tag, tagged, sealed}
+use Rattle.ab_seal.proofs.DraftLemmas.{tagged-message, length-message}
+use Rattle.ab_seal.proofs.OpenLemmas.{opens, same_tag, opened, opened_right}
+
+pub length-sealed : (ring : Ring) (o : Out) → IsInBounds ring.f ring.clients → IsDraft o.msg → length (sealed ring o) ≤ 4194304
+length-sealed ring o bounds draft = length-message (tagged ring o.msg) (tagged-message ring o.msg bounds draft)
+
+-- ---- what is sealed opens
+
+tag_in-first : (t : ℕ → List ℕ) (x r : ℕ) (rs : List ℕ) (rest : Option (List ℕ)) (b : Bool) → eqb x r ≡ b → (k : ℕ) → k < length (x ∷ rs) → get_or (x ∷ rs) k r ≡ r
+    → (Contains rs r → rest ≡ Some (t r)) → cond b (Some (t x)) rest ≡ Some (t r)
+tag_in-first t x r rs rest true e k lt is more = ap (λ n. Some (t n)) ((Decides-eqb x r).0 e)
+tag_in-first t x r rs rest false e zero lt is more = absurd (false≢true (sym e ∙ (Decides-eqb x r).1 is))
+tag_in-first t x r rs rest false e (suc k) lt is more = more (k, omega arith, is)
+
+-- the tag for a replica among the tags for replicas
+tag_in-each : (t : ℕ → List ℕ) (rs : List ℕ) (r : ℕ) → Contains rs r → tag_in r (map (λ n. (n, t n)) rs) ≡ Some (t r)
+tag_in-each t [] r h = absurd (omega (arith, h.1))
+tag_in-each t (x ∷ rs) r h = tag_in-first t x r rs (tag_in r (map (λ n. (n, t n)) rs)) (eqb x r) refl h.0 h.1 h.2 (tag_in-each t rs r)
+
+-- with tags a message is taken as without
+taken_request : (to : Ring) (content : Content) (tags made : ArrayVec (ℕ × List ℕ)) (p : Party) → goes_to p (msg.Req content made) ≡ goes_to p (msg.Req content tags)
+taken_request to content tags made (Replica r) = refl
+taken_request to content tags made (Client c) = refl
+
+taken_answer : (to : Ring) (content : Content) (tag made : List ℕ) (p : Party) → goes_to p (msg.Resp content made) ≡ goes_to p (msg.Resp content tag)
+taken_answer to content tag made (Replica r) = refl
+taken_answer to content tag made (Client c) = refl
+
+taken_tagged : (to from : Ring) (m : Msg) → takes to (tagged from m) ≡ takes to m
+taken_tagged to from (msg.Req content tags) = ap (λ b. b && list_all (is_party to.f to.clients) (parties_of content)) (taken_request to content tags _ to.me)
+taken_tagged to from (msg.Resp content tag) = ap (λ b. b && list_all (is_party to.f to.clients) (parties_of content)) (taken_answer to content tag _ to.me)
+
+-- the tag that a makes for b is there, and is the one that b wants from a
+agreed : (f clients : ℕ) (plan : Plan) (seed text : List ℕ) (a b : Party) → IsTrue (is_party f clients a) → IsTrue (is_party f clients b) → IsTrue (exchanges a b)
+    → tag_from (ring_of f clients plan seed b) a text ≡ Some (tag_made (ring_of f clients plan seed a) b text)
+agreed f clients plan seed text a b a_in b_in exchange =
+    let there = tag_is_there f clients plan seed text a b b_in exchange in
+    sym (tags_agree f clients plan seed text a b a_in b_in) ∙ there ∙ ap (λ o. Some (unwrap_or o (replicate 32 0))) (sym there)
+
+client_exchanges : (content : Content) (a : Party) (r : ℕ) → IsReq content → maker_of content ≡ a → exchanges a (Replica r) ≡ true
+client_exchanges (Req maker instance request) a r h made = ap (λ p. exchanges p (Replica r)) (sym made ∙ h.0)
+client_exchanges other a r h made = absurd h
+
+replica_exchanges : (content : Content) (a : Party) (c : ℕ) → IsResp content → maker_of content ≡ a → exchanges a (Client c) ≡ true
+replica_exchanges (Resp (Replica r) instance client stamp n d reply) a c h made = ap (λ p. exchanges p (Client c)) (sym made)
+replica_exchanges (Resp (Client x) instance client stamp n d reply) a c h made = absurd h.0
+replica_exchanges other a c h made = absurd h
+
+answer_made : (ring : Ring) (c : ℕ) (content : Content) (text : List ℕ) → is_answer_to c content ≡ true → answer_tag ring content text ≡ tag_made ring (Client c) text
+answer_made ring c (Resp maker instance client stamp n d reply) text e = ap (λ k. tag_made ring (Client k) text) ((Decides-eqb client c).0 e)
+answer_made ring c other text e = absurd (false≢true e)
+
+-- the tag for b that a makes of a message is right
+made_right : (f clients : ℕ) (plan : Plan) (seed : List ℕ) (a b : Party) (m : Msg) → IsTrue (is_party f clients a) → IsTrue (is_party f clients b)
+    → IsDraft m → maker_of (content_of m) ≡ a → takes (ring_of f clients plan seed b) m ≡ true → IsReceiver plan f b m
+    → checks (ring_of f clients plan seed b) (tagged (ring_of f clients plan seed a) m) ≡ Ok tt
+made_right f clients plan seed a (Replica r) (msg.Req content tags) a_in b_in draft made taken receives =
+    let of_a = ring_of f clients plan seed a in
+    let of_b = ring_of f clients plan seed (Replica r) in
+    let text = spell_content content in
+    let wanted : tag_from of_b (maker_of content) text ≡ Some (tag_made of_a (Replica r) text)
+    = ap (λ p. tag_from of_b p text) made ∙ agreed f clients plan seed text a (Replica r) a_in b_in (client_exchanges content a r draft made) in
+    let there = tag_in-each (λ n. tag_made of_a (Replica n) text) (receivers plan f (instance_of content)) r receives in
+    ap (λ x. cond x (Ok tt) (Err 0)) (same_tag _ _ (tag_made of_a (Replica r) text) wanted there)
+made_right f clients plan seed a (Client c) (msg.Req content tags) a_in b_in draft made taken receives = absurd receives
+made_right f clients plan seed a (Replica r) (msg.Resp content tag) a_in b_in draft made taken receives = absurd (false≢true taken)
+made_right f clients plan seed a (Client c) (msg.Resp content tag) a_in b_in draft made taken receives =
+    let of_a = ring_of f clients plan seed a in
+    let of_b = ring_of f clients plan seed (Client c) in
+    let text = spell_content content in
+    let wanted : tag_from of_b (maker_of content) text ≡ Some (tag_made of_a (Client c) text)
+    = ap (λ p. tag_from of_b p text) made ∙ agreed f clients plan seed text a (Client c) a_in b_in (replica_exchanges content a c draft made) in
+    let there = ap Some (answer_made of_a c content text (and_parts (is_answer_to c content) _ taken).0) in
+    ap (λ x. cond x (Ok tt) (Err 0)) (same_tag _ _ (tag_made of_a (Client c) text) wanted there)
+
+tagged_opens : (f clients : ℕ) (plan : Plan) (seed : List ℕ) (a b : Party) (m : Msg) → IsInBounds f clients → IsTrue (is_party f clients a) → IsTrue (is_party f clients b)
+    → IsDraft m → maker_of (content_of m) ≡ a → takes (ring_of f clients plan seed b) m ≡ true → IsReceiver plan f b m
+    → opening (ring_of f clients plan seed b) (spell_message (tagged (ring_of f clients plan seed a) m)) ≡ Ok (tagged (ring_of f clients plan seed a) m)
+tagged_opens f clients plan seed a b m bounds a_in b_in draft made taken receives =
+    let of_a = ring_of f clients plan seed a in
+    let of_b = ring_of f clients plan seed b in
+    opens of_b (spell_message (tagged of_a m)) (tagged of_a m) (message-law.again (tagged of_a m) (tagged-message of_a m bounds draft))
+    (taken_tagged of_b of_a m ∙ taken) (made_right f clients plan seed a b m a_in b_in draft made taken receives)
+
+pub sealed_opens : (f clients : ℕ) (plan : Plan) (seed : List ℕ) (a b : Party) (o : Out) → IsInBounds f clients → IsTrue (is_party f clients a) → IsTrue (is_party f clients b)
+    → IsDraft o.msg → maker_of (content_of o.msg) ≡ a → IsTrue (takes (ring_of f clients plan seed b) o.msg) → IsReceiver plan f b o.msg
+    → opening (ring_of f clients plan seed b) (sealed (ring_of f clients plan seed a) o) ≡ Ok (tagged (ring_of f clients plan seed a) o.msg)
+sealed_opens f clients plan seed a b o bounds a_in b_in draft made taken receives = tagged_opens f clients plan seed a b o.msg bounds a_in b_in draft made taken receives
+
+-- ---- what was opened was checked
+
+only_some : (b : Bool) (x y : List ℕ) → cond b (Some x) None ≡ Some y → (b ≡ true) × (y ≡ x)
+only_some true x y e = (refl, cc)
+only_some false x y e = absurd (cc)
+
+seeded : (f clients : ℕ) (plan : Plan) (seed : List ℕ) (me : Party) (k : Check) → IsRight (ring_of f clients plan seed me) k
+    → IsTrue (exchanges_in f clients me (maker_of k.content)) × (k.tag ≡ Some (hmac (key_of seed (maker_of k.content) me) (spell_content k.content)))
+seeded f clients plan seed me k h =
+    let p = only_some (exchanges_in f clients me (maker_of k.content)) (key_of seed (maker_of k.content) me) h.0
+    (sym (key_from-ring_of f clients plan seed me (maker_of k.content)) ∙ h.1) in
+    (p.0, h.2 ∙ ap (λ key. Some (hmac key (spell_content k.content))) p.1)
+
+pub seeded_right : (f clients : ℕ) (plan : Plan) (seed : List ℕ) (me : Party) (bytes : List ℕ) (m : Msg) → opening (ring_of f clients plan seed me) bytes ≡ Ok m
+    → All (λ k. IsTrue (exchanges_in f clients me (maker_of k.content)) × (k.tag ≡ Some (hmac (key_of seed (maker_of k.content) me) (spell_content k.content)))) (checks_of me m)
+seeded_right f clients plan seed me bytes m e =
+    All-weaker (IsRight (ring_of f clients plan seed me)) _ (seeded f clients plan seed me) (checks_of me m) (opened_right (ring_of f clients plan seed me) bytes m e)
+
+pub claims-contents : (me : Party) (m : Msg) → map (λ c. c.1) (claims me m) ≡ claims_of m
+claims-contents me (msg.Req content tags) = refl
+claims-contents me (msg.Resp content tag) = refl
+
+-- ---- what was opened is of the grammar
+
+claims_of_grammar : (me : Party) (m : Msg) → IsMessage m → AllByRecursion (λ (c : Party × Content). IsContent c.1) (claims me m)
+claims_of_grammar me (msg.Req content tags) h = (content-from_req content h.0, tt)
+claims_of_grammar me (msg.Resp content tag) h = (content-from_resp content h.0, tt)
+
+pub opened_of_grammar : (ring : Ring) (bytes : List ℕ) (m : Msg) → IsBytes bytes → opening ring bytes ≡ Ok m
+    → IsMessage m × (bytes ≡ spell_message m) × IsTrue (takes ring m) × All (λ c. IsContent c.1) (claims ring.me m)
+opened_of_grammar ring bytes m fits e =
+    let facts = opened ring bytes m e in
+    let read = message-law.takes bytes m fits facts.0 in
+    (read.1, read.0, facts.1, All-from_recursion (λ c. IsContent c.1) (claims ring.me m) (claims_of_grammar ring.me m read.1))
+
+-- ---- own statements
+
+not_with_itself : (p : Party) → exchanges p p ≡ false
+not_with_itself (Replica r) = ap not ((Decides-eqb r r).1 refl)
+not_with_itself (Client c) = refl
+
+pub own_refused : (f clients : ℕ) (plan : Plan) (seed : List ℕ) (me : Party) (k : Check) → maker_of k.content ≡ me → is_right (ring_of f clients plan seed me) k ≡ false
+unfolding tag_from
+own_refused f clients plan seed me k own =
+    let none : key_from (ring_of f clients plan seed me) (maker_of k.content) ≡ None
+    = key_from-ring_of f clients plan seed me (maker_of k.content)
+    ∙ ap (λ b. cond b (Some (key_of seed (maker_of k.content) me)) None)
+    (and_right (is_party f clients (maker_of k.content)) (exchanges me (maker_of k.content)) (ap (exchanges me) own ∙ not_with_itself me)) in
+    ap (λ key. is_tag (option_map (λ x. hmac x (spell_content k.content)) key) k.tag) none
+
+-- ---- contents and their bytes
+
+same_value : {A : Type 0} (x y : A) (r : Result A Bad) → r ≡ Ok x → r ≡ Ok y → x ≡ y
+same_value x y (Ok z) e g = cc
+same_value x y (Err bad) e g = absurd (cc)
+
+one_read : {A : Type 0} (x y : A) (rest : List ℕ) (r : Result (A × List ℕ) Bad) → r ≡ Ok (x, rest) → r ≡ Ok (y, rest) → x ≡ y
+one_read {A = A} x y rest r e g = ap (λ (p : A × List ℕ). p.0) (same_value (x, rest) (y, rest) r e g)
+
+one_content : (read : Reader Content) (Fits : Content → Type 0) → IsFormat read spell_content Fits → (x y : Content) → Fits x → Fits y → spell_content x ≡ spell_content y → x ≡ y
+one_content read Fits law x y hx hy e =
+    one_read x y [] (read (spell_content x ++ [])) (law.again x [] hx) (ap (λ l. read (l ++ [])) e ∙ law.again y [] hy)
+
+pub own_bytes : (x y : Content) → IsContent x → IsContent y → spell_content x ≡ spell_content y → x ≡ y
+unfolding u8_bytes
+own_bytes (Req maker instance m) (Req maker' instance' m') hx hy e = one_content req_at IsReq req-format (Req maker instance m) (Req maker' instance' m') hx hy e
+own_bytes (Req maker instance m) (Resp maker' instance' client stamp n d reply) hx hy e = absurd (let no : 1 ≡ 3 = ap (λ l. get_or l 0 0) e in omega (arith, no))
+own_bytes (Resp maker instance client stamp n d reply) (Req maker' instance' m') hx hy e = absurd (let no : 3 ≡ 1 = ap (λ l. get_or l 0 0) e in omega (arith, no))
+own_bytes (Resp maker instance client stamp n d reply) (Resp maker' instance' client' stamp' n' d' reply') hx hy e =
+    one_content resp_at IsResp resp-format (Resp maker instance client stamp n d reply) (Resp maker' instance' client' stamp' n' d' reply') hx hy e
+own_bytes (Req maker instance m) other hx hy e = absurd hy
+own_bytes (Resp maker instance client stamp n d reply) other hx hy e = absurd hy
+own_bytes other y hx hy e = absurd hx

@@ -1,0 +1,9 @@
+use Rattle.ab_seal.proofs.DraftLemmas.{tagged-message}
+use Rattle.ab_seal.proofs.LawLemmas.{length-sealed}
+use Rattle.ab_seal.proofs.laws.drafts_are_sealed_as_messages.Goals as goal
+
+pub returns-clause-grammar : goal.returns-clause-grammar
+returns-clause-grammar c = tagged-message
+
+pub returns-clause-size : goal.returns-clause-size
+returns-clause-size c = length-sealed

@@ -1,0 +1,32 @@
+//! The contents that a party checked, as contents of their own.
+
+ghost use Rattle.std.specs.Prelude.{◌≡◌, IfOk};
+ghost use Rattle.ab_msg.specs.Claims.{content_of};
+ghost use Rattle.ab_seal.specs.Checks.{claims};
+
+use crate::checked::Checked;
+use crate::claimed::Claims;
+use ab_msg::{Content, Msg, own};
+use ab_num::{Cluster, OutOfMemory};
+use std::alloc::Global;
+
+/// What a message states.
+fn own_content(alloc: Global, m: &Checked<'_>) -> Result<Content, OutOfMemory>
+    ensures { IfOk result (λ c. c ≡ content_of m.now.msg) }
+{
+    match own(alloc, m.msg())? {
+        Msg::Req { content, tags: _ } => Ok(content),
+        Msg::Resp { content, tag: _ } => Ok(content),
+    }
+}
+
+/// The contents whose tags the receiver of a message has checked in its cluster, each with its maker.
+pub fn claims(alloc: Global, _c: &Cluster, m: &Checked<'_>) -> Result<Claims, OutOfMemory>
+    ensures { IfOk result (λ x. x ≡ claims m.now.me m.now.msg) }
+{
+    let content = own_content(alloc, m)?;
+    let maker = content.maker();
+    let mut claims = Vec::with_capacity(alloc, 1)?;
+    claims.push((maker, content))?;
+    Ok(Claims::of(claims))
+}
