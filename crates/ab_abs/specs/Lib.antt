@@ -8,6 +8,10 @@ pub mod Examples
 pub mod Acts
 pub mod Rules
 pub mod Deeds
+pub mod Lawful
+pub mod Backing
+pub mod TailRules
+pub mod OrderRules
 pub mod Messages
 pub mod Ensembles
 pub mod Promises
@@ -17,3 +21,5 @@ pub mod Answers
 pub mod Books
 pub mod Members
 pub mod SmallActs
+pub mod SmallTails
+pub mod SmallOrders

@@ -54,6 +54,7 @@ pub enum ReplyRule {
 pub trait Protocol<S: Service>: Sized + Drop {
     ghost use Rattle.std.specs.Prelude.{◌≡◌, ◌↔◌, ℕ, ◌+◌, ◌*◌, ◌≤◌, ◌<◌, Bool, true, false, IsTrue, List, [], ◌∷◌, Option, None, Some, Contains, IfOk, OnErr, IsErrOf, MatchOption};
     ghost use Rattle.ab_num.specs.declared.plan.Kind.{Kind as KindOf};
+    ghost use Rattle.ab_num.specs.Places.{kind_of};
     ghost use Rattle.ab_num.specs.declared.party.Party.TheVariants.{Replica};
     ghost use Rattle.ab_hist.specs.declared.request.Request.{Request};
     ghost use Rattle.ab_hist.specs.Histories.{IsHistory};
@@ -77,7 +78,8 @@ pub trait Protocol<S: Service>: Sized + Drop {
     /// The value is where the acts left its replica.
     ghost stands: { Setting → Self → ℕ → Option State → Type 0 };
 
-    /// Whether it runs instances of this kind.
+    /// Whether it runs instances of this kind. It is asked to begin no other instance, and gives no
+    /// rule for one: which kind an instance has is fixed by the cluster's plan.
     ghost serves: { KindOf → Bool };
 
     /// How many ABORTs a certificate has, where this many replicas may be faulty.
@@ -92,9 +94,10 @@ pub trait Protocol<S: Service>: Sized + Drop {
     /// What its timer counts.
     ghost counted: { Self → Option ℕ };
 
-    /// Replica `me` begins instance `i`.
+    /// Replica `me` begins instance `i`, whose kind it serves.
     fn start(alloc: Global, c: &Cluster, i: u32, me: u8, e: &Entry) -> Result<Self, OutOfMemory>
         requires instance { 1 ≤ i }
+        requires served { IsTrue (serves (kind_of c.now.plan i)) }
         requires replica { me < 3 * c.now.f + 1 }
         ensures { IfOk result (λ p. p ≡ proto.begin i me e.now.base) };
 
@@ -128,14 +131,16 @@ pub trait Protocol<S: Service>: Sized + Drop {
     fn first(&self) -> Option<&History>
         ensures { MatchOption result (opening self.now ≡ None) (λ h. opening self.now ≡ Some h.now) };
 
-    /// The number of ABORTs in a certificate of instance `i`.
+    /// The number of ABORTs in a certificate of instance `i`, whose kind it serves.
     fn need(c: &Cluster, i: u32) -> u8
-        requires { 1 ≤ i }
+        requires instance { 1 ≤ i }
+        requires served { IsTrue (serves (kind_of c.now.plan i)) }
         ensures { result ≡ needed c.now.f };
 
-    /// When a client commits in instance `i`.
+    /// When a client commits in instance `i`, whose kind it serves.
     fn reply_rule(c: &Cluster, i: u32) -> ReplyRule
-        requires { 1 ≤ i }
+        requires instance { 1 ≤ i }
+        requires served { IsTrue (serves (kind_of c.now.plan i)) }
         ensures { result ≡ commits_by c.now.f };
 
     /// None where no timer runs; else it runs anew whenever the number changes.

@@ -6,12 +6,12 @@ use Rattle.ab_hist.specs.declared.request.Request.{Request}
 use Rattle.ab_abs.specs.Members.{Member, member_state}
 use Rattle.ab_abs.specs.Ensembles.{Proto}
 
--- the kinds whose clients commit on the votes of all
-abbrev pub is_of_all : Kind → Bool
-is_of_all kind.Quorum = true
-is_of_all kind.ZLight = true
-is_of_all kind.Chain = true
-is_of_all kind.Backup = false
+-- the kinds whose certificates are of 2f + 1 ABORTs
+abbrev pub is_of_most : Kind → Bool
+is_of_most kind.Quorum = true
+is_of_most kind.ZLight = true
+is_of_most kind.Chain = true
+is_of_most kind.Backup = false
 
 -- replica me in an instance, which it began with this log
 pub record Idle : Type 0 where

@@ -3,7 +3,7 @@
 
 mod null;
 
-pub use null::{Null, null_sends_its_own};
+pub use null::{Null, null_sends_drafts, null_sends_its_own};
 
 #[cfg(test)]
 mod tests;

@@ -1,6 +1,6 @@
 //! A replica that takes no request.
 
-ghost use Rattle.ab_abs.specs.Places.{SendsOwn};
+ghost use Rattle.ab_abs.specs.Places.{SendsOwn, SendsDrafts};
 
 use ab_abs::{Entry, Protocol, ReplyRule, StepFault};
 use ab_hist::History;
@@ -32,7 +32,7 @@ impl<S: Service> Protocol<S> for Null<S> {
     ghost use Rattle.ab_abs.specs.declared.protocol.ReplyRule.TheVariants.{All};
     ghost use Rattle.ab_abs.specs.Rules.{IsSound};
     ghost use Rattle.ab_abs.specs.Members.{IsAt};
-    ghost use Rattle.ab_null.specs.Rules.{is_of_all, member_of, null};
+    ghost use Rattle.ab_null.specs.Rules.{is_of_most, member_of, null};
 
     ghost proto = { null };
 
@@ -40,7 +40,7 @@ impl<S: Service> Protocol<S> for Null<S> {
 
     ghost stands = { λ x q me left. IsAt x (member_of q) me left };
 
-    ghost serves = { is_of_all };
+    ghost serves = { is_of_most };
 
     ghost needed = { λ f. 2 * f + 1 };
 
@@ -129,4 +129,9 @@ impl<S: Service> Protocol<S> for Null<S> {
 /// It sends nothing of other parties.
 pub fn null_sends_its_own<S: Service>()
     ensures { SendsOwn ⟦<Null<S> as Protocol<S>>⟧.proto }
+{}
+
+/// It sends nothing, and so nothing without bytes.
+pub fn null_sends_drafts<S: Service>()
+    ensures { SendsDrafts ⟦<Null<S> as Protocol<S>>⟧.proto }
 {}

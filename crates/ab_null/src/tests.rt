@@ -1,5 +1,8 @@
 //! One replica that hands its base on.
 
+ghost use Rattle.std.specs.Prelude.{IsTrue};
+ghost use Rattle.ab_num.specs.Places.{kind_of};
+
 use super::Null;
 use ab_abs::{Entry, Protocol, ReplyRule, StepFault};
 use ab_hist::{History, Request};
@@ -17,7 +20,9 @@ fn request(stamp: u64) -> Request {
     }
 }
 
-fn rests<P: Protocol<Echo>>(alloc: Global, c: &Cluster) -> Result<bool, StepFault> {
+fn rests<P: Protocol<Echo>>(alloc: Global, c: &Cluster) -> Result<bool, StepFault>
+    requires { IsTrue (P.serves (kind_of c.now.plan 2)) }
+{
     let mut base = History::new(alloc);
     let begun = base.push(alloc, request(1)).is_ok();
     let mut replica = P::start(alloc, c, 2, 0, &Entry { base })?;

@@ -1,6 +1,9 @@
 //! One replica that answers, repeats its answer, and stops. The digest is of another
 //! implementation of SHA-256.
 
+ghost use Rattle.std.specs.Prelude.{IsTrue};
+ghost use Rattle.ab_num.specs.Places.{kind_of};
+
 use super::Quorum;
 use ab_abs::{Entry, Protocol, ReplyRule, StepFault};
 use ab_hist::{History, Request};
@@ -89,7 +92,9 @@ fn rests<P: Protocol<Echo>>(alloc: Global, replica: &mut P) -> Result<bool, Step
     Ok(open && outs.len() == 0 && same.stopped() && none && same.log().len() == 1)
 }
 
-fn keeps_rules<P: Protocol<Echo>>(alloc: Global, c: &Cluster) -> Result<bool, StepFault> {
+fn keeps_rules<P: Protocol<Echo>>(alloc: Global, c: &Cluster) -> Result<bool, StepFault>
+    requires { IsTrue (P.serves (kind_of c.now.plan 1)) }
+{
     let base = History::new(alloc);
     let mut replica = P::start(alloc, c, 1, 2, &Entry { base })?;
     let numbers = P::need(c, 1) == 3 && P::reply_rule(c, 1) == ReplyRule::All;
