@@ -31,7 +31,7 @@ use Rattle.ab_run.proofs.Logs.{run_log}
 use Rattle.ab_run.proofs.Remains.{stays_in_first}
 
 -- the same observations in the other order
-same_backward : (i : ℕ) (seen was : List Seen) → reverse seen ≡ was → SameParts i was seen
+pub same_backward : (i : ℕ) (seen was : List Seen) → reverse seen ≡ was → SameParts i was seen
 same_backward i seen was is = record {
   there = λ s here has. Contains-reverse seen s (subst (λ (z : List Seen). Contains z s) (sym is) has);
   back = λ s here has. subst (λ (z : List Seen). Contains z s) is (Contains-back seen s has);

@@ -18,3 +18,8 @@ pub mod Logs
 pub mod Remains
 pub mod FirstInstance
 pub mod Grown
+pub mod Stated
+pub mod Staged
+pub mod Forgeries
+pub mod Formed
+pub mod StagedInstance

@@ -48,7 +48,7 @@ heard_is (msg.Resp (Resp (Replica q) i c stamp n d reply) tag) r s has of = has
 heard_is (msg.Req content tags) r s has of = has
 heard_is (msg.Resp content tag) r s has of = has
 
-to_all_is : (n : ℕ) (m : Msg) (o : Out) → Contains (to_all n m) o → o.msg ≡ m
+pub to_all_is : (n : ℕ) (m : Msg) (o : Out) → Contains (to_all n m) o → o.msg ≡ m
 to_all_is zero m o none = absurd (omega (arith, none.1))
 to_all_is (suc n) m o has =
     let last : Out = record { to = Replica n; msg = m } in

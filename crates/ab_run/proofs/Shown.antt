@@ -26,13 +26,13 @@ abbrev note : ℕ → Seen → Noted
 note n s = record { event = n; what = s }
 
 -- what is seen, the oldest first, is what is seen, the newest first, backwards
-turns_backward : {P : Type 0} (rules : Rules P) (r : ℕ) (ts : List Turn) (s : Rep P) → marks_in_turns rules r s ts ≡ reverse (seen_in_turns rules r s ts)
+pub turns_backward : {P : Type 0} (rules : Rules P) (r : ℕ) (ts : List Turn) (s : Rep P) → marks_in_turns rules r s ts ≡ reverse (seen_in_turns rules r s ts)
 turns_backward rules r [] s = refl
 turns_backward rules r (t ∷ ts) s =
     let now = after_turn rules r s t in
     ap (λ z. reverse (seen_in_turn rules r s t) ++ z) (turns_backward rules r ts now) ∙ sym (reverse-append (seen_in_turns rules r now ts) (seen_in_turn rules r s t))
 
-moves_backward : (c : ℕ) (ts : List Move) (s : Cli) → marks_in_moves c s ts ≡ reverse (seen_in_moves c s ts)
+pub moves_backward : (c : ℕ) (ts : List Move) (s : Cli) → marks_in_moves c s ts ≡ reverse (seen_in_moves c s ts)
 moves_backward c [] s = refl
 moves_backward c (t ∷ ts) s =
     ap (λ z. reverse (seen_in_move c s t) ++ z) (moves_backward c ts (after_move s t)) ∙ sym (reverse-append (seen_in_moves c (after_move s t) ts) (seen_in_move c s t))
@@ -49,7 +49,7 @@ module _ {P : Type 0} (k : Cluster) (rules : Rules P) where
     count : x.events ≡ n
 
   -- a change at r of what the list and the function have
-  at_both : {A : Type 0} (xs : List A) (g h : ℕ → A) (n r : ℕ) (v : A) → r < n → h r ≡ v → ((q : ℕ) → (q ≡ r → ⊥) → h q ≡ g q)
+  pub at_both : {A : Type 0} (xs : List A) (g h : ℕ → A) (n r : ℕ) (v : A) → r < n → h r ≡ v → ((q : ℕ) → (q ≡ r → ⊥) → h q ≡ g q)
       → ((q : ℕ) → q < n → slice_get xs q ≡ Some (g q)) → (q : ℕ) → q < n → slice_get (slice_set xs r v) q ≡ Some (h q)
   at_both xs g h n r v lt own others was q less =
       elim (cases_eq q r) [
@@ -61,7 +61,7 @@ module _ {P : Type 0} (k : Cluster) (rules : Rules P) where
   all_noted n [] = refl
   all_noted n (s ∷ more) = ap (λ z. s ∷ z) (all_noted n more)
 
-  seen_more : (p : Party) (n : ℕ) (seen : List Noted) (marks more now was : List Seen) → marks ≡ reverse more → reverse (map (λ s. s.what) seen) ≡ was → now ≡ (if is_faulty k.faulty p then was else more ++ was)
+  pub seen_more : (p : Party) (n : ℕ) (seen : List Noted) (marks more now was : List Seen) → marks ≡ reverse more → reverse (map (λ s. s.what) seen) ≡ was → now ≡ (if is_faulty k.faulty p then was else more ++ was)
       → reverse (map (λ s. s.what) (noted k p n seen marks)) ≡ now
   seen_more p n seen marks more now was backward before is =
       elim (cases_Bool (is_faulty k.faulty p)) [
@@ -170,11 +170,11 @@ module _ {P : Type 0} (k : Cluster) (rules : Rules P) where
       subst (λ (ps : List Out). Shows k rules (after_packet k rules x (nth_packet ps n)) (handing (nth_packet (packets_of k rules events) n) ++ events)) (sym was.packets)
       (handing_shown x events (nth_packet (packets_of k rules events) n) was)
 
-  first_length : (n : ℕ) → length (first_reps rules k.signatures n) ≡ n
+  pub first_length : (n : ℕ) → length (first_reps rules k.signatures n) ≡ n
   first_length zero = refl
   first_length (suc n) = length-append (first_reps rules k.signatures n) (first_rep rules k.signatures n ∷ []) ∙ omega (arith, first_length n)
 
-  first_there : (n r : ℕ) → r < n → (slice_get (first_reps rules k.signatures n) r ≡ Some (first_rep rules k.signatures r))
+  pub first_there : (n r : ℕ) → r < n → (slice_get (first_reps rules k.signatures n) r ≡ Some (first_rep rules k.signatures r))
   first_there zero r lt = absurd (omega (arith, lt))
   first_there (suc n) r lt =
       let xs = first_reps rules k.signatures n in

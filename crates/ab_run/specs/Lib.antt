@@ -8,3 +8,5 @@ pub mod Premises
 pub mod Local
 pub mod Packets
 pub mod States
+pub mod Inputs
+pub mod Stages
