@@ -10,8 +10,8 @@ ghost use Rattle.ab_run.specs.Local.{after_moves, marks_in_moves, sent_in_moves}
 ghost use Rattle.ab_client.specs.Clients.{is_waiting, Seat, told, got, after, sends, marks, InvokeCause};
 
 use ab_abs::{Ballot, Marks, ReplyRule, Seen, Votes};
-use ab_hist::Request;
-use ab_msg::{Content, Msg, Out, Outs, Reply, Tags};
+use ab_hist::{Request, copy_reply};
+use ab_msg::{Content, Msg, Out, Outs, Tags};
 use ab_num::{Cluster, OutOfMemory, Party};
 use ab_run::Phase;
 use arrayvec::ArrayVec;
@@ -67,18 +67,6 @@ impl Model for Client {
     } };
 
     ghost invariant = { λ c. (c.f ≤ 2) × (c.votes.rule ≡ All) × (c.votes.replicas ≡ 3 * c.f + 1) };
-}
-
-/// The same bytes.
-fn copy_of(reply: &Reply) -> Reply
-    ensures { result ≡ reply.now }
-{
-    let mut copy = ArrayVec::new();
-    match copy.try_extend_from_slice(reply.as_slice()) {
-        Ok(()) => {}
-        Err(_) => unreachable!(),
-    }
-    copy
 }
 
 /// The request of a client in an instance, to the first replicas.
@@ -225,7 +213,7 @@ impl Client {
             m: m.copy(),
             n: vote.n,
             d: vote.d,
-            reply: copy_of(&vote.reply),
+            reply: copy_reply(&vote.reply),
         });
         marks
     }
@@ -279,7 +267,7 @@ impl Client {
                     by: *by,
                     n: *n,
                     d: *d,
-                    reply: copy_of(reply),
+                    reply: copy_reply(reply),
                 };
                 self.count(alloc, ballot)
             }

@@ -4,10 +4,9 @@ ghost use Rattle.std.specs.Prelude.{◌≡◌, IfOk};
 ghost use Rattle.ab_world.specs.Lines.{line_of, entries_of};
 
 use ab_abs::Seen;
-use ab_hist::History;
+use ab_hist::{History, copy_reply};
 use ab_num::OutOfMemory;
 use ab_text::{Items, Line};
-use arrayvec::ArrayVec;
 use std::alloc::Global;
 
 /// Client and stamp of each request of a history, in its order.
@@ -19,18 +18,6 @@ pub fn entries(alloc: Global, history: &History) -> Result<Items<(u16, u64)>, Ou
         entries.push((request.client, request.stamp))?;
     }
     Ok(entries)
-}
-
-/// The same bytes.
-fn copy_of(reply: &ArrayVec<u8, 72>) -> ArrayVec<u8, 72>
-    ensures { result ≡ reply.now }
-{
-    let mut copy = ArrayVec::new();
-    match copy.try_extend_from_slice(reply.as_slice()) {
-        Ok(()) => {}
-        Err(_) => unreachable!(),
-    }
-    copy
 }
 
 /// The line of an observation in an event.
@@ -69,7 +56,7 @@ pub(crate) fn line(alloc: Global, event: u32, seen: &Seen) -> Result<Line, OutOf
             instance: *i,
             stamp: m.stamp,
             n: *n,
-            reply: copy_of(reply),
+            reply: copy_reply(reply),
         }),
     }
 }

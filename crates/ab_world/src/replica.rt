@@ -1,6 +1,7 @@
 //! One replica.
 
-ghost use Rattle.std.specs.Prelude.{◌≡◌, ℕ, ◌<◌, ◌+◌, ◌*◌, Option, List, [], IfOk, OnOk, OnErr};
+ghost use Rattle.std.specs.Prelude.{◌≡◌, ℕ, ◌<◌, ◌+◌, ◌*◌, Option, List, [], IsTrue, IfOk, OnOk, OnErr};
+ghost use Rattle.ab_num.specs.Places.{kind_of};
 ghost use Rattle.ab_hist.specs.declared.request.Request.{Request};
 ghost use Rattle.ab_abs.specs.Messages.{Certificate, took, heard};
 ghost use Rattle.ab_run.specs.Replicas.{Rep, rules_of};
@@ -34,9 +35,10 @@ impl<S: Service, P: Protocol<S>> Model for Replica<S, P> {
 }
 
 impl<S: Service, P: Protocol<S>> Replica<S, P> {
-    /// Replica `me` in instance 1.
+    /// Replica `me` in instance 1, whose kind P serves.
     pub(crate) fn new(alloc: Global, cluster: &Cluster, me: u8) -> Result<Self, OutOfMemory>
-        requires { me < 3 * cluster.now.f + 1 }
+        requires served { IsTrue (P.serves (kind_of cluster.now.plan 1)) }
+        requires replica { me < 3 * cluster.now.f + 1 }
         ensures { (valid : Certificate → Option (List Request)) → IfOk result (λ q. q ≡ first_rep (rules_of P.proto valid) 0 me) }
     {
         let entry = Entry {

@@ -2,6 +2,7 @@
 
 ghost use Rattle.std.specs.Prelude.{◌≡◌, ◌+◌, ◌*◌, ◌<◌, ◌≤◌, ◌↔◌, ℕ, length, map, IsTrue, OnOk, OnErr, IfOk, IfErr, IfSome, MatchOption, Some, None, is_some, slice_get};
 ghost use Rattle.std.specs.Option.{option_map};
+ghost use Rattle.ab_num.specs.Places.{kind_of};
 ghost use Rattle.ab_msg.specs.declared.message.Out.{Out as TheOut};
 ghost use Rattle.ab_abs.specs.Messages.{took, heard};
 ghost use Rattle.ab_run.specs.Clients.{Cli as TheCli};
@@ -67,6 +68,7 @@ fn first_replicas<S: Service, P: Protocol<S>>(
     alloc: Global,
     cluster: &Cluster,
 ) -> Result<Vec<Replica<S, P>>, OutOfMemory>
+    requires { IsTrue (P.serves (kind_of cluster.now.plan 1)) }
     ensures { IfOk result (λ v. v.items ≡ first_reps (rules_of P.proto no_certificate) 0 (3 * cluster.now.f + 1)) }
 {
     let mut replicas = Vec::with_capacity(alloc, cluster.replicas() as usize)?;
@@ -101,8 +103,10 @@ fn client_number(core: Core) -> Option<u16>
 }
 
 impl<S: Service, P: Protocol<S>> World<S, P> {
-    /// A cluster of correct parties before the first event.
+    /// A cluster of correct parties before the first event, where P serves the kind that the
+    /// cluster's plan gives to instance 1.
     pub fn new(alloc: Global, cluster: &Cluster) -> Result<Self, OutOfMemory>
+        requires { IsTrue (P.serves (kind_of cluster.now.plan 1)) }
         ensures { IfOk result (λ w. w ≡ start P.proto cluster.now.f cluster.now.clients) }
     {
         Ok(World {
