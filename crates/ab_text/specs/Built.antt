@@ -18,7 +18,7 @@ plan_is_built Backup = false
 
 unfoldable pub service_is_built : ServiceName → Bool
 service_is_built Echo = true
-service_is_built Kv = false
+service_is_built Kv = true
 
 unfoldable pub height_is_built : Height → Bool
 height_is_built lms = true

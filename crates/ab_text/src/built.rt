@@ -23,8 +23,7 @@ pub(crate) fn takes_service(service: ServiceName) -> bool
     ensures { result ≡ service_is_built service }
 {
     match service {
-        ServiceName::Echo => true,
-        ServiceName::Kv => false,
+        ServiceName::Echo | ServiceName::Kv => true,
     }
 }
 

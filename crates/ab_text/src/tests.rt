@@ -51,7 +51,7 @@ fn heads(rt: HostRuntime) -> Result<(), Fail> {
         ),
         (
             "abstract 1\nf 1\nplan quorum\nclients 2\nservice kv\n",
-            TextFault::NotBuilt(5),
+            TextFault::NoEnd(6),
         ),
         (
             "abstract 1\nf 1\nplan quorum\nclients 2\nservice echo\nlms  5\n",

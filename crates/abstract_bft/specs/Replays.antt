@@ -8,7 +8,12 @@ use Rattle.ab_text.specs.declared.line.Premise.TheVariants.{Held}
 use Rattle.ab_text.specs.Heads.{Script}
 use Rattle.ab_text.specs.Reports.{Log, report_text}
 use Rattle.ab_text.specs.Schedules.{ReadsText}
+use Rattle.ab_num.specs.declared.plan.ServiceName.{ServiceName}
+use Rattle.ab_num.specs.declared.plan.ServiceName.TheVariants.{Echo, Kv}
+use Rattle.ab_svc.specs.Machines.{Machine}
 use Rattle.ab_svc.specs.Echoes.{echo_machine}
+use Rattle.ab_kv.specs.KvMachines.{kv_machine}
+use Rattle.ab_abs.specs.Ensembles.{Proto}
 use Rattle.ab_abs.specs.Instances.{IsAbstract}
 use Rattle.ab_abs.specs.Members.{Member, member_state}
 use Rattle.ab_abs.specs.Observations.{history_at}
@@ -30,9 +35,10 @@ use Rattle.ab_io.specs.Causes.{Rose}
 
 -- ---- runs
 
--- the world of a schedule before its first event, and after the events
-abbrev pub first_world : Script → World Member
-first_world s = start (quorum echo_machine) s.f s.clients
+-- the protocol of replicas that serve this
+abbrev pub proto_of : ServiceName → Proto Member
+proto_of Echo = quorum echo_machine
+proto_of Kv = quorum kv_machine
 
 -- event n is refused, or the rest decides
 abbrev pub refused_or : Option WorldFault → ℕ → Result (World Member) (ℕ × WorldFault) → Result (World Member) (ℕ × WorldFault)
@@ -40,12 +46,16 @@ refused_or None n rest = rest
 refused_or (Some f) n rest = Err (n, f)
 
 -- the world after the events from number n on, or the first refusal with its event's number
-abbrev pub outcome : ℕ → World Member → List Event → Result (World Member) (ℕ × WorldFault)
-outcome n w [] = Ok w
-outcome n w (e ∷ es) = refused_or (refusal w e) n (outcome (n + 1) (after (quorum echo_machine) w e) es)
+abbrev pub outcome : Proto Member → ℕ → World Member → List Event → Result (World Member) (ℕ × WorldFault)
+outcome proto n w [] = Ok w
+outcome proto n w (e ∷ es) = refused_or (refusal w e) n (outcome proto (n + 1) (after proto w e) es)
+
+-- the world after all events of a schedule, under a protocol
+abbrev pub run_under : Proto Member → Script → Result (World Member) (ℕ × WorldFault)
+run_under proto s = outcome proto 1 (start proto s.f s.clients) s.events
 
 abbrev pub run_of : Script → Result (World Member) (ℕ × WorldFault)
-run_of s = outcome 1 (first_world s) s.events
+run_of s = run_under (proto_of s.service) s
 
 -- ---- reports
 
@@ -59,31 +69,41 @@ report_of w = report_text (lines_of w) (logs_from 0 w.state.replicas) Held w.sta
 
 -- ---- what a run promises
 
-abbrev pub rules : Rules Member
-rules = rules_of (quorum echo_machine) no_certificate
+abbrev pub rules : Proto Member → Rules Member
+rules proto = rules_of proto no_certificate
 
 -- what the events give to the run, the newest first
 abbrev pub givens_of : Script → List Given
 givens_of s = reverse (map given s.events)
 
 -- no two histories that a replica had in the run have one digest
-abbrev pub IsFreeOfCollisions : Script → Type 0
-IsFreeOfCollisions s =
-    let k = cluster_of s.f s.clients in NoCollision (run k rules (events_of k rules (givens_of s))).had
+abbrev pub HasNoCollision : Proto Member → Script → Type 0
+HasNoCollision proto s =
+    let k = cluster_of s.f s.clients in NoCollision (run k (rules proto) (events_of k (rules proto) (givens_of s))).had
 
--- instance 1 keeps what Abstract promises: Validity, Commit Order and Commit Agreement among it, for the observations of the
--- run and the logs that its replicas have
-abbrev pub KeepsPromises : Script → World Member → Type 0
-KeepsPromises s w = IsAbstract echo_machine (observed w.state) (history_at [] (3 * s.f + 1) (log_in rules w.state)) [] 1
+-- instance 1 keeps what Abstract promises of the service: Validity, Commit Order and Commit Agreement among it, for the
+-- observations of the run and the logs that its replicas have
+abbrev pub KeepsPromises : {S : Type 0} → Machine S → Script → World Member → Type 0
+KeepsPromises machine s w = IsAbstract machine (observed w.state) (history_at [] (3 * s.f + 1) (log_in (rules (quorum machine)) w.state)) [] 1
+
+-- the run of a schedule with a service leads here, this is its report, and it keeps what Abstract promises
+pub record Performs {S : Type 0} (machine : Machine S) (s : Script) (report : List ℕ) : Type 0 where
+  pub end : World Member
+  pub runs : run_under (quorum machine) s ≡ Ok end
+  pub reports : report ≡ report_of end
+  pub promises : HasNoCollision (quorum machine) s → KeepsPromises machine s end
+
+-- the same with the service that is named
+abbrev pub PerformsAs : ServiceName → Script → List ℕ → Type 0
+PerformsAs Echo s report = Performs echo_machine s report
+PerformsAs Kv s report = Performs kv_machine s report
 
 -- the text is a schedule within the limit that runs, this is the report of its run, and its run keeps what Abstract promises
+-- of the service that the schedule names
 pub record Replays (text report : List ℕ) : Type 0 where
   pub schedule : Script
-  pub end : World Member
   pub reads : ReadsText text (Ok schedule)
-  pub runs : run_of schedule ≡ Ok end
-  pub reports : report ≡ report_of end
-  pub promises : IsFreeOfCollisions schedule → KeepsPromises schedule end
+  pub performs : PerformsAs schedule.service schedule report
 
 -- ---- refusals
 

@@ -1,23 +1,27 @@
 //! Replays of schedules.
 
-ghost use Rattle.std.specs.Prelude.{◌≡◌, ℕ, List, ◌+◌, ◌<◌, ◌≤◌, ◌^◌, length, OnOk, IfOk, IfErr, Ok, None};
-ghost use Rattle.abstract_bft.specs.Replays.{outcome, Replays, EventsCause, TextCause, ReplayCause, fault_from, text_refusal, step_refusal};
+ghost use Rattle.std.specs.Prelude.{◌≡◌, ℕ, List, ◌+◌, ◌<◌, ◌≤◌, ◌^◌, length, IsTrue, OnOk, IfOk, IfErr, Ok, None};
+ghost use Rattle.ab_text.specs.Schedules.{script_of};
+ghost use Rattle.ab_num.specs.Places.{kind_of};
+ghost use Rattle.ab_quorum.specs.Rules.{quorum, is_quorum};
+ghost use Rattle.abstract_bft.specs.Replays.{outcome, run_under, Performs, Replays, EventsCause, TextCause, ReplayCause, fault_from, text_refusal, step_refusal};
 ghost use Rattle.abstract_bft.specs.Streams.{IsAllOf};
 
 use crate::report::report;
 use crate::status::{Cause, Refusal};
 use crate::stream::{ReadFault, read_all};
 use ab_io::Source;
-use ab_num::OutOfMemory;
+use ab_kv::Kv;
+use ab_num::{OutOfMemory, ServiceName};
 use ab_quorum::{Quorum, quorum_sends_its_own};
 use ab_run::packets_keep_promises;
-use ab_svc::Echo;
-use ab_text::{Event, TextFault, read_is_spelled, read_schedule};
+use ab_svc::{Echo, Service};
+use ab_text::{Event, Schedule, TextFault, read_is_spelled, read_schedule};
 use ab_world::{World, WorldFault};
 use std::alloc::Global;
 
-/// A cluster under the plan `quorum` that serves `echo`.
-pub(crate) type EchoWorld = World<Echo, Quorum<Echo>>;
+/// A cluster under the plan `quorum`.
+pub(crate) type QuorumWorld<S> = World<S, Quorum<S>>;
 
 /// How many events a schedule may have.
 const MOST_EVENTS: usize = 100_000;
@@ -90,17 +94,17 @@ fn fault_of(refusal: Option<Refusal>) -> ReplayFault
 }
 
 /// Steps through the events, the first of which stands in the line after this one.
-fn run_events(
+fn run_events<S: Service>(
     alloc: Global,
-    world: &mut EchoWorld,
+    world: &mut QuorumWorld<S>,
     events: &[Event],
     line: u32,
 ) -> Result<(), ReplayFault>
     requires few { length events.now < 100001 }
     requires begins { (world.old.state.events ≡ 0) × (world.old.ended ≡ None) }
     requires short { line < 2 ^ 31 }
-    ensures ok { OnOk result (outcome 1 world.old events.now ≡ Ok world.new) }
-    ensures cause { IfErr result (λ e. EventsCause e line (outcome 1 world.old events.now)) }
+    ensures ok { OnOk result (outcome (quorum S.machine) 1 world.old events.now ≡ Ok world.new) }
+    ensures cause { IfErr result (λ e. EventsCause e line (outcome (quorum S.machine) 1 world.old events.now)) }
 {
     for (i, e) in events.iter().enumerate() {
         match world.step(alloc, e) {
@@ -110,6 +114,26 @@ fn run_events(
         }
     }
     Ok(())
+}
+
+/// The report of a schedule of few events under the plan `quorum`, with a service. The first event
+/// stands in the line after this one.
+fn perform<S: Service>(
+    alloc: Global,
+    schedule: &Schedule,
+    line: u32,
+) -> Result<Vec<u8>, ReplayFault>
+    requires served { IsTrue (is_quorum (kind_of schedule.now.head.cluster.plan 1)) }
+    requires few { length schedule.now.events < 100001 }
+    requires short { line < 2 ^ 31 }
+    ensures ok { IfOk result (λ v. Performs S.machine (script_of schedule.now.head schedule.now.events) v.items) }
+    ensures cause { IfErr result (λ e. EventsCause e line (run_under (quorum S.machine) (script_of schedule.now.head schedule.now.events))) }
+{
+    let mut world = QuorumWorld::<S>::new(alloc, &schedule.head.cluster)?;
+    run_events(alloc, &mut world, schedule.events.as_slice(), line)?;
+    quorum_sends_its_own::<S>();
+    packets_keep_promises::<S, Quorum<S>>();
+    Ok(report(alloc, &world)?)
 }
 
 /// The report of the schedule that a text spells.
@@ -125,14 +149,13 @@ fn simulate(alloc: Global, text: &[u8]) -> Result<Vec<u8>, ReplayFault>
     if schedule.events.as_slice().len() > MOST_EVENTS {
         return Err(ReplayFault::TooManyEvents);
     }
-    let mut world = EchoWorld::new(alloc, &schedule.head.cluster)?;
-    // What was read is built, so no party is declared faulty yet.
+    // What was read is built: the plan is `quorum`, and no party is declared faulty yet.
     read_is_spelled();
     let line = 7 + schedule.head.faulty.as_slice().len() as u32;
-    run_events(alloc, &mut world, schedule.events.as_slice(), line)?;
-    quorum_sends_its_own::<Echo>();
-    packets_keep_promises::<Echo, Quorum<Echo>>();
-    Ok(report(alloc, &world)?)
+    match schedule.head.service {
+        ServiceName::Echo => perform::<Echo>(alloc, &schedule, line),
+        ServiceName::Kv => perform::<Kv>(alloc, &schedule, line),
+    }
 }
 
 /// The report of the schedule that an input spells.

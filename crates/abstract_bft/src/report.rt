@@ -4,8 +4,9 @@ ghost use Rattle.std.specs.Prelude.{◌≡◌, ◌++◌, IfOk, OnOk, flat_map};
 ghost use Rattle.ab_text.specs.Reports.{line_text, log_text};
 ghost use Rattle.abstract_bft.specs.Replays.{report_of, logs_from};
 
-use crate::replay::EchoWorld;
+use crate::replay::QuorumWorld;
 use ab_num::OutOfMemory;
+use ab_svc::Service;
 use ab_text::{Line, Premise, write_end, write_log, write_premise, write_seen};
 use ab_world::entries;
 use std::alloc::Global;
@@ -21,7 +22,11 @@ fn write_lines(alloc: Global, out: &mut Vec<u8>, lines: &[Line]) -> Result<(), O
 }
 
 /// Adds a line for the log of each replica.
-fn write_logs(alloc: Global, out: &mut Vec<u8>, world: &EchoWorld) -> Result<(), OutOfMemory>
+fn write_logs<S: Service>(
+    alloc: Global,
+    out: &mut Vec<u8>,
+    world: &QuorumWorld<S>,
+) -> Result<(), OutOfMemory>
     ensures { OnOk result (out.new.items ≡ out.old.items ++ flat_map log_text (logs_from 0 world.now.state.replicas)) }
 {
     for r in 0..world.replicas() {
@@ -38,7 +43,10 @@ fn write_logs(alloc: Global, out: &mut Vec<u8>, world: &EchoWorld) -> Result<(),
 }
 
 /// The report of a run that the world is at the end of.
-pub(crate) fn report(alloc: Global, world: &EchoWorld) -> Result<Vec<u8>, OutOfMemory>
+pub(crate) fn report<S: Service>(
+    alloc: Global,
+    world: &QuorumWorld<S>,
+) -> Result<Vec<u8>, OutOfMemory>
     ensures { IfOk result (λ v. v.items ≡ report_of world.now) }
 {
     let mut out = Vec::new(alloc);

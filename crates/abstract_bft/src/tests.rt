@@ -7,7 +7,10 @@ use std::process::Abort;
 use std::test::Fail;
 
 /// The head of a schedule of four replicas and two clients.
-const HEAD: &str = "abstract 1\nf 1\nplan quorum\nclients 2\nservice echo\nlms 5\nrun\n";
+const HEAD: &str = "abstract 1\nf 1\nplan quorum\nclients 2\nservice kv\nlms 5\nrun\n";
+
+/// The same with the service that echoes.
+const ECHO_HEAD: &str = "abstract 1\nf 1\nplan quorum\nclients 2\nservice echo\nlms 5\nrun\n";
 
 const USAGE: &str = "usage: abstract_bft <keys|node|replay|storm> [options]\n";
 
@@ -32,7 +35,21 @@ fn expect(
     out: &str,
     err: &str,
 ) -> Result<(), Fail> {
-    let mut content = Vec::from_slice(alloc, HEAD.as_bytes())?;
+    expect_after(rt, alloc, HEAD, words, lines, status, out, err)
+}
+
+/// The same after a head of its own.
+fn expect_after(
+    rt: &impl Abort,
+    alloc: Global,
+    head: &str,
+    words: &[&str],
+    lines: &str,
+    status: u8,
+    out: &str,
+    err: &str,
+) -> Result<(), Fail> {
+    let mut content = Vec::from_slice(alloc, head.as_bytes())?;
     content.extend_from_slice(lines.as_bytes())?;
     let mut input = SureSource::new(content);
     let mut written = SureSink::new(alloc);
@@ -71,7 +88,7 @@ fn reports_are_written(rt: HostRuntime) -> Result<(), Fail> {
         &["replay"],
         "invoke c0 put a 1\ndeliver 1\ndeliver 2\ndeliver 3\ndeliver 4\ndeliver 5\ndeliver 6\ndeliver 7\ndeliver 8\nend\n",
         0,
-        "invoked 1 c0 1 1\ncommit 9 c0 1 1 1 put a 1\nlog r0 1 c0.1\nlog r1 1 c0.1\nlog r2 1 c0.1\nlog r3 1 c0.1\npremise held\nend 9 8\n",
+        "invoked 1 c0 1 1\ncommit 9 c0 1 1 1 ok\nlog r0 1 c0.1\nlog r1 1 c0.1\nlog r2 1 c0.1\nlog r3 1 c0.1\npremise held\nend 9 8\n",
         "",
     )?;
     expect(
@@ -81,6 +98,32 @@ fn reports_are_written(rt: HostRuntime) -> Result<(), Fail> {
         "invoke c0 put a 1\ninvoke c1 put a 2\ndeliver 1\ndeliver 5\ndeliver 6\ndeliver 2\ndeliver 3\ndeliver 7\ndeliver 4\ndeliver 8\ndeliver 9\ndeliver 12\ndeliver 13\ndeliver 15\ndeliver 10\ndeliver 11\ndeliver 14\ndeliver 16\nend\n",
         0,
         "invoked 1 c0 1 1\ninvoked 2 c1 1 1\nlog r0 1 c0.1,c1.1\nlog r1 1 c1.1,c0.1\nlog r2 1 c0.1,c1.1\nlog r3 1 c0.1,c1.1\npremise held\nend 18 16\n",
+        "",
+    )
+}
+
+#[test]
+fn each_service_replies(rt: HostRuntime) -> Result<(), Fail> {
+    let lines =
+        "invoke c0 put a 1\ndeliver 1\ndeliver 2\ndeliver 3\ndeliver 4\ndeliver 5\ndeliver 6\ndeliver 7\ndeliver 8\ninvoke c0 get a\ndeliver 9\ndeliver 10\ndeliver 11\ndeliver 12\ndeliver 13\ndeliver 14\ndeliver 15\ndeliver 16\nend\n";
+    let logs =
+        "log r0 1 c0.1,c0.2\nlog r1 1 c0.1,c0.2\nlog r2 1 c0.1,c0.2\nlog r3 1 c0.1,c0.2\npremise held\nend 18 16\n";
+    let alloc = rt.alloc();
+    let stored = format!(in alloc;
+        "invoked 1 c0 1 1\ncommit 9 c0 1 1 1 ok\ninvoked 10 c0 1 2\ncommit 18 c0 1 2 2 val 1\n{logs}"
+    )?;
+    expect_after(&rt, alloc, HEAD, &["replay"], lines, 0, stored.as_str(), "")?;
+    let echoed = format!(in alloc;
+        "invoked 1 c0 1 1\ncommit 9 c0 1 1 1 put a 1\ninvoked 10 c0 1 2\ncommit 18 c0 1 2 2 get a\n{logs}"
+    )?;
+    expect_after(
+        &rt,
+        alloc,
+        ECHO_HEAD,
+        &["replay"],
+        lines,
+        0,
+        echoed.as_str(),
         "",
     )
 }
