@@ -17,10 +17,10 @@ REPLICAS = 4
 
 def schedule(requests):
     """One request after another: an invocation, its packets to the replicas, and their answers."""
-    lines = ["abstract 1", "f 1", "plan quorum", f"clients {CLIENTS}", "service echo", "lms 5", "run"]
+    lines = ["abstract 1", "f 1", "plan quorum", f"clients {CLIENTS}", "service kv", "lms 5", "run"]
     sent = 0
     for request in range(requests):
-        lines.append(f"invoke c{request % CLIENTS} request {request}")
+        lines.append(f"invoke c{request % CLIENTS} put k{request % 100} v{request}")
         lines.extend(f"deliver {sent + packet}" for packet in range(1, 2 * REPLICAS + 1))
         sent += 2 * REPLICAS
     lines.append("end")
