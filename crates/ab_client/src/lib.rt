@@ -4,3 +4,6 @@
 mod client;
 
 pub use client::{Client, InvokeFault};
+
+#[cfg(test)]
+mod tests;

@@ -1,7 +1,12 @@
 //! Runs over objects in memory.
 
+use crate::replay::QuorumWorld;
 use crate::top::run;
+use ab_hist::array_of;
 use ab_io::{MemClock, MemLink, MemSink, MemSource, SureSink, SureSource};
+use ab_num::{Cluster, Party, Plan};
+use ab_svc::Echo;
+use ab_text::{Core, Event};
 use std::alloc::Global;
 use std::process::Abort;
 use std::test::Fail;
@@ -215,4 +220,32 @@ fn faults_of_the_streams_are_said(rt: HostRuntime) -> Result<(), Fail> {
     )?;
     expect_fault(&rt, rt.alloc(), &["replay"], (&[], &[1], &[1]), 5, "")?;
     expect_fault(&rt, rt.alloc(), &["node"], (&[], &[], &[1]), 5, "")
+}
+
+/// Which of the first three clients have no request open.
+fn idle(world: &QuorumWorld<Echo>) -> (bool, bool, bool) {
+    let idle = world.idle();
+    (idle[0], idle[1], idle[2])
+}
+
+#[test]
+fn a_world_shows_itself(rt: HostRuntime) -> Result<(), Fail> {
+    let alloc = rt.alloc();
+    let Some(c) = Cluster::new(1, 2, Plan::Quorum) else {
+        return Err(Fail::from("in bounds"));
+    };
+    let mut world = QuorumWorld::<Echo>::new(alloc, &c)?;
+    assert_eq!(rt; idle(&world), (true, true, false));
+    let invoke = Event::Invoke {
+        core: Core {
+            party: Party::Client(1),
+            twin: None,
+        },
+        command: array_of(b"x"),
+    };
+    assert!(rt; world.step(alloc, &invoke).is_ok());
+    assert_eq!(rt; idle(&world), (true, false, false));
+    assert_eq!(rt; world.observations().len(), 1);
+    assert_eq!(rt; world.ended(), false);
+    Ok(())
 }

@@ -1,0 +1,89 @@
+//! A client by itself: what it refuses, what it sends, and when it commits.
+
+use super::*;
+use ab_abs::Seen;
+use ab_hist::array_of;
+use ab_msg::{Content, Msg, NO_TAG};
+use ab_num::{Cluster, Party, Plan};
+use std::test::Fail;
+
+/// The answer of a replica to request 1 of client 0, with this number.
+fn answer(by: u8, n: u16) -> Msg {
+    Msg::Resp {
+        content: Content::Resp {
+            maker: Party::Replica(by),
+            instance: 1,
+            client: 0,
+            stamp: 1,
+            n,
+            d: [0; 32],
+            reply: array_of(b"ok"),
+        },
+        tag: NO_TAG,
+    }
+}
+
+/// The number of a commit, if that is all that was seen.
+fn committed(seen: &[Seen]) -> Option<u16> {
+    match seen {
+        [Seen::Committed { n, .. }] => Some(*n),
+        _ => None,
+    }
+}
+
+#[test]
+fn commands_are_refused(rt: HostRuntime) -> Result<(), Fail> {
+    let alloc = rt.alloc();
+    let Some(c) = Cluster::new(1, 2, Plan::Quorum) else {
+        return Err(Fail::from("in bounds"));
+    };
+    let mut client = Client::new(&c, 0);
+    assert_eq!(rt; client.invoke(alloc, &[]).err(), Some(InvokeFault::Empty));
+    assert_eq!(rt;
+        client.invoke(alloc, &[b'x'; 129]).err(),
+        Some(InvokeFault::TooLong)
+    );
+    assert_eq!(rt; client.open(), false);
+    let (outs, marks) = client.invoke(alloc, &[b'x'; 128]).ok().ok_or("memory")?;
+    assert_eq!(rt; outs.len(), 4);
+    assert_eq!(rt; marks.len(), 1);
+    assert_eq!(rt; client.invoke(alloc, b"x").err(), Some(InvokeFault::Busy));
+    assert_eq!(rt; client.stamp(), 1);
+    assert_eq!(rt; client.instance(), 1);
+    Ok(())
+}
+
+#[test]
+fn all_votes_commit(rt: HostRuntime) -> Result<(), Fail> {
+    let alloc = rt.alloc();
+    let Some(c) = Cluster::new(1, 2, Plan::Quorum) else {
+        return Err(Fail::from("in bounds"));
+    };
+    let mut client = Client::new(&c, 0);
+    client.invoke(alloc, b"x").ok().ok_or("memory")?;
+    for by in 0..3u8 {
+        assert_eq!(rt; client.on(alloc, &answer(by, 7)).len(), 0);
+    }
+    // A second vote of a replica doesn't count.
+    assert_eq!(rt; client.on(alloc, &answer(2, 7)).len(), 0);
+    let marks = client.on(alloc, &answer(3, 7));
+    assert_eq!(rt; committed(marks.as_slice()), Some(7));
+    assert_eq!(rt; client.open(), false);
+    Ok(())
+}
+
+#[test]
+fn votes_that_differ_do_not(rt: HostRuntime) -> Result<(), Fail> {
+    let alloc = rt.alloc();
+    let Some(c) = Cluster::new(1, 2, Plan::Quorum) else {
+        return Err(Fail::from("in bounds"));
+    };
+    let mut client = Client::new(&c, 0);
+    client.invoke(alloc, b"x").ok().ok_or("memory")?;
+    for by in 0..4u8 {
+        let n = if by == 3 { 8 } else { 7 };
+        assert_eq!(rt; client.on(alloc, &answer(by, n)).len(), 0);
+    }
+    assert_eq!(rt; client.open(), true);
+    Ok(())
+}
