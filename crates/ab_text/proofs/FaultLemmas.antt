@@ -7,7 +7,7 @@ use Rattle.ab_num.specs.declared.plan.ServiceName.{ServiceName}
 use Rattle.ab_text.specs.declared.fault.TextFault.{TextFault}
 use Rattle.ab_text.specs.declared.fault.TextFault.TheVariants.{BadLine, NotBuilt, NoEnd, OutOfMemory}
 use Rattle.ab_text.specs.Lines.{lines_of}
-use Rattle.ab_text.specs.Built.{plan_is_built, service_is_built, height_is_built, faulty_is_built, event_is_built}
+use Rattle.ab_text.specs.Built.{plan_is_built, service_is_built, height_is_built, event_is_built}
 use Rattle.ab_text.specs.Heads.{◌>>=◌, Script, line_at, number_at, number_after, within, spelled_in, taken, name_at, plan_line, plans, service_line, services, lms_line, heights, head_at}
 use Rattle.ab_text.specs.Schedules.{ReadsEvents, ReadsFaulty, ReadsText, Continues, Ends, with_event, with_faulty}
 use Rattle.ab_text.specs.Spelling.{schedule_lines, IsSpelled}
@@ -102,15 +102,9 @@ faulty_stuck : (ls : Rest) (n : ℕ) (s : Script) (e : TextFault) (m : ℕ) → 
 faulty_stuck [] n s e m at h = absurd (at_end e n m h at)
 faulty_stuck (l ∷ ls) n s e m at (inl (said, rest)) =
     later n m l ls (λ ks. ReadsEvents (n + 1) s ks (Err e)) (λ ks. ReadsFaulty n s ks (Err e)) (events_stuck ls (n + 1) s e m at rest) (λ ks x. inl (said, x))
-faulty_stuck (l ∷ ls) n s e m at (inr (inl (v, good, said, rest))) = elim (sides (faulty_is_built v.1) (ReadsFaulty (n + 1) (with_faulty s v) ls (Err e)) (failed e ≡ failed (NotBuilt n)) rest) [
-  | inl (built, more) ↦
-      later n m l ls (λ ks. ReadsFaulty (n + 1) (with_faulty s v) ks (Err e)) (λ ks. ReadsFaulty n s ks (Err e))
-      (faulty_stuck ls (n + 1) (with_faulty s v) e m at more)
-      (λ ks x. inr (inl (v, good, said, on_true (faulty_is_built v.1) (ReadsFaulty (n + 1) (with_faulty s v) ks (Err e)) (failed e ≡ failed (NotBuilt n)) built x)))
-  | inr (other, stop) ↦
-      here n m l ls (λ ks. ReadsFaulty n s ks (Err e)) (at_unbuilt e n m stop at)
-      (λ ks. inr (inl (v, good, said, on_false (faulty_is_built v.1) (ReadsFaulty (n + 1) (with_faulty s v) ks (Err e)) (failed e ≡ failed (NotBuilt n)) other stop)))
-]
+faulty_stuck (l ∷ ls) n s e m at (inr (inl (v, good, said, rest))) =
+    later n m l ls (λ ks. ReadsFaulty (n + 1) (with_faulty s v) ks (Err e)) (λ ks. ReadsFaulty n s ks (Err e))
+    (faulty_stuck ls (n + 1) (with_faulty s v) e m at rest) (λ ks x. inr (inl (v, good, said, x)))
 faulty_stuck (l ∷ ls) n s e m at (inr (inr (bad, h))) = here n m l ls (λ ks. ReadsFaulty n s ks (Err e)) (at_bad e n m h at) (λ other. inr (inr (bad, h)))
 
 -- ---- the head
@@ -219,10 +213,7 @@ events_count (l ∷ ls) n s m (inr (inr (bad, h))) = absurd (no_line (BadLine n)
 faulty_count : (ls : Rest) (n : ℕ) (s : Script) (m : ℕ) → ReadsFaulty n s ls (Err (NoEnd m)) → m ≡ n + length ls
 faulty_count [] n s m h = let e = same_end n m h in omega (arith, e)
 faulty_count (l ∷ ls) n s m (inl (said, rest)) = let e = events_count ls (n + 1) s m rest in omega (arith, e)
-faulty_count (l ∷ ls) n s m (inr (inl (v, good, said, rest))) = elim (sides (faulty_is_built v.1) (ReadsFaulty (n + 1) (with_faulty s v) ls (Err (NoEnd m))) (failed (NoEnd m) ≡ failed (NotBuilt n)) rest) [
-  | inl (built, more) ↦ (let e = faulty_count ls (n + 1) (with_faulty s v) m more in omega (arith, e))
-  | inr (other, stop) ↦ absurd (no_line (NotBuilt n) n m stop refl)
-]
+faulty_count (l ∷ ls) n s m (inr (inl (v, good, said, rest))) = let e = faulty_count ls (n + 1) (with_faulty s v) m rest in omega (arith, e)
 faulty_count (l ∷ ls) n s m (inr (inr (bad, h))) = absurd (no_line (BadLine n) n m h refl)
 
 abbrev Counts : ℕ → (Rest → Result (Script × Rest) TextFault) → Type 0

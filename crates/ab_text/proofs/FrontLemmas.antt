@@ -14,7 +14,7 @@ use Rattle.ab_text.specs.declared.fault.TextFault.{TextFault}
 use Rattle.ab_text.specs.declared.fault.TextFault.TheVariants.{BadLine, NotBuilt, NoEnd, OutOfMemory}
 use Rattle.ab_text.specs.Lines.{lines_of}
 use Rattle.ab_text.specs.EventLines.{event_line, IsEvent}
-use Rattle.ab_text.specs.Built.{plan_is_built, service_is_built, height_is_built, faulty_is_built, event_is_built}
+use Rattle.ab_text.specs.Built.{plan_is_built, service_is_built, height_is_built, event_is_built}
 use Rattle.ab_text.specs.Heads.{◌>>=◌, Script, number_at, name_at, plan_line, plans, service_line, services, lms_line, heights, head_at}
 use Rattle.ab_text.specs.Schedules.{ReadsEvents, ReadsFaulty, ReadsText, Continues, with_event, with_faulty}
 use Rattle.ab_text.specs.Spelling.{schedule_lines, event_lines, faulty_lines, AreFaulty, IsSchedule, IsBuilt}
@@ -88,7 +88,6 @@ record IsBody (f clients : ℕ) (done : List (Party × ℕ)) (ls : Rest) : Type 
   faulty : List (Party × ℕ)
   events : List Event
   next : AreFaulty f clients done faulty
-  faulty_built : AllByRecursion (λ x. IsTrue (faulty_is_built x.1)) faulty
   good : AllByRecursion IsEvent events
   built : AllByRecursion (λ e. IsTrue (event_is_built e)) events
   lines : ls ≡ faulty_lines faulty events
@@ -96,7 +95,7 @@ record IsBody (f clients : ℕ) (done : List (Party × ℕ)) (ls : Rest) : Type 
 run_body : (f clients : ℕ) (done : List (Party × ℕ)) (l : List ℕ) → l ≡ codes "run" → (rest : Rest) → AreEvents rest → IsBody f clients done (l ∷ rest)
 run_body f clients done l said rest are =
     let lines = are.lines in
-    record { faulty = []; events = are.events; next = tt; faulty_built = tt; good = are.good; built = are.built; lines = λ j. said j ∷ lines j }
+    record { faulty = []; events = are.events; next = tt; good = are.good; built = are.built; lines = λ j. said j ∷ lines j }
 
 no_body : (f clients : ℕ) (done : List (Party × ℕ)) → IsBody f clients done (codes "run" ∷ codes "end" ∷ [])
 no_body f clients done = run_body f clients done (codes "run") refl (codes "end" ∷ []) no_events
@@ -104,14 +103,11 @@ no_body f clients done = run_body f clients done (codes "run") refl (codes "end"
 body_front : (ls : Rest) (n : ℕ) (s : Script) (e : TextFault) (m : ℕ) → IsOfLine e m → ReadsFaulty n s ls (Err e) → IsFront n m ls (IsBody s.f s.clients s.faulty)
 body_front [] n s e m at h = at_once n m [] (codes "run" ∷ codes "end" ∷ []) (IsBody s.f s.clients s.faulty) (of_line e (NoEnd n) n m h refl at) (no_body s.f s.clients s.faulty)
 body_front (l ∷ ls) n s e m at (inl (said, rest)) = one_more n m l ls AreEvents (IsBody s.f s.clients s.faulty) (events_front ls (n + 1) s e m at rest) (run_body s.f s.clients s.faulty l said)
-body_front (l ∷ ls) n s e m at (inr (inl (v, good, said, rest))) = elim (sides (faulty_is_built v.1) (ReadsFaulty (n + 1) (with_faulty s v) ls (Err e)) (failed e ≡ failed (NotBuilt n)) rest) [
-  | inl (built, on) ↦
-      one_more n m l ls (IsBody s.f s.clients (s.faulty ++ v ∷ [])) (IsBody s.f s.clients s.faulty) (body_front ls (n + 1) (with_faulty s v) e m at on)
-      (λ rest body.
-      let lines = body.lines in
-      record { faulty = v ∷ body.faulty; events = body.events; next = (good, body.next); faulty_built = (built, body.faulty_built); good = body.good; built = body.built; lines = λ j. said j ∷ lines j })
-  | inr (other, stop) ↦ at_once n m (l ∷ ls) (codes "run" ∷ codes "end" ∷ []) (IsBody s.f s.clients s.faulty) (of_line e (NotBuilt n) n m stop refl at) (no_body s.f s.clients s.faulty)
-]
+body_front (l ∷ ls) n s e m at (inr (inl (v, good, said, rest))) =
+    one_more n m l ls (IsBody s.f s.clients (s.faulty ++ v ∷ [])) (IsBody s.f s.clients s.faulty) (body_front ls (n + 1) (with_faulty s v) e m at rest)
+    (λ more body.
+    let lines = body.lines in
+    record { faulty = v ∷ body.faulty; events = body.events; next = (good, body.next); good = body.good; built = body.built; lines = λ j. said j ∷ lines j })
 body_front (l ∷ ls) n s e m at (inr (inr (bad, h))) = at_once n m (l ∷ ls) (codes "run" ∷ codes "end" ∷ []) (IsBody s.f s.clients s.faulty) (of_line e (BadLine n) n m h refl at) (no_body s.f s.clients s.faulty)
 
 -- ---- the head
@@ -290,7 +286,7 @@ schedule_of ls (rest, two, said) =
     let s : Script = record { f = two.value; clients = four.value; plan = three.value; service = five.value; lms = six.value; faulty = body.faulty; events = body.events } in (
       s,
       record { bounds = record { some_faulty = two.good.0; few_faulty = two.good.1; some_client = four.good.0; few_clients = four.good.1 }; faulty = body.next; events = body.good },
-      record { plan = three.good; service = five.good; lms = six.good; faulty = body.faulty_built; events = body.built },
+      record { plan = three.good; service = five.good; lms = six.good; events = body.built },
       said ∙ ap (λ t. codes "abstract 1" ∷ t) (two.lines ∙ ap (λ t. f_line two.value ∷ t) (three.lines ∙ ap (λ t. plan_line three.value ∷ t)
           (four.lines ∙ ap (λ t. clients_line four.value ∷ t) (five.lines ∙ ap (λ t. service_line five.value ∷ t) (six.lines ∙ ap (λ t. lms_line six.value ∷ t) body.lines))))),
     )

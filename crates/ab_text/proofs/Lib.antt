@@ -6,6 +6,7 @@ pub mod CoreLemmas
 pub mod HexLemmas
 pub mod HeadLemmas
 pub mod SpellingLemmas
+pub mod FormLemmas
 pub mod UniqueLemmas
 pub mod FaultLemmas
 pub mod FrontLemmas

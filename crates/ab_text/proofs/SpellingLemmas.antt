@@ -9,9 +9,9 @@ use Rattle.ab_text.specs.declared.fault.TextFault.{TextFault}
 use Rattle.ab_text.specs.declared.fault.TextFault.TheVariants.{BadLine, NotBuilt, NoEnd}
 use Rattle.ab_text.specs.Lines.{lines_of}
 use Rattle.ab_text.specs.EventLines.{event_line, IsEvent}
-use Rattle.ab_text.specs.Built.{plan_is_built, service_is_built, height_is_built, faulty_is_built, event_is_built}
+use Rattle.ab_text.specs.Built.{plan_is_built, service_is_built, height_is_built, event_is_built}
 use Rattle.ab_text.specs.Heads.{Script, head_at}
-use Rattle.ab_text.specs.Schedules.{ReadsEvents, ReadsFaulty, ReadsText, Continues, IsNextFaulty, faulty_line, with_event, with_faulty}
+use Rattle.ab_text.specs.Schedules.{ReadsEvents, ReadsFaulty, ReadsText, Continues, with_event, with_faulty}
 use Rattle.ab_text.specs.Spelling.{head_lines, event_lines, faulty_lines, schedule_lines, AreFaulty, IsSchedule, IsBuilt, IsSpelled}
 use Rattle.ab_text.proofs.HeadLemmas.{head_is, head_reads, head_outcome}
 
@@ -103,7 +103,6 @@ and_faulty s faulty events = record s { faulty = s.faulty ++ faulty; events = s.
 record IsBody (s t : Script) (ls : List (List ℕ)) (faulty : List (Party × ℕ)) (events : List Event) : Type 0 where
   whole : t ≡ and_faulty s faulty events
   faulty_are_next : AreFaulty s.f s.clients s.faulty faulty
-  faulty_are_built : AllByRecursion (λ x. IsTrue (faulty_is_built x.1)) faulty
   events_have_lines : AllByRecursion IsEvent events
   events_are_built : AllByRecursion (λ e. IsTrue (event_is_built e)) events
   lines : ls ≡ faulty_lines faulty events
@@ -118,22 +117,19 @@ body_spelled (l ∷ ls) n s t (inl (said, rest)) =
       record {
         whole = tail.whole ∙ ap (λ x. record s { faulty = x; events = s.events ++ r.0 }) (sym (append-nil s.faulty));
         faulty_are_next = tt;
-        faulty_are_built = tt;
         events_have_lines = tail.events_have_lines;
         events_are_built = tail.events_are_built;
         lines = λ j. said j ∷ tail.lines j;
       },
     )
 body_spelled (l ∷ ls) n s t (inr (inl (x, next, said, rest))) =
-    let on = went_on (faulty_is_built x.1) (ReadsFaulty (n + 1) (with_faulty s x) ls (Ok t)) t n rest in
-    let r = body_spelled ls (n + 1) (with_faulty s x) t on.1 in
+    let r = body_spelled ls (n + 1) (with_faulty s x) t rest in
     let body = r.2 in (
       x ∷ r.0,
       r.1,
       record {
         whole = body.whole ∙ ap (λ y. record s { faulty = y; events = s.events ++ r.1 }) (append_assoc s.faulty (x ∷ []) r.0);
         faulty_are_next = (next, body.faulty_are_next);
-        faulty_are_built = (on.0, body.faulty_are_built);
         events_have_lines = body.events_have_lines;
         events_are_built = body.events_are_built;
         lines = λ j. said j ∷ body.lines j;
@@ -141,42 +137,31 @@ body_spelled (l ∷ ls) n s t (inr (inl (x, next, said, rest))) =
     )
 body_spelled (l ∷ ls) n s t (inr (inr (bad, h))) = absurd (not_ok t (BadLine n) h)
 
-body_step : (x : Party × ℕ) (n : ℕ) (s : Script) (ls : Rest) (r : Outcome) → IsNextFaulty s.f s.clients s.faulty x → IsTrue (faulty_is_built x.1) → ReadsFaulty (n + 1) (with_faulty s x) ls r → ReadsFaulty n s (faulty_line x ∷ ls) r
-body_step x n s ls r next built more = inr (inl (x, next, refl, subst (λ b. MatchBool b (ReadsFaulty (n + 1) (with_faulty s x) ls r) (r ≡ Err (NotBuilt n))) (sym built) more))
-
-body_stop : (x : Party × ℕ) (n : ℕ) (s : Script) (ls : Rest) → IsNextFaulty s.f s.clients s.faulty x → faulty_is_built x.1 ≡ false → ReadsFaulty n s (faulty_line x ∷ ls) (Err (NotBuilt n))
-body_stop x n s ls next other = inr (inl (x, next, refl, subst (λ b. MatchBool b (ReadsFaulty (n + 1) (with_faulty s x) ls (Err (NotBuilt n))) (◌≡◌ {A = Outcome} (Err (NotBuilt n)) (Err (NotBuilt n)))) (sym other) refl))
-
 and_party : (s : Script) (x : Party × ℕ) (faulty : List (Party × ℕ)) (events : List Event) → and_faulty (with_faulty s x) faulty events ≡ and_faulty s (x ∷ faulty) events
 and_party s x faulty events = ap (λ y. record s { faulty = y; events = s.events ++ events }) (append_assoc s.faulty (x ∷ []) faulty)
 
 and_none : (s : Script) (events : List Event) → and_events s events ≡ and_faulty s [] events
 and_none s events = ap (λ x. record s { faulty = x; events = s.events ++ events }) (sym (append-nil s.faulty))
 
--- built parties and events are read
-body_read : (faulty : List (Party × ℕ)) (events : List Event) (n : ℕ) (s : Script) → AreFaulty s.f s.clients s.faulty faulty → AllByRecursion (λ x. IsTrue (faulty_is_built x.1)) faulty
+-- parties and built events are read
+body_read : (faulty : List (Party × ℕ)) (events : List Event) (n : ℕ) (s : Script) → AreFaulty s.f s.clients s.faulty faulty
     → AllByRecursion IsEvent events → AllByRecursion (λ e. IsTrue (event_is_built e)) events
     → ReadsFaulty n s (faulty_lines faulty events) (Ok (and_faulty s faulty events))
-body_read [] events n s next built good fine = inl (refl, subst (λ t. ReadsEvents (n + 1) s (event_lines events) (Ok t)) (and_none s events) (events_read events (n + 1) s good fine))
-body_read (x ∷ faulty) events n s next built good fine =
+body_read [] events n s next good fine = inl (refl, subst (λ t. ReadsEvents (n + 1) s (event_lines events) (Ok t)) (and_none s events) (events_read events (n + 1) s good fine))
+body_read (x ∷ faulty) events n s next good fine =
     subst (λ t. ReadsFaulty n s (faulty_lines (x ∷ faulty) events) (Ok t)) (and_party s x faulty events)
-    (body_step x n s (faulty_lines faulty events) (Ok (and_faulty (with_faulty s x) faulty events)) next.0 built.0 (body_read faulty events (n + 1) (with_faulty s x) next.1 built.1 good fine))
+    (inr (inl (x, next.0, refl, body_read faulty events (n + 1) (with_faulty s x) next.1 good fine)))
 
--- parties and events are read, or one is not built
+-- parties and events are read, or an event is not built
 body_outcome : (faulty : List (Party × ℕ)) (events : List Event) (n : ℕ) (s : Script) → AreFaulty s.f s.clients s.faulty faulty → AllByRecursion IsEvent events
     → ReadsFaulty n s (faulty_lines faulty events) (Ok (and_faulty s faulty events)) ⊎ ((m : ℕ) × ReadsFaulty n s (faulty_lines faulty events) (Err (NotBuilt m)))
 body_outcome [] events n s next good = elim (events_outcome events (n + 1) s good) [
   | inl on ↦ inl (inl (refl, subst (λ t. ReadsEvents (n + 1) s (event_lines events) (Ok t)) (and_none s events) on))
   | inr stop ↦ inr (stop.0, inl (refl, stop.1))
 ]
-body_outcome (x ∷ faulty) events n s next good = elim (cases_Bool (faulty_is_built x.1)) [
-  | inl built ↦ elim (body_outcome faulty events (n + 1) (with_faulty s x) next.1 good) [
-    | inl on ↦
-        inl (subst (λ t. ReadsFaulty n s (faulty_lines (x ∷ faulty) events) (Ok t)) (and_party s x faulty events)
-        (body_step x n s (faulty_lines faulty events) (Ok (and_faulty (with_faulty s x) faulty events)) next.0 built on))
-    | inr stop ↦ inr (stop.0, body_step x n s (faulty_lines faulty events) (Err (NotBuilt stop.0)) next.0 built stop.1)
-  ]
-  | inr other ↦ inr (n, body_stop x n s (faulty_lines faulty events) next.0 other)
+body_outcome (x ∷ faulty) events n s next good = elim (body_outcome faulty events (n + 1) (with_faulty s x) next.1 good) [
+  | inl on ↦ inl (subst (λ t. ReadsFaulty n s (faulty_lines (x ∷ faulty) events) (Ok t)) (and_party s x faulty events) (inr (inl (x, next.0, refl, on))))
+  | inr stop ↦ inr (stop.0, inr (inl (x, next.0, refl, stop.1)))
 ]
 
 -- ---- the whole text
@@ -193,7 +178,7 @@ text_spelled text s (Ok (head', rest)) is h =
     let next : AreFaulty head'.f head'.clients [] r.0 = subst (λ x. AreFaulty head'.f head'.clients x r.0) head.faulty body.faulty_are_next in
     subst (λ t. IsSpelled text t × IsBuilt t) (sym whole) (
       record { schedule = record { bounds = head.bounds; faulty = next; events = body.events_have_lines }; lines = head.lines ∙ ap (λ t. head_lines head' ++ t) body.lines },
-      record { plan = head.plan; service = head.service; lms = head.lms; faulty = body.faulty_are_built; events = body.events_are_built },
+      record { plan = head.plan; service = head.service; lms = head.lms; events = body.events_are_built },
     )
 
 -- what is read is spelled so, and built
@@ -207,7 +192,7 @@ lines_read s schedule built =
     let read : head_at (schedule_lines s) ≡ Ok (bare, faulty_lines s.faulty s.events) =
     head_reads s (faulty_lines s.faulty s.events) schedule.bounds
     ∙ (λ j. if built.plan j then (if built.service j then (if built.lms j then Ok (bare, faulty_lines s.faulty s.events) else Err (NotBuilt 6)) else Err (NotBuilt 5)) else Err (NotBuilt 3)) in
-    subst (λ o. Continues o (Ok s)) (sym read) (body_read s.faulty s.events 7 bare schedule.faulty built.faulty schedule.events built.events)
+    subst (λ o. Continues o (Ok s)) (sym read) (body_read s.faulty s.events 7 bare schedule.faulty schedule.events built.events)
 
 -- what is spelled so and built is read
 pub spelled_read : (text : List ℕ) (s : Script) → IsSpelled text s → IsBuilt s → ReadsText text (Ok s)

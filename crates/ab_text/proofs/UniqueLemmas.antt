@@ -14,7 +14,7 @@ use Rattle.ab_text.specs.declared.fault.TextFault.{TextFault}
 use Rattle.ab_text.specs.declared.fault.TextFault.TheVariants.{NotBuilt}
 use Rattle.ab_text.specs.Cores.{Lacks, party_text, IsParty, twin_text, core_text, IsTwin, IsCore}
 use Rattle.ab_text.specs.EventLines.{event_line, delivery_text, IsEvent, IsInjected}
-use Rattle.ab_text.specs.Built.{faulty_is_built, event_is_built}
+use Rattle.ab_text.specs.Built.{event_is_built}
 use Rattle.ab_text.specs.Heads.{Script, head_at}
 use Rattle.ab_text.specs.Schedules.{ReadsEvents, ReadsFaulty, Continues, Ends, IsInside, faulty_line, with_event, with_faulty}
 use Rattle.ab_text.proofs.PartLemmas.{same_parts, no_split, Lacks-decimal}
@@ -147,8 +147,7 @@ faulty_once (l ∷ ls) n s r q few small (inl (said, a)) (inr (inr (bad, b))) = 
 faulty_once (l ∷ ls) n s r q few small (inr (inl (x, good, said, a))) (inl (told, b)) = absurd (no_run x (sym told ∙ said))
 faulty_once (l ∷ ls) n s r q few small (inr (inl (x, good, said, a))) (inr (inl (y, fine, told, b))) =
     let one : y ≡ x = same_faulty y x (inside_party s.f s.clients y.0 few small fine.inside) (inside_party s.f s.clients x.0 few small good.inside) fine.few good.few (sym told ∙ said) in
-    either (faulty_is_built x.1) (ReadsFaulty (n + 1) (with_faulty s x) ls) (λ v. v ≡ Err (NotBuilt n)) r q (faulty_once ls (n + 1) (with_faulty s x) r q few small) (λ v w. v ∙ sym w) a
-    (subst (λ v. MatchBool (faulty_is_built v.1) (ReadsFaulty (n + 1) (with_faulty s v) ls q) (q ≡ Err (NotBuilt n))) one b)
+    faulty_once ls (n + 1) (with_faulty s x) r q few small a (subst (λ v. ReadsFaulty (n + 1) (with_faulty s v) ls q) one b)
 faulty_once (l ∷ ls) n s r q few small (inr (inl (x, good, said, a))) (inr (inr (bad, b))) = absurd (bad.no_faulty x good said)
 faulty_once (l ∷ ls) n s r q few small (inr (inr (bad, a))) (inl (told, b)) = absurd (bad.no_run told)
 faulty_once (l ∷ ls) n s r q few small (inr (inr (bad, a))) (inr (inl (y, fine, told, b))) = absurd (bad.no_faulty y fine told)

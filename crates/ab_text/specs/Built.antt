@@ -1,5 +1,5 @@
 -- The forms that this program takes. Other lines of the grammar are answered `not built`.
-use Rattle.std.specs.Prelude.{ℕ, Bool, true, false, None, Some}
+use Rattle.std.specs.Prelude.{Bool, true, false}
 use Rattle.ab_num.specs.declared.plan.Plan.{Plan}
 use Rattle.ab_num.specs.declared.plan.Plan.TheVariants.{AZyzzyva, Aliph, Quorum, ZLight, Chain, Backup}
 use Rattle.ab_num.specs.declared.plan.ServiceName.{ServiceName}
@@ -23,13 +23,8 @@ service_is_built Kv = true
 unfoldable pub height_is_built : Height → Bool
 height_is_built lms = true
 
--- whether a faulty party may have this number of twins
-unfoldable pub faulty_is_built : ℕ → Bool
-faulty_is_built twins = false
-
 unfoldable pub event_is_built : Event → Bool
 event_is_built (Invoke core command) = true
-event_is_built (Deliver packet None) = true
-event_is_built (Deliver packet (Some core)) = false
+event_is_built (Deliver packet core) = true
 event_is_built (Timeout core) = false
-event_is_built (Inject core bytes) = false
+event_is_built (Inject core bytes) = true

@@ -9,5 +9,6 @@ pub mod Heads
 pub mod Settings
 pub mod Schedules
 pub mod Spelling
+pub mod Forms
 pub mod Reports
 pub mod Faults

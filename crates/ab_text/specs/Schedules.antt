@@ -9,7 +9,7 @@ use Rattle.ab_text.specs.declared.schedule.Head.{Head}
 use Rattle.ab_text.specs.Lines.{lines_of}
 use Rattle.ab_text.specs.Cores.{party_text}
 use Rattle.ab_text.specs.EventLines.{event_line, IsEvent}
-use Rattle.ab_text.specs.Built.{faulty_is_built, event_is_built}
+use Rattle.ab_text.specs.Built.{event_is_built}
 use Rattle.ab_text.specs.Heads.{Script, head_at}
 
 abbrev pub script_of : Head → List Event → Script
@@ -84,7 +84,7 @@ abbrev pub ReadsFaulty : ℕ → Script → List (List ℕ) → Result Script Te
 ReadsFaulty n s [] r = r ≡ Err (NoEnd n)
 ReadsFaulty n s (l ∷ ls) r =
     ((l ≡ codes "run") × ReadsEvents (n + 1) s ls r)
-    ⊎ (((x : Party × ℕ) × IsNextFaulty s.f s.clients s.faulty x × (l ≡ faulty_line x) × MatchBool (faulty_is_built x.1) (ReadsFaulty (n + 1) (with_faulty s x) ls r) (r ≡ Err (NotBuilt n)))
+    ⊎ (((x : Party × ℕ) × IsNextFaulty s.f s.clients s.faulty x × (l ≡ faulty_line x) × ReadsFaulty (n + 1) (with_faulty s x) ls r)
     ⊎ (IsNoFaulty s l × (r ≡ Err (BadLine n))))
 
 -- ---- the whole text

@@ -6,7 +6,7 @@ use Rattle.ab_num.specs.Bounds.{IsInBounds}
 use Rattle.ab_text.specs.declared.event.Event.{Event}
 use Rattle.ab_text.specs.Lines.{lines_of}
 use Rattle.ab_text.specs.EventLines.{event_line, IsEvent}
-use Rattle.ab_text.specs.Built.{plan_is_built, service_is_built, height_is_built, faulty_is_built, event_is_built}
+use Rattle.ab_text.specs.Built.{plan_is_built, service_is_built, height_is_built, event_is_built}
 use Rattle.ab_text.specs.Heads.{Script, plan_line, service_line, lms_line}
 use Rattle.ab_text.specs.Schedules.{faulty_line, IsNextFaulty}
 
@@ -40,7 +40,6 @@ pub record IsBuilt (s : Script) : Type 0 where
   pub plan : IsTrue (plan_is_built s.plan)
   pub service : IsTrue (service_is_built s.service)
   pub lms : IsTrue (height_is_built s.lms)
-  pub faulty : AllByRecursion (λ x. IsTrue (faulty_is_built x.1)) s.faulty
   pub events : AllByRecursion (λ e. IsTrue (event_is_built e)) s.events
 
 -- the lines of the text are those of the schedule

@@ -1,7 +1,7 @@
 //! The forms that are taken. Other lines of the grammar are answered as not built.
 
 ghost use Rattle.std.specs.Prelude.{◌≡◌};
-ghost use Rattle.ab_text.specs.Built.{plan_is_built, service_is_built, height_is_built, faulty_is_built, event_is_built};
+ghost use Rattle.ab_text.specs.Built.{plan_is_built, service_is_built, height_is_built, event_is_built};
 
 use crate::event::Event;
 use ab_num::{Height, Plan, ServiceName};
@@ -37,22 +37,13 @@ pub(crate) fn takes_height(height: Height) -> bool
     }
 }
 
-/// Whether a faulty party with so many twins is taken.
-#[tactic(auto, unfolding(crate::specs::Built::faulty_is_built))]
-pub(crate) fn takes_faulty(_twins: u8) -> bool
-    ensures { result ≡ faulty_is_built _twins }
-{
-    false
-}
-
 /// Whether such an event is taken.
 #[tactic(auto, unfolding(crate::specs::Built::event_is_built))]
 pub(crate) fn takes_event(event: &Event) -> bool
     ensures { result ≡ event_is_built event.now }
 {
     match event {
-        Event::Invoke { .. } | Event::Deliver { core: None, .. } => true,
-        Event::Deliver { core: Some(_), .. } | Event::Timeout { .. } | Event::Inject { .. } =>
-            false,
+        Event::Invoke { .. } | Event::Deliver { .. } | Event::Inject { .. } => true,
+        Event::Timeout { .. } => false,
     }
 }

@@ -23,7 +23,9 @@ pub use event::{Core, Event};
 pub use fault::TextFault;
 pub use items::Items;
 pub use line::{Breach, Cause, Line, Premise};
-pub use reading::{fault_is_first, one_reading, read_is_spelled, read_schedule, spelled_is_read};
+pub use reading::{
+    fault_is_first, one_reading, read_is_in_form, read_is_spelled, read_schedule, spelled_is_read,
+};
 pub use report::{write_end, write_log, write_premise, write_seen};
 pub use schedule::{Head, Schedule};
 

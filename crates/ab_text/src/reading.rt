@@ -7,9 +7,10 @@ ghost use Rattle.ab_text.specs.Heads.{Script};
 ghost use Rattle.ab_text.specs.Settings.{set_up};
 ghost use Rattle.ab_text.specs.Faults.{BeginsBuilt, BeginsNone, BeginsNoneBuilt};
 ghost use Rattle.ab_text.specs.Spelling.{IsBuilt, IsSpelled};
+ghost use Rattle.ab_text.specs.Forms.{IsInForm};
 ghost use Rattle.ab_text.specs.Schedules.{ReadsEvents, ReadsFaulty, ReadsText, FaultOf, script_of};
 
-use crate::built::{takes_event, takes_faulty};
+use crate::built::takes_event;
 use crate::event_lines::event_of;
 use crate::fault::TextFault;
 use crate::faulty::next_faulty;
@@ -101,12 +102,7 @@ fn faulty_after(
         }
         match next_faulty(setting, faulty.as_slice(), line) {
             None => return Err(TextFault::BadLine(n)),
-            Some((party, twins)) => {
-                if !takes_faulty(twins) {
-                    return Err(TextFault::NotBuilt(n));
-                }
-                faulty.push((party, twins))?;
-            }
+            Some((party, twins)) => faulty.push((party, twins))?,
         }
         rest = after;
         n += 1;
@@ -128,6 +124,12 @@ pub fn read_schedule(alloc: Global, text: &[u8]) -> Result<Schedule, TextFault>
 /// What is read as a schedule is spelled so, and all of its forms are built.
 pub fn read_is_spelled()
     ensures { (text : List ℕ) (s : Script) → ReadsText text (Ok s) → IsSpelled text s × IsBuilt s }
+{}
+
+/// What is read as a schedule has a plan that is built, faulty parties of the cluster, each once with
+/// 1 to 4 twins, and events in form.
+pub fn read_is_in_form()
+    ensures { (text : List ℕ) (s : Script) → ReadsText text (Ok s) → IsInForm s }
 {}
 
 /// What is spelled so is read where all of its forms are built, and is otherwise no bad line.

@@ -3,8 +3,9 @@
 ghost use Rattle.std.specs.Prelude.{◌≡◌, ◌<◌, ◌^◌};
 
 use crate::{
-    Breach, Cause, Event, Items, Line, Premise, TextFault, one_reading, read_is_spelled,
-    read_schedule, spelled_is_read, write_end, write_log, write_premise, write_seen,
+    Breach, Cause, Core, Event, Items, Line, Premise, TextFault, fault_is_first, one_reading,
+    read_is_in_form, read_is_spelled, read_schedule, spelled_is_read, write_end, write_log,
+    write_premise, write_seen,
 };
 use ab_num::{Height, Party, Plan, ServiceName};
 use arrayvec::ArrayVec;
@@ -76,18 +77,25 @@ fn heads(rt: HostRuntime) -> Result<(), Fail> {
     Ok(())
 }
 
+/// Checks that what follows the head is refused so.
+fn refused(alloc: Global, rt: &impl Abort, cases: &[(&str, TextFault)]) -> Result<(), Fail> {
+    for (rest, fault) in cases {
+        let text = format!(in alloc; "{HEAD}{rest}")?;
+        assert_eq!(rt;
+            fault_in(alloc, rt, text.as_bytes()),
+            Some(*fault),
+            "{rest}"
+        );
+    }
+    Ok(())
+}
+
 #[test]
 fn lines(rt: HostRuntime) -> Result<(), Fail> {
     let alloc = rt.alloc();
     let long =
         "invoke c0 aaaaaaaaaaaaaaaaaaaaaaaaaaaaaaaaaaaaaaaaaaaaaaaaaaaaaaaaaaaaaaaaaaaaaaaaaaaaaaaaaaaaaaaaaaaaaaaaaaaaaaaaaaaaaaaaaaaaaaaaaaaaaaaaa";
     let cases = [
-        ("faulty r1 0", TextFault::BadLine(7)),
-        ("faulty r1 5", TextFault::BadLine(7)),
-        ("faulty r4 1", TextFault::BadLine(7)),
-        ("faulty c2 1", TextFault::BadLine(7)),
-        ("faulty r1 2", TextFault::NotBuilt(7)),
-        ("faulty c1 1", TextFault::NotBuilt(7)),
         ("run", TextFault::NoEnd(8)),
         ("run\ndeliver 99", TextFault::NoEnd(9)),
         ("run\nend\n\n", TextFault::BadLine(9)),
@@ -98,7 +106,9 @@ fn lines(rt: HostRuntime) -> Result<(), Fail> {
         ("run\ndeliver 01", TextFault::BadLine(8)),
         ("run\ndeliver 1 ", TextFault::BadLine(8)),
         ("run\ndeliver 1 r0 r0", TextFault::BadLine(8)),
-        ("run\ndeliver 99 r9", TextFault::NotBuilt(8)),
+        ("run\ndeliver 99 r9", TextFault::NoEnd(9)),
+        ("run\ndeliver 1 r0.0", TextFault::BadLine(8)),
+        ("run\ndeliver 1 r0.256", TextFault::BadLine(8)),
         ("run\ndeliver 18446744073709551616", TextFault::BadLine(8)),
         ("run\ntimeout r300", TextFault::BadLine(8)),
         ("run\ntimeout r9", TextFault::NotBuilt(8)),
@@ -107,10 +117,6 @@ fn lines(rt: HostRuntime) -> Result<(), Fail> {
         ("run\ntimeout r1.", TextFault::BadLine(8)),
         ("run\ntimeout R0", TextFault::BadLine(8)),
         ("run\ntimeout r00", TextFault::BadLine(8)),
-        ("run\ninject r0 ", TextFault::BadLine(8)),
-        ("run\ninject r0 abc", TextFault::BadLine(8)),
-        ("run\ninject r0 AB", TextFault::BadLine(8)),
-        ("run\ninject r0.1 0abf", TextFault::NotBuilt(8)),
         ("run\ninvoke c0 a\x7f", TextFault::BadLine(8)),
         ("run\ninvoke c0 a\tb", TextFault::BadLine(8)),
         ("run\ninvoke c0 ", TextFault::BadLine(8)),
@@ -119,14 +125,7 @@ fn lines(rt: HostRuntime) -> Result<(), Fail> {
         ("run\ninvoke r9 x", TextFault::BadLine(8)),
         (long, TextFault::BadLine(7)),
     ];
-    for (rest, fault) in cases {
-        let text = format!(in alloc; "{HEAD}{rest}")?;
-        assert_eq!(rt;
-            fault_in(alloc, &rt, text.as_bytes()),
-            Some(fault),
-            "{rest}"
-        );
-    }
+    refused(alloc, &rt, &cases)?;
     let text = format!(in alloc; "{HEAD}run\n{long}")?;
     assert_eq!(rt;
         fault_in(alloc, &rt, text.as_bytes()),
@@ -144,8 +143,10 @@ fn reads(rt: HostRuntime) -> Result<(), Fail> {
     let text =
         b"abstract 1\nf 1\nplan quorum\nclients 1\nservice echo\nlms 5\nrun\ninvoke c0  x \ndeliver 1\ndeliver 8\nend\n";
     read_is_spelled();
+    read_is_in_form();
     spelled_is_read();
     one_reading();
+    fault_is_first();
     assert!(rt; text.len() < 1000);
     match read_schedule(rt.alloc(), text) {
         Err(_) => assert!(rt; false),
@@ -174,6 +175,120 @@ fn reads(rt: HostRuntime) -> Result<(), Fail> {
         }
     }
     Ok(())
+}
+
+#[test]
+fn faulty_lines(rt: HostRuntime) -> Result<(), Fail> {
+    let cases = [
+        ("faulty r1 0", TextFault::BadLine(7)),
+        ("faulty r1 5", TextFault::BadLine(7)),
+        ("faulty r1", TextFault::BadLine(7)),
+        ("faulty r1.1 1", TextFault::BadLine(7)),
+        ("faulty r4 1", TextFault::BadLine(7)),
+        ("faulty c2 1", TextFault::BadLine(7)),
+        ("faulty r1 2", TextFault::NoEnd(8)),
+        ("faulty c1 1", TextFault::NoEnd(8)),
+        ("faulty c1 1\nfaulty r1 2\nrun\nend", TextFault::BadLine(8)),
+        ("faulty r1 2\nfaulty r1 2\nrun\nend", TextFault::BadLine(8)),
+        ("faulty r2 1\nfaulty r1 1\nrun\nend", TextFault::BadLine(8)),
+        ("run\nfaulty r1 2\nend", TextFault::BadLine(8)),
+        (
+            "faulty r1 2\nfaulty c1 1\nrun\nend\nend",
+            TextFault::BadLine(11),
+        ),
+        (
+            "faulty r1 2\nfaulty c1 1\nrun\ndeliver 99",
+            TextFault::NoEnd(11),
+        ),
+        (
+            "faulty r1 2\nfaulty c1 1\nrun\ntimeout r1.2\nend",
+            TextFault::NotBuilt(10),
+        ),
+    ];
+    refused(rt.alloc(), &rt, &cases)
+}
+
+#[test]
+fn injections(rt: HostRuntime) -> Result<(), Fail> {
+    let cases = [
+        ("run\ninject r0", TextFault::BadLine(8)),
+        ("run\ninject r0 ", TextFault::BadLine(8)),
+        ("run\ninject r0 abc", TextFault::BadLine(8)),
+        ("run\ninject r0 AB", TextFault::BadLine(8)),
+        ("run\ninject c0 0A", TextFault::BadLine(8)),
+        ("run\ninject r0 0g", TextFault::BadLine(8)),
+        ("run\ninject r0.0 0a", TextFault::BadLine(8)),
+        ("run\ninject r0.1 0abf", TextFault::NoEnd(9)),
+    ];
+    refused(rt.alloc(), &rt, &cases)
+}
+
+#[test]
+fn reads_twins(rt: HostRuntime) -> Result<(), Fail> {
+    let alloc = rt.alloc();
+    let text = format!(in alloc;
+        "{HEAD}faulty r0 1\nfaulty r3 4\nfaulty c0 2\nrun\ninvoke c0.2 x\ndeliver 1 r0.1\ninject c0 0a\ninject r9.255 00ff\nend\n"
+    )?;
+    assert!(rt; text.len() < 1000);
+    match read_schedule(alloc, text.as_bytes()) {
+        Err(_) => assert!(rt; false),
+        Ok(schedule) => {
+            assert_eq!(rt;
+                schedule.head.faulty.as_slice(),
+                [
+                    (Party::Replica(0), 1),
+                    (Party::Replica(3), 4),
+                    (Party::Client(0), 2)
+                ]
+                .as_slice()
+            );
+            has_twin_events(&rt, schedule.events.as_slice());
+        }
+    }
+    Ok(())
+}
+
+/// Checks that these are the events of the schedule with twins.
+fn has_twin_events(rt: &impl Abort, events: &[Event]) {
+    match events {
+        [
+            Event::Invoke {
+                core: Core {
+                    party: Party::Client(0),
+                    twin: Some(2),
+                },
+                command,
+            },
+            Event::Deliver {
+                packet: 1,
+                core: Some(
+                    Core {
+                        party: Party::Replica(0),
+                        twin: Some(1),
+                    },
+                ),
+            },
+            Event::Inject {
+                core: Core {
+                    party: Party::Client(0),
+                    twin: None,
+                },
+                bytes: one,
+            },
+            Event::Inject {
+                core: Core {
+                    party: Party::Replica(9),
+                    twin: Some(255),
+                },
+                bytes: two,
+            },
+        ] => {
+            assert_eq!(rt; command.as_slice(), b"x".as_slice());
+            assert_eq!(rt; one.as_slice(), [10].as_slice());
+            assert_eq!(rt; two.as_slice(), [0, 255].as_slice());
+        }
+        _ => assert!(rt; false),
+    }
 }
 
 /// A list of three entries.
