@@ -1,7 +1,10 @@
 //! One client.
 
-ghost use Rattle.std.specs.Prelude.{◌≡◌, ◌≢◌, ℕ, ◌+◌, ◌*◌, ◌^◌, ◌<◌, ◌≤◌, ◌∷◌, ◌&&◌, ◌==◌, [], List, Option, Bool, length, IsTrue, IfOk, IfErr, OnOk, OnErr, None, Some, ◌↔◌, ◌⊎◌};
+ghost use Rattle.std.specs.Prelude.{◌≡◌, ◌≢◌, ℕ, ◌+◌, ◌*◌, ◌^◌, ◌<◌, ◌≤◌, ◌∷◌, ◌&&◌, ◌==◌, [], List, All, Option, Bool, length, IsTrue, IfOk, IfErr, OnOk, OnErr, None, Some, ◌↔◌, ◌⊎◌};
 ghost use Rattle.ab_hist.specs.declared.request.Request.{Request as TheRequest};
+ghost use Rattle.ab_msg.specs.Claims.{content_of, maker_of};
+ghost use Rattle.ab_msg.specs.Grammar.{IsDraft};
+ghost use Rattle.ab_msg.specs.Views.{IsReceived, message};
 ghost use Rattle.ab_abs.specs.declared.ballot.Ballot.{Ballot as TheBallot};
 ghost use Rattle.ab_abs.specs.Messages.{Certificate};
 ghost use Rattle.ab_run.specs.Clients.{counting, to_all, request_msg};
@@ -10,8 +13,8 @@ ghost use Rattle.ab_run.specs.Local.{after_moves, marks_in_moves, sent_in_moves}
 ghost use Rattle.ab_client.specs.Clients.{is_waiting, Seat, told, got, after, sends, marks, InvokeCause};
 
 use ab_abs::{Ballot, Marks, ReplyRule, Seen, Votes};
-use ab_hist::{Request, copy_reply};
-use ab_msg::{Content, Msg, Out, Outs, Tags};
+use ab_hist::{Request, array_of, copy_reply};
+use ab_msg::{Content, ContentRef, Msg, MsgRef, Out, Outs, Tags};
 use ab_num::{Cluster, OutOfMemory, Party};
 use ab_run::Phase;
 use arrayvec::ArrayVec;
@@ -66,7 +69,7 @@ impl Model for Client {
       cli = record { at = c.instance; entry = None; phase = c.phase; stamp = c.stamp; last = c.last; votes = c.votes.ballots; kept = [] };
     } };
 
-    ghost invariant = { λ c. (c.f ≤ 2) × (c.votes.rule ≡ All) × (c.votes.replicas ≡ 3 * c.f + 1) };
+    ghost invariant = { λ c. (1 ≤ c.instance) × (c.f ≤ 2) × (c.votes.rule ≡ All) × (c.votes.replicas ≡ 3 * c.f + 1) };
 }
 
 /// The request of a client in an instance, to the first replicas.
@@ -76,7 +79,8 @@ fn requests(
     instance: u32,
     request: &Request,
 ) -> Result<Outs, OutOfMemory>
-    ensures { IfOk result (λ outs. outs ≡ to_all replicas (request_msg instance request.now.client request.now)) }
+    ensures outs { IfOk result (λ outs. outs ≡ to_all replicas (request_msg instance request.now.client request.now)) }
+    ensures drafts { IsDraft (request_msg instance request.now.client request.now) → IfOk result (λ outs. All (λ o. IsDraft o.msg × (maker_of (content_of o.msg) ≡ Party.Client request.now.client)) outs) }
 {
     let mut outs = Outs::new(alloc);
     for r in 0..replicas {
@@ -158,6 +162,7 @@ impl Client {
         ensures client { (valid : Certificate → Option (List TheRequest)) → OnOk result (self.new ≡ after valid self.old (told command.now)) }
         ensures outs { (valid : Certificate → Option (List TheRequest)) → IfOk result (λ r. r.0 ≡ sends valid self.old (told command.now)) }
         ensures marks { (valid : Certificate → Option (List TheRequest)) → IfOk result (λ r. r.1.items ≡ marks valid self.old (told command.now)) }
+        ensures drafts { self.old.me ≤ 15 → IfOk result (λ r. All (λ o. IsDraft o.msg × (maker_of (content_of o.msg) ≡ Party.Client self.old.me)) r.0) }
         ensures stamp { OnOk result (self.new.cli.stamp ≡ self.old.cli.stamp + 1) }
         ensures idle { OnOk result (self.old.cli.phase ≡ Phase.Idle) }
         ensures cause { IfErr result (λ e. InvokeCause e self.old.cli.phase (length command.now)) }
@@ -239,17 +244,19 @@ impl Client {
         marks
     }
 
-    /// Takes a message. A response to the open request is counted; the client commits where the
-    /// votes of all replicas are equal. Nothing is allocated, and nothing else changes it.
-    pub fn on(&mut self, alloc: Global, msg: &Msg) -> Marks
-        ensures client { (valid : Certificate → Option (List TheRequest)) → self.new ≡ after valid self.old (got msg.now) }
-        ensures marks { (valid : Certificate → Option (List TheRequest)) → result.items ≡ marks valid self.old (got msg.now) }
-        ensures outs { (valid : Certificate → Option (List TheRequest)) → sends valid self.old (got msg.now) ≡ [] }
+    /// Takes a message that was read from bytes. A response to the open request is counted; the
+    /// client commits where the votes of all replicas are equal. Nothing is allocated, and nothing
+    /// else changes it.
+    pub fn on(&mut self, alloc: Global, msg: &MsgRef<'_>) -> Marks
+        requires received { IsReceived msg.now }
+        ensures client { (valid : Certificate → Option (List TheRequest)) → self.new ≡ after valid self.old (got (message msg.now)) }
+        ensures marks { (valid : Certificate → Option (List TheRequest)) → result.items ≡ marks valid self.old (got (message msg.now)) }
+        ensures outs { (valid : Certificate → Option (List TheRequest)) → sends valid self.old (got (message msg.now)) ≡ [] }
         ensures stamp { self.new.cli.stamp ≡ self.old.cli.stamp }
     {
         match msg {
-            Msg::Resp {
-                content: Content::Resp {
+            MsgRef::Resp {
+                content: ContentRef::Resp {
                     maker: Party::Replica(by),
                     instance,
                     client,
@@ -258,7 +265,7 @@ impl Client {
                     d,
                     reply,
                 },
-                tag: _,
+                ..
             } => {
                 if !self.awaits(*instance, *client, *stamp) {
                     return Marks::new_in(alloc);
@@ -266,8 +273,8 @@ impl Client {
                 let ballot = Ballot {
                     by: *by,
                     n: *n,
-                    d: *d,
-                    reply: copy_reply(reply),
+                    d: **d,
+                    reply: array_of(reply),
                 };
                 self.count(alloc, ballot)
             }

@@ -1,15 +1,16 @@
 //! A client by itself: what it refuses, what it sends, and when it commits.
 
 use super::*;
-use ab_abs::Seen;
+use ab_abs::{Marks, Seen};
 use ab_hist::array_of;
-use ab_msg::{Content, Msg, NO_TAG};
-use ab_num::{Cluster, Party, Plan};
+use ab_msg::{Content, Msg, NO_TAG, is_message, read, write};
+use ab_num::{Cluster, OutOfMemory, Party, Plan};
+use std::alloc::Global;
 use std::test::Fail;
 
-/// The answer of a replica to request 1 of client 0, with this number.
-fn answer(by: u8, n: u16) -> Msg {
-    Msg::Resp {
+/// The bytes of a replica's answer to request 1 of client 0, with this number.
+fn answer(alloc: Global, by: u8, n: u16) -> Result<Vec<u8>, OutOfMemory> {
+    let m = Msg::Resp {
         content: Content::Resp {
             maker: Party::Replica(by),
             instance: 1,
@@ -20,7 +21,26 @@ fn answer(by: u8, n: u16) -> Msg {
             reply: array_of(b"ok"),
         },
         tag: NO_TAG,
+    };
+    if is_message(&m) {
+        write(alloc, &m)
+    } else {
+        Ok(Vec::new(alloc))
     }
+}
+
+/// What is observed as an answer comes to a client, none where it can't be read.
+fn heard(alloc: Global, client: &mut Client, by: u8, n: u16) -> Result<Option<Marks>, OutOfMemory> {
+    let bytes = answer(alloc, by, n)?;
+    match read(&bytes) {
+        Ok(m) => Ok(Some(client.on(alloc, &m))),
+        Err(_) => Ok(None),
+    }
+}
+
+/// How much is observed.
+fn counted(marks: Option<Marks>) -> Option<usize> {
+    Some(marks?.len())
 }
 
 /// The number of a commit, if that is all that was seen.
@@ -62,11 +82,11 @@ fn all_votes_commit(rt: HostRuntime) -> Result<(), Fail> {
     let mut client = Client::new(&c, 0);
     client.invoke(alloc, b"x").ok().ok_or("memory")?;
     for by in 0..3u8 {
-        assert_eq!(rt; client.on(alloc, &answer(by, 7)).len(), 0);
+        assert_eq!(rt; counted(heard(alloc, &mut client, by, 7)?), Some(0));
     }
     // A second vote of a replica doesn't count.
-    assert_eq!(rt; client.on(alloc, &answer(2, 7)).len(), 0);
-    let marks = client.on(alloc, &answer(3, 7));
+    assert_eq!(rt; counted(heard(alloc, &mut client, 2, 7)?), Some(0));
+    let marks = heard(alloc, &mut client, 3, 7)?.ok_or("read")?;
     assert_eq!(rt; committed(marks.as_slice()), Some(7));
     assert_eq!(rt; client.open(), false);
     Ok(())
@@ -82,7 +102,7 @@ fn votes_that_differ_do_not(rt: HostRuntime) -> Result<(), Fail> {
     client.invoke(alloc, b"x").ok().ok_or("memory")?;
     for by in 0..4u8 {
         let n = if by == 3 { 8 } else { 7 };
-        assert_eq!(rt; client.on(alloc, &answer(by, n)).len(), 0);
+        assert_eq!(rt; counted(heard(alloc, &mut client, by, n)?), Some(0));
     }
     assert_eq!(rt; client.open(), true);
     Ok(())

@@ -4,7 +4,7 @@ ghost use Rattle.ab_abs.specs.Places.{SendsOwn, SendsDrafts};
 
 use ab_abs::{Entry, Protocol, ReplyRule, StepFault};
 use ab_hist::History;
-use ab_msg::{Msg, Outs};
+use ab_msg::{MsgRef, Outs};
 use ab_num::{Cluster, OutOfMemory};
 use ab_svc::Service;
 use std::alloc::Global;
@@ -59,7 +59,7 @@ impl<S: Service> Protocol<S> for Null<S> {
         })
     }
 
-    fn on(&mut self, alloc: Global, _m: &Msg) -> Result<Outs, StepFault> {
+    fn on(&mut self, alloc: Global, _m: &MsgRef<'_>) -> Result<Outs, StepFault> {
         Ok(Outs::new(alloc))
     }
 

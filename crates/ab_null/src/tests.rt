@@ -6,17 +6,36 @@ ghost use Rattle.ab_num.specs.Places.{kind_of};
 use super::Null;
 use ab_abs::{Entry, Protocol, ReplyRule, StepFault};
 use ab_hist::{History, Request};
-use ab_msg::{Content, Msg, Tags};
-use ab_num::{Cluster, Party, Plan};
+use ab_msg::{Content, Msg, NO_TAG, Tags, is_message, read, write};
+use ab_num::{Cluster, OutOfMemory, Party, Plan};
 use ab_svc::Echo;
 use arrayvec::ArrayVec;
 use std::alloc::Global;
 
 fn request(stamp: u64) -> Request {
+    let mut command = ArrayVec::new();
+    let _ = command.try_extend_from_slice(b"hi");
     Request {
         client: 3,
         stamp,
-        command: ArrayVec::new(),
+        command,
+    }
+}
+
+/// The bytes of the second request, none where it has none.
+fn asked(alloc: Global) -> Result<Vec<u8>, OutOfMemory> {
+    let content = Content::Req {
+        maker: Party::Client(3),
+        instance: 2,
+        request: request(2),
+    };
+    let mut tags = Tags::new();
+    let _ = tags.try_push((0, NO_TAG));
+    let m = Msg::Req { content, tags };
+    if is_message(&m) {
+        write(alloc, &m)
+    } else {
+        Ok(Vec::new(alloc))
     }
 }
 
@@ -26,13 +45,11 @@ fn rests<P: Protocol<Echo>>(alloc: Global, c: &Cluster) -> Result<bool, StepFaul
     let mut base = History::new(alloc);
     let begun = base.push(alloc, request(1)).is_ok();
     let mut replica = P::start(alloc, c, 2, 0, &Entry { base })?;
-    let content = Content::Req {
-        maker: Party::Client(3),
-        instance: 2,
-        request: request(2),
+    let bytes = asked(alloc)?;
+    let Ok(m) = read(&bytes) else {
+        return Ok(false);
     };
-    let tags = Tags::new();
-    let outs = replica.on(alloc, &Msg::Req { content, tags })?;
+    let outs = replica.on(alloc, &m)?;
     replica.stop();
     let same = replica.copy(alloc)?;
     let none = same.first().is_none() && same.timer().is_none();

@@ -5,7 +5,7 @@ ghost use Rattle.ab_quorum.specs.Rules.{log_with, responses};
 
 use ab_abs::{Book, Entry, Protocol, ReplyRule, StepFault, respond};
 use ab_hist::{History, Request};
-use ab_msg::{Content, Msg, Outs};
+use ab_msg::{ContentRef, MsgRef, Outs};
 use ab_num::{Cluster, OutOfMemory};
 use ab_svc::Service;
 use std::alloc::Global;
@@ -82,12 +82,12 @@ impl<S: Service> Protocol<S> for Quorum<S> {
         })
     }
 
-    fn on(&mut self, alloc: Global, m: &Msg) -> Result<Outs, StepFault> {
+    fn on(&mut self, alloc: Global, m: &MsgRef<'_>) -> Result<Outs, StepFault> {
         match m {
-            Msg::Req {
-                content: Content::Req { request, .. },
+            MsgRef::Req {
+                content: ContentRef::Req { request, .. },
                 ..
-            } => Ok(self.answer(alloc, request)?),
+            } => Ok(self.answer(alloc, &request.own())?),
             _ => Ok(Outs::new(alloc)),
         }
     }

@@ -7,7 +7,7 @@ ghost use Rattle.ab_num.specs.Places.{kind_of};
 use super::Quorum;
 use ab_abs::{Entry, Protocol, ReplyRule, StepFault};
 use ab_hist::{History, Request};
-use ab_msg::{Content, Msg, Out, Outs, Tags};
+use ab_msg::{Content, Msg, NO_TAG, Out, Outs, Tags, is_message, read, write};
 use ab_num::{Cluster, OutOfMemory, Party, Plan};
 use ab_svc::Echo;
 use arrayvec::ArrayVec;
@@ -19,7 +19,8 @@ const DIGEST: [u8; 32] = [
     0xea, 0x10, 0x7a, 0x23, 0x68, 0x18, 0xb7, 0x8f, 0x74, 0xcb, 0x50, 0x59, 0xcc, 0x3e, 0xea, 0x8e,
 ];
 
-fn request(stamp: u64) -> Msg {
+/// The bytes of client 3's request `hi` of this stamp, none where it has none.
+fn request(alloc: Global, stamp: u64) -> Result<Vec<u8>, OutOfMemory> {
     let mut command = ArrayVec::new();
     let _ = command.try_extend_from_slice(b"hi");
     let content = Content::Req {
@@ -31,9 +32,28 @@ fn request(stamp: u64) -> Msg {
             command,
         },
     };
-    Msg::Req {
-        content,
-        tags: Tags::new(),
+    let mut tags = Tags::new();
+    let _ = tags.try_push((2, NO_TAG));
+    let m = Msg::Req { content, tags };
+    if is_message(&m) {
+        write(alloc, &m)
+    } else {
+        Ok(Vec::new(alloc))
+    }
+}
+
+/// What a replica sends on the message that the bytes spell, nothing where they spell none.
+fn heard<P: Protocol<Echo>>(
+    alloc: Global,
+    replica: &mut P,
+    bytes: &[u8],
+) -> Result<Vec<Out>, StepFault> {
+    match read(bytes) {
+        Ok(m) => {
+            let outs = replica.on(alloc, &m)?;
+            Ok(listed(alloc, outs)?)
+        }
+        Err(_) => Ok(Vec::new(alloc)),
     }
 }
 
@@ -75,10 +95,9 @@ fn are_answer(all: &Vec<Out>) -> bool {
 
 /// Whether a replica answers the first request, and so again.
 fn answers_twice<P: Protocol<Echo>>(alloc: Global, replica: &mut P) -> Result<bool, StepFault> {
-    let first = replica.on(alloc, &request(1))?;
-    let again = replica.on(alloc, &request(1))?;
-    let first = listed(alloc, first)?;
-    let again = listed(alloc, again)?;
+    let bytes = request(alloc, 1)?;
+    let first = heard(alloc, replica, &bytes)?;
+    let again = heard(alloc, replica, &bytes)?;
     Ok(are_answer(&first) && are_answer(&again) && replica.log().len() == 1)
 }
 
@@ -86,7 +105,11 @@ fn answers_twice<P: Protocol<Echo>>(alloc: Global, replica: &mut P) -> Result<bo
 fn rests<P: Protocol<Echo>>(alloc: Global, replica: &mut P) -> Result<bool, StepFault> {
     let open = replica.may_panic() && !replica.stopped();
     replica.stop();
-    let outs = replica.on(alloc, &request(2))?;
+    let bytes = request(alloc, 2)?;
+    let Ok(m) = read(&bytes) else {
+        return Ok(false);
+    };
+    let outs = replica.on(alloc, &m)?;
     let same = replica.copy(alloc)?;
     let none = same.first().is_none() && same.timer().is_none();
     Ok(open && outs.len() == 0 && same.stopped() && none && same.log().len() == 1)
