@@ -1,0 +1,15 @@
+//! What was sent in a run, and what was stated.
+#![tactic(auto)]
+
+mod fault;
+mod packet;
+mod packets;
+mod statements;
+
+pub use fault::SendFault;
+pub use packet::Packet;
+pub use packets::Packets;
+pub use statements::Statements;
+
+#[cfg(test)]
+mod tests;
