@@ -1,0 +1,7 @@
+-- Lemmas of this crate.
+pub mod SetupLemmas
+pub mod PlaceLemmas
+pub mod CoreLemmas
+pub mod StepLemmas
+pub mod StandLemmas
+pub mod CastLemmas

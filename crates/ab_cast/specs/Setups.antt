@@ -1,0 +1,88 @@
+-- What a cluster is set up with: its size and plan, and its faulty parties. The keys of its parties are those of the seed of zeros.
+use Rattle.std.specs.Prelude.{IsTrue, All, ◌≡◌, ℕ, ◌<◌, ◌-◌, ◌+◌, ◌*◌, ◌==◌, ◌&&◌, if◌then◌else◌, Bool, Option, None, Some, List, [], map, position, replicate, slice_get}
+use Rattle.std.specs.List.{flat_map, range_with_len}
+use Rattle.std.specs.Option.{option_map}
+use Rattle.ab_num.specs.declared.party.Party.{Party}
+use Rattle.ab_num.specs.declared.party.Party.TheVariants.{Replica, Client}
+use Rattle.ab_num.specs.declared.plan.Plan.{Plan}
+use Rattle.ab_keys.specs.Keys.{is_party}
+use Rattle.ab_keys.specs.Rings.{Ring, ring_of}
+use Rattle.ab_abs.specs.Faults.{is_faulty}
+use Rattle.ab_run.specs.Clusters.{Cluster}
+use Rattle.ab_cast.specs.declared.place.Place.{Place}
+use Rattle.ab_cast.specs.declared.place.Place.TheVariants as place
+
+-- each faulty party stands with the number of its cores
+pub record Setup : Type 0 where
+  pub f : ℕ
+  pub clients : ℕ
+  pub plan : Plan
+  pub faulty : List (Party × ℕ)
+
+-- the cluster as a run sees it. Nothing is signed
+abbrev pub cluster_of : Setup → Cluster
+cluster_of x = record { f = x.f; clients = x.clients; faulty = map (λ e. e.0) x.faulty; signatures = 0 }
+
+abbrev pub is_bad : Setup → Party → Bool
+is_bad x p = is_faulty (cluster_of x).faulty p
+
+-- the keys of a party
+abbrev pub ring_at : Setup → Party → Ring
+ring_at x p = ring_of x.f x.clients x.plan (replicate 32 0) p
+
+-- ---- where cores are
+
+-- the cores of a faulty party from its second on, of replicas and of clients: the party's number, and the core's
+abbrev pub twins_of_replica : Party → ℕ → List (ℕ × ℕ)
+twins_of_replica (Replica r) cores = map (λ t. (r, t)) (range_with_len 2 (cores - 1))
+twins_of_replica (Client c) cores = []
+
+abbrev pub twins_of_client : Party → ℕ → List (ℕ × ℕ)
+twins_of_client (Replica r) cores = []
+twins_of_client (Client c) cores = map (λ t. (c, t)) (range_with_len 2 (cores - 1))
+
+abbrev pub replica_twins : List (Party × ℕ) → List (ℕ × ℕ)
+replica_twins faulty = flat_map (λ e. twins_of_replica e.0 e.1) faulty
+
+abbrev pub client_twins : List (Party × ℕ) → List (ℕ × ℕ)
+client_twins faulty = flat_map (λ e. twins_of_client e.0 e.1) faulty
+
+-- the first core of a party is the party's own
+abbrev pub own_place : Party → Place
+own_place (Replica r) = place.Replica r
+own_place (Client c) = place.Client c
+
+-- core number twin of a party, if it has so many
+abbrev pub twin_place : List (Party × ℕ) → Party → ℕ → Option Place
+twin_place faulty (Replica r) twin = option_map (place.ReplicaTwin r) (position (λ k. (k.0 == r) && (k.1 == twin)) (replica_twins faulty))
+twin_place faulty (Client c) twin = option_map (place.ClientTwin c) (position (λ k. (k.0 == c) && (k.1 == twin)) (client_twins faulty))
+
+-- only a faulty party has numbered cores
+abbrev pub numbered_place : Setup → Party → Option ℕ → Option Place
+numbered_place x p None = Some (own_place p)
+numbered_place x p (Some twin) =
+    if is_bad x p then (if twin == 1 then Some (own_place p) else twin_place x.faulty p twin) else None
+
+-- the place of a core, if the cluster has it
+abbrev pub place_of : Setup → Party → Option ℕ → Option Place
+place_of x p twin = if is_party x.f x.clients p then numbered_place x p twin else None
+
+-- a core without a number is the party's first
+abbrev pub core_number : Option ℕ → ℕ
+core_number None = 1
+core_number (Some twin) = twin
+
+-- whose core stands at a place
+abbrev pub party_at : Place → Party
+party_at (place.Replica r) = Replica r
+party_at (place.Client c) = Client c
+party_at (place.ReplicaTwin r at) = Replica r
+party_at (place.ClientTwin c at) = Client c
+
+-- the faulty ones are parties, the rings of the parties stand by their numbers, and the further cores of the faulty parties in the order of the list
+pub record IsSetup (x : Setup) (replica_rings client_rings : List Ring) (replicas clients : List (ℕ × ℕ)) : Type 0 where
+  pub parties : All (λ e. IsTrue (is_party x.f x.clients e.0)) x.faulty
+  pub of_replicas : (r : ℕ) → r < 3 * x.f + 1 → slice_get replica_rings r ≡ Some (ring_at x (Replica r))
+  pub of_clients : (c : ℕ) → c < x.clients → slice_get client_rings c ≡ Some (ring_at x (Client c))
+  pub twins_of_replicas : replicas ≡ replica_twins x.faulty
+  pub twins_of_clients : clients ≡ client_twins x.faulty

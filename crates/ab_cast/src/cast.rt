@@ -1,0 +1,246 @@
+//! The cores of all parties.
+
+ghost use Rattle.std.specs.Prelude.{◌≡◌, ◌+◌, ◌*◌, ◌<◌, ◌≤◌, ◌⊎◌, ℕ, All, IsTrue, IfOk, IfErr, IfSome, MatchOption, OnOk, OnErr, Option, Some, None, length, slice_get};
+ghost use Rattle.std.specs.Option.{option_map};
+ghost use Rattle.ab_num.specs.declared.party.Party.{Party as TheParty};
+ghost use Rattle.ab_num.specs.Places.{kind_of};
+ghost use Rattle.ab_msg.specs.Claims.{maker_of, content_of};
+ghost use Rattle.ab_msg.specs.Grammar.{IsDraft};
+ghost use Rattle.ab_msg.specs.Views.{IsReceived, message as message_of};
+ghost use Rattle.ab_abs.specs.Places.{SendsOwn, SendsDrafts};
+ghost use Rattle.ab_keys.specs.Keys.{is_party};
+ghost use Rattle.ab_client.specs.Clients.{Seat};
+ghost use Rattle.ab_cast.specs.Setups.{place_of, party_at};
+ghost use Rattle.ab_cast.specs.Cores.{Core, client, command, message, core_after, core_sends, core_marks};
+ghost use Rattle.ab_cast.specs.Casts.{AreSeats, core_at, with_core, next, first_cast, is_free, command_refusal, CommandCause};
+ghost use Rattle.ab_cast.specs.Signing.{SignsNothing};
+
+use crate::cores::{
+    first_client_twins, first_clients, first_replica_twins, first_replicas, hear_client,
+    hear_replica, tell_client,
+};
+use crate::effects::Effects;
+use crate::fault::CommandFault;
+use crate::place::Place;
+use crate::replica::Replica;
+use crate::setup::Setup;
+use ab_abs::Protocol;
+use ab_client::Client;
+use ab_hist::History;
+use ab_msg::MsgRef;
+use ab_num::OutOfMemory;
+use ab_svc::Service;
+use std::alloc::Global;
+use std::marker::Model;
+
+/// Each party's own core, the further cores of faulty parties, and how many events came to them.
+#[derive(Drop)]
+pub struct Cast<S: Service, P: Protocol<S>> {
+    setup: Setup,
+    replicas: Vec<Replica<S, P>>,
+    clients: Vec<Client>,
+    replica_twins: Vec<Replica<S, P>>,
+    client_twins: Vec<Client>,
+    events: u32,
+}
+
+impl<S: Service, P: Protocol<S>> Model for Cast<S, P> {
+    ghost use Rattle.ab_cast.specs.Casts.{Cast as TheCast, IsCast};
+
+    ghost Value = { TheCast P };
+
+    ghost view = { λ x. record {
+      setup = x.setup;
+      replicas = x.replicas.items;
+      clients = x.clients.items;
+      replica_twins = x.replica_twins.items;
+      client_twins = x.client_twins.items;
+      events = x.events;
+    } };
+
+    ghost invariant = { λ x. IsCast P.proto (record {
+      setup = x.setup;
+      replicas = x.replicas.items;
+      clients = x.clients.items;
+      replica_twins = x.replica_twins.items;
+      client_twins = x.client_twins.items;
+      events = x.events;
+    }) };
+}
+
+impl<S: Service, P: Protocol<S>> Cast<S, P> {
+    /// The cores before the first event, where P serves the kind that the plan gives to instance 1.
+    pub fn new(alloc: Global, setup: Setup) -> Result<Self, OutOfMemory>
+        requires { IsTrue (P.serves (kind_of setup.plan 1)) }
+        ensures { IfOk result (λ x. x ≡ first_cast P.proto setup) }
+    {
+        let cluster = setup.cluster();
+        let replicas = first_replicas(alloc, cluster)?;
+        let clients = first_clients(alloc, cluster)?;
+        let replica_twins = first_replica_twins(alloc, &setup)?;
+        let client_twins = first_client_twins(alloc, &setup)?;
+        Ok(Cast {
+            setup,
+            replicas,
+            clients,
+            replica_twins,
+            client_twins,
+            events: 0,
+        })
+    }
+
+    /// What the cluster is set up with.
+    pub fn setup(&self) -> &Setup
+        ensures { result.now ≡ self.now.setup }
+    {
+        &self.setup
+    }
+
+    /// How many events there were.
+    pub fn events(&self) -> u32
+        ensures number { result ≡ self.now.events }
+        ensures few { result ≤ 100000 }
+    {
+        self.events
+    }
+
+    /// The log that replica `r` has. None exactly where there is no such replica.
+    pub fn log_of(&self, r: u8) -> Option<&History>
+        ensures { MatchOption result (slice_get self.now.replicas r ≡ None)
+            (λ log. IfSome (slice_get self.now.replicas r) (λ s. log.now ≡ (P.proto.state s.value).log)) }
+    {
+        let replica = self.replicas.get(r as usize)?;
+        Some(replica.log())
+    }
+
+    /// The instance in which replica `r` is. None exactly where there is no such replica.
+    pub fn instance_of(&self, r: u8) -> Option<u32>
+        ensures { result ≡ option_map (λ s. s.at) (slice_get self.now.replicas r) }
+    {
+        let replica = self.replicas.get(r as usize)?;
+        Some(replica.instance())
+    }
+
+    /// Whether client `c` is there and its own core has no request open.
+    fn is_free(&self, c: usize) -> bool
+        ensures { result ≡ is_free (slice_get self.now.clients c) }
+    {
+        match self.clients.get(c) {
+            Some(client) => !client.open(),
+            None => false,
+        }
+    }
+
+    /// For each number whether it is that of a client whose own core has no request open.
+    pub fn idle(&self) -> [bool; 16]
+        ensures { (c : ℕ) → c < 16 → slice_get result c ≡ Some (is_free (slice_get self.now.clients c)) }
+    {
+        let mut idle = [false; 16];
+        for c in 0..16 {
+            idle[c] = self.is_free(c);
+        }
+        idle
+    }
+
+    /// An event that changes no core.
+    pub fn pass(&mut self)
+        requires { self.old.events < 100000 }
+        ensures { self.new ≡ next self.old }
+    {
+        self.events += 1;
+    }
+
+    /// The core at a place of the cluster takes a message that its party opened. After an `Err` all
+    /// is as before.
+    pub fn hear(
+        &mut self,
+        alloc: Global,
+        place: Place,
+        m: &MsgRef<'_>,
+    ) -> Result<Effects, OutOfMemory>
+        requires quiet { SignsNothing P.proto }
+        requires few { self.old.events < 100000 }
+        requires received { IsReceived m.now }
+        requires there { (twin : Option ℕ) × (place_of self.old.setup (party_at place) twin ≡ Some place) }
+        ensures cast { (s : Core P) → core_at self.old place ≡ Some s
+            → OnOk result (self.new ≡ next (with_core self.old place (core_after P.proto (party_at place) s (message (message_of m.now))))) }
+        ensures outs { (s : Core P) → core_at self.old place ≡ Some s
+            → IfOk result (λ e. e.outs ≡ core_sends P.proto (party_at place) s (message (message_of m.now))) }
+        ensures marks { (s : Core P) → core_at self.old place ≡ Some s
+            → IfOk result (λ e. e.marks.items ≡ core_marks P.proto (party_at place) s (message (message_of m.now))) }
+        ensures drafts { SendsDrafts P.proto → IfOk result (λ e. All (λ o. IsDraft o.msg) e.outs) }
+        ensures makers { SendsOwn P.proto → SendsDrafts P.proto → IfOk result (λ e. All (λ o. maker_of (content_of o.msg) ≡ party_at place) e.outs) }
+        ensures err { OnErr result (self.new ≡ self.old) }
+    {
+        match place {
+            Place::Replica(r) => {
+                let effects = hear_replica(alloc, &mut self.replicas, r as usize, m)?;
+                self.events += 1;
+                Ok(effects)
+            }
+            Place::Client(c) => {
+                let effects = hear_client(alloc, &mut self.clients, c as usize, m);
+                self.events += 1;
+                Ok(effects)
+            }
+            Place::ReplicaTwin(_, at) => {
+                let effects = hear_replica(alloc, &mut self.replica_twins, at, m)?;
+                self.events += 1;
+                Ok(effects)
+            }
+            Place::ClientTwin(_, at) => {
+                let effects = hear_client(alloc, &mut self.client_twins, at, m);
+                self.events += 1;
+                Ok(effects)
+            }
+        }
+    }
+
+    /// The core at a place of the cluster takes a command of 1 to 128 bytes. After an `Err` all is
+    /// as before.
+    pub fn invoke(
+        &mut self,
+        alloc: Global,
+        place: Place,
+        bytes: &[u8],
+    ) -> Result<Effects, CommandFault>
+        requires few { self.old.events < 100000 }
+        requires form { (0 < length bytes.now) × (length bytes.now ≤ 128) }
+        requires there { (twin : Option ℕ) × (place_of self.old.setup (party_at place) twin ≡ Some place) }
+        ensures cast { (s : Core P) → core_at self.old place ≡ Some s
+            → OnOk result (self.new ≡ next (with_core self.old place (core_after P.proto (party_at place) s (command (record { items = bytes.now }))))) }
+        ensures outs { (s : Core P) → core_at self.old place ≡ Some s
+            → IfOk result (λ e. e.outs ≡ core_sends P.proto (party_at place) s (command (record { items = bytes.now }))) }
+        ensures marks { (s : Core P) → core_at self.old place ≡ Some s
+            → IfOk result (λ e. e.marks.items ≡ core_marks P.proto (party_at place) s (command (record { items = bytes.now }))) }
+        ensures drafts { IfOk result (λ e. All (λ o. IsDraft o.msg) e.outs) }
+        ensures makers { IfOk result (λ e. All (λ o. maker_of (content_of o.msg) ≡ party_at place) e.outs) }
+        ensures idle { (s : Core P) → core_at self.old place ≡ Some s → OnOk result (command_refusal s ≡ None) }
+        ensures cause { (s : Core P) → core_at self.old place ≡ Some s → IfErr result (λ e. CommandCause e s) }
+        ensures err { OnErr result (self.new ≡ self.old) }
+    {
+        match place {
+            Place::Replica(_) => Err(CommandFault::NoClient),
+            Place::ReplicaTwin(_, _) => Err(CommandFault::NoClient),
+            Place::Client(c) => {
+                let effects = tell_client(alloc, &mut self.clients, c as usize, bytes)?;
+                self.events += 1;
+                Ok(effects)
+            }
+            Place::ClientTwin(_, at) => {
+                let effects = tell_client(alloc, &mut self.client_twins, at, bytes)?;
+                self.events += 1;
+                Ok(effects)
+            }
+        }
+    }
+}
+
+/// Each place that the setup gives has its core.
+pub fn places_have_cores<S: Service, P: Protocol<S>>(cast: &Cast<S, P>)
+    ensures cores { (p : TheParty) (twin : Option ℕ) (at : _) → place_of cast.now.setup p twin ≡ Some at → (s : Core P) × (core_at cast.now at ≡ Some s) }
+    ensures seats { AreSeats cast.now.setup.f cast.now.events cast.now.clients }
+    ensures sizes { (length cast.now.replicas ≡ 3 * cast.now.setup.f + 1) × (length cast.now.clients ≡ cast.now.setup.clients) }
+{
+    let _ = &cast.events;
+}

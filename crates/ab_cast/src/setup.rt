@@ -1,0 +1,238 @@
+//! What a cluster is set up with.
+
+ghost use Rattle.std.specs.Prelude.{◌≡◌, ◌+◌, ◌-◌, ◌*◌, ◌==◌, ◌&&◌, ◌++◌, All, IsTrue, IfOk, OnOk, map, position, replicate};
+ghost use Rattle.std.specs.List.{list_any, range_with_len};
+ghost use Rattle.std.specs.Option.{option_map};
+ghost use Rattle.ab_num.specs.declared.party.Party.TheVariants.{Replica, Client};
+ghost use Rattle.ab_num.specs.Parties.{party_eq};
+ghost use Rattle.ab_keys.specs.Keys.{is_party};
+ghost use Rattle.ab_keys.specs.Rings.{ring_of};
+ghost use Rattle.ab_cast.specs.declared.place.Place.TheVariants as place;
+ghost use Rattle.ab_cast.specs.Setups.{is_bad, place_of, twin_place, ring_at, replica_twins, client_twins};
+
+use crate::place::Place;
+use ab_keys::{KeyRing, is_party};
+use ab_num::{Cluster, OutOfMemory, Party};
+use std::alloc::Global;
+use std::marker::Model;
+
+/// A cluster with its faulty parties, the key ring of each party, and the places of their cores.
+#[derive(Drop)]
+pub struct Setup {
+    cluster: Cluster,
+    faulty: Vec<(Party, u8)>,
+    replica_rings: Vec<KeyRing>,
+    client_rings: Vec<KeyRing>,
+    replica_twins: Vec<(u8, u8)>,
+    client_twins: Vec<(u16, u8)>,
+}
+
+impl Model for Setup {
+    ghost use Rattle.ab_cast.specs.Setups.{Setup as TheSetup, IsSetup};
+
+    ghost Value = { TheSetup };
+
+    ghost view = { λ x. record { f = x.cluster.f; clients = x.cluster.clients; plan = x.cluster.plan; faulty = x.faulty.items } };
+
+    ghost invariant = { λ x. IsSetup
+        (record { f = x.cluster.f; clients = x.cluster.clients; plan = x.cluster.plan; faulty = x.faulty.items })
+        x.replica_rings.items x.client_rings.items x.replica_twins.items x.client_twins.items };
+}
+
+/// The rings of the replicas, by their numbers.
+fn replica_rings(alloc: Global, c: &Cluster) -> Result<Vec<KeyRing>, OutOfMemory>
+    ensures { IfOk result (λ rings. rings.items ≡ map (λ r. ring_of c.now.f c.now.clients c.now.plan (replicate 32 0) (Replica r)) (range_with_len 0 (3 * c.now.f + 1))) }
+{
+    let mut rings = Vec::new(alloc);
+    for r in 0..c.replicas() {
+        rings.push(KeyRing::derive(alloc, c, &[0; 32], Party::Replica(r))?)?;
+    }
+    Ok(rings)
+}
+
+/// The rings of the clients, by their numbers.
+fn client_rings(alloc: Global, c: &Cluster) -> Result<Vec<KeyRing>, OutOfMemory>
+    ensures { IfOk result (λ rings. rings.items ≡ map (λ n. ring_of c.now.f c.now.clients c.now.plan (replicate 32 0) (Client n)) (range_with_len 0 c.now.clients)) }
+{
+    let mut rings = Vec::new(alloc);
+    for n in 0..c.clients {
+        rings.push(KeyRing::derive(alloc, c, &[0; 32], Party::Client(n))?)?;
+    }
+    Ok(rings)
+}
+
+/// Adds the cores of a faulty party from its second on.
+fn add_twins<N: Copy>(twins: &mut Vec<(N, u8)>, number: N, cores: u8) -> Result<(), OutOfMemory>
+    ensures { OnOk result (twins.new.items ≡ twins.old.items ++ map (λ twin. (number, twin)) (range_with_len 2 (cores - 1))) }
+{
+    for earlier in 1..cores {
+        twins.push((number, earlier + 1))?;
+    }
+    Ok(())
+}
+
+/// The further cores of faulty replicas, in the order of the list.
+fn replica_twins(alloc: Global, faulty: &[(Party, u8)]) -> Result<Vec<(u8, u8)>, OutOfMemory>
+    ensures { IfOk result (λ twins. twins.items ≡ replica_twins faulty.now) }
+{
+    let mut twins = Vec::new(alloc);
+    for &(party, cores) in faulty {
+        if let Party::Replica(r) = party {
+            add_twins(&mut twins, r, cores)?;
+        }
+    }
+    Ok(twins)
+}
+
+/// The further cores of faulty clients, in the order of the list.
+fn client_twins(alloc: Global, faulty: &[(Party, u8)]) -> Result<Vec<(u16, u8)>, OutOfMemory>
+    ensures { IfOk result (λ twins. twins.items ≡ client_twins faulty.now) }
+{
+    let mut twins = Vec::new(alloc);
+    for &(party, cores) in faulty {
+        if let Party::Client(c) = party {
+            add_twins(&mut twins, c, cores)?;
+        }
+    }
+    Ok(twins)
+}
+
+/// Whether the two are one party.
+fn is_same(a: Party, b: Party) -> bool
+    ensures { result ≡ party_eq a b }
+{
+    match (a, b) {
+        (Party::Replica(r), Party::Replica(s)) => r == s,
+        (Party::Client(c), Party::Client(d)) => c == d,
+        (Party::Replica(_), Party::Client(_)) => false,
+        (Party::Client(_), Party::Replica(_)) => false,
+    }
+}
+
+/// Where a replica's core of this number stands among the further ones.
+fn replica_twin(twins: &[(u8, u8)], r: u8, number: u8) -> Option<usize>
+    ensures { result ≡ position (λ k. (k.0 == r) && (k.1 == number)) twins.now }
+{
+    twins.iter().position(|k| k.0 == r && k.1 == number)
+}
+
+/// The place of a replica's core of this number among the further ones.
+fn replica_twin_place(twins: &[(u8, u8)], r: u8, number: u8) -> Option<Place>
+    ensures { result ≡ option_map (place.ReplicaTwin r) (position (λ k. (k.0 == r) && (k.1 == number)) twins.now) }
+{
+    let at = replica_twin(twins, r, number)?;
+    Some(Place::ReplicaTwin(r, at))
+}
+
+/// Where a client's core of this number stands among the further ones.
+fn client_twin(twins: &[(u16, u8)], c: u16, number: u8) -> Option<usize>
+    ensures { result ≡ position (λ k. (k.0 == c) && (k.1 == number)) twins.now }
+{
+    twins.iter().position(|k| k.0 == c && k.1 == number)
+}
+
+/// The place of a client's core of this number among the further ones.
+fn client_twin_place(twins: &[(u16, u8)], c: u16, number: u8) -> Option<Place>
+    ensures { result ≡ option_map (place.ClientTwin c) (position (λ k. (k.0 == c) && (k.1 == number)) twins.now) }
+{
+    let at = client_twin(twins, c, number)?;
+    Some(Place::ClientTwin(c, at))
+}
+
+/// Whether the list has the party.
+fn has(faulty: &[(Party, u8)], party: Party) -> bool
+    ensures { result ≡ list_any (λ e. party_eq party e.0) faulty.now }
+{
+    faulty.iter().any(|e| is_same(party, e.0))
+}
+
+impl Setup {
+    /// The setup of a cluster in which these parties are faulty, each with the number of its cores.
+    /// The keys are those that the seed of 32 zeros gives.
+    pub fn new(
+        alloc: Global,
+        cluster: &Cluster,
+        faulty: &[(Party, u8)],
+    ) -> Result<Setup, OutOfMemory>
+        requires { All (λ e. IsTrue (is_party cluster.now.f cluster.now.clients e.0)) faulty.now }
+        ensures { IfOk result (λ x. x ≡ record { f = cluster.now.f; clients = cluster.now.clients; plan = cluster.now.plan; faulty = faulty.now }) }
+    {
+        Ok(Setup {
+            cluster: *cluster,
+            faulty: Vec::from_slice(alloc, faulty)?,
+            replica_rings: replica_rings(alloc, cluster)?,
+            client_rings: client_rings(alloc, cluster)?,
+            replica_twins: replica_twins(alloc, faulty)?,
+            client_twins: client_twins(alloc, faulty)?,
+        })
+    }
+
+    /// The cluster.
+    pub fn cluster(&self) -> &Cluster
+        ensures f { result.now.f ≡ self.now.f }
+        ensures clients { result.now.clients ≡ self.now.clients }
+        ensures plan { result.now.plan ≡ self.now.plan }
+    {
+        &self.cluster
+    }
+
+    /// The faulty parties, each with the number of its cores.
+    pub fn faulty(&self) -> &[(Party, u8)]
+        ensures list { result.now ≡ self.now.faulty }
+        ensures parties { All (λ e. IsTrue (is_party self.now.f self.now.clients e.0)) result.now }
+    {
+        self.faulty.as_slice()
+    }
+
+    /// Whether a party is declared faulty.
+    pub fn is_faulty(&self, party: Party) -> bool
+        ensures { result ≡ is_bad self.now party }
+    {
+        has(self.faulty.as_slice(), party)
+    }
+
+    /// The ring of a party of the cluster.
+    pub fn ring(&self, party: Party) -> &KeyRing
+        requires { IsTrue (is_party self.now.f self.now.clients party) }
+        ensures { result.now ≡ ring_at self.now party }
+    {
+        match party {
+            Party::Replica(r) => &self.replica_rings[usize::from(r)],
+            Party::Client(c) => &self.client_rings[usize::from(c)],
+        }
+    }
+
+    /// Where a party's own core stands, or its twin of this number, counted from 1. None exactly
+    /// where the cluster has no such core: the party is outside it, a twin is named of a correct
+    /// party, or its number is above the party's number of cores.
+    pub fn place(&self, party: Party, twin: Option<u8>) -> Option<Place>
+        ensures { result ≡ place_of self.now party twin }
+    {
+        if !is_party(&self.cluster, party) {
+            return None;
+        }
+        let Some(number) = twin else {
+            return Some(Place::own(party));
+        };
+        if !self.is_faulty(party) {
+            return None;
+        }
+        if number == 1 {
+            return Some(Place::own(party));
+        }
+        self.twin_place(party, number)
+    }
+
+    /// Where a party's further core of this number stands.
+    fn twin_place(&self, party: Party, number: u8) -> Option<Place>
+        ensures { result ≡ twin_place self.now.faulty party number }
+    {
+        match party {
+            Party::Replica(r) => replica_twin_place(self.replica_twins.as_slice(), r, number),
+            Party::Client(c) => client_twin_place(self.client_twins.as_slice(), c, number),
+        }
+    }
+}
+
+#[cfg(test)]
+mod tests;
