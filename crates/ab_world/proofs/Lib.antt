@@ -1,3 +1,8 @@
 -- Lemmas of this crate.
+pub mod ClaimLemmas
+pub mod StatingLemmas
 pub mod SeatLemmas
+pub mod PlaceLemmas
+pub mod RunLemmas
+pub mod PremiseLemmas
 pub mod StepLemmas

@@ -1,169 +1,154 @@
--- What the world's events come to, over plain values.
-use Rattle.std.proofs.Common.{◌≡◌, ℕ, zero, suc, ◌+◌, ◌-◌, ◌<◌, ◌≤◌, false, List, [], ◌∷◌, ◌++◌, Some, None, Option, length, map, get_or, arith, refl, sym, ap, ◌∙◌, subst, inl}
-use Rattle.std.specs.Prelude.{slice_get, slice_set, if◌then◌else◌, ◌≢◌, Result, Ok, Err, IfErr}
-use Rattle.std.proofs.lemmas.Option.{slice_get_read}
+-- One step of a world: what is handed to a core is the event that happens, and what comes of it is what the step says.
+use Rattle.std.proofs.Common.{◌≡◌, ℕ, ◌<◌, ◌≤◌, Option, Some, None, List, Result, Ok, Err, length, arith, inl, inr, refl, sym, ap, ◌∙◌, subst}
+use Rattle.std.specs.Prelude.{IsTrue, IfErr, OnOk, if◌then◌else◌, nat_le, ◌&&◌}
+use Rattle.std.proofs.lemmas.Bool.{le-leb, leb-true, cases_Bool}
+use Rattle.arrayvec.specs.ArrayVec.{ArrayVec}
 use Rattle.ab_num.specs.declared.party.Party.{Party}
-use Rattle.ab_num.specs.declared.party.Party.TheVariants.{Client}
-use Rattle.ab_text.specs.declared.event.Event.TheVariants.{Deliver}
-use Rattle.ab_msg.specs.declared.message.Out.{Out}
-use Rattle.ab_abs.specs.declared.seen.Seen.{Seen}
-use Rattle.ab_abs.specs.Faults.{is_faulty}
-use Rattle.ab_abs.specs.Messages.{heard, Call}
+use Rattle.ab_text.specs.declared.event.Core.{Core as CoreName}
+use Rattle.ab_text.specs.declared.event.Event.TheVariants.{Invoke}
+use Rattle.ab_keys.specs.Keys.{is_party}
 use Rattle.ab_abs.specs.Ensembles.{Proto}
-use Rattle.ab_run.specs.Clients.{Cli}
-use Rattle.ab_run.specs.Replicas.{Rep, rules_of}
-use Rattle.ab_run.specs.Packets.{nth_packet, no_certificate}
-use Rattle.ab_run.specs.Local.{Cue, cli_after, cli_sends, cli_marks, rep_after, rep_sends, rep_marks}
-use Rattle.ab_run.specs.declared.phase.Phase.{Phase}
-use Rattle.ab_run.specs.declared.phase.Phase.TheVariants.{Idle, Waiting, Panicking}
-use Rattle.ab_run.specs.States.{noted, after_call, after_cue, after_handing, after_packet}
-use Rattle.ab_client.specs.Clients.{Seat, sends, marks}
-use Rattle.ab_client.specs.Clients as client
+use Rattle.ab_post.specs.Packets.{Packet, nth, total, most_bytes}
+use Rattle.ab_cast.specs.declared.place.Place.{Place}
+use Rattle.ab_cast.specs.Setups.{Setup, party_at, place_of, numbered_place}
+use Rattle.ab_run.specs.Replicas.{Rep}
+use Rattle.ab_client.specs.Clients.{Seat}
+use Rattle.ab_cast.specs.declared.place.Place.TheVariants as place
+use Rattle.ab_cast.specs.Cores.{Core, replica, client, command, message, core_after, core_sends, core_marks}
+use Rattle.ab_cast.specs.Casts.{Cast, core_at, command_refusal, with_core, with_replica, with_client, next}
+use Rattle.ab_cast.proofs.PlaceLemmas.{owner_of_place}
 use Rattle.ab_world.specs.declared.fault.WorldFault.{WorldFault}
-use Rattle.ab_world.specs.declared.fault.WorldFault.TheVariants.{OutOfMemory, Busy}
-use Rattle.ab_run.specs.declared.noted.Noted.{Noted}
-use Rattle.ab_text.specs.declared.line.Line.{Line}
-use Rattle.ab_run.proofs.Lists.{set_length}
-use Rattle.std.proofs.lemmas.List.{map-append}
-use Rattle.ab_world.specs.Lines.{line_of, noted_line}
-use Rattle.ab_world.specs.Seats.{clis_of, IsSeat, IsKept, note}
-use Rattle.ab_world.specs.Steps.{World, cluster_of, after, settled, packet_refusal, is_idle, client_refusal, Cause}
-use Rattle.ab_world.proofs.SeatLemmas.{clis_of-get, clis_of-set, later_seats, AreSeats-set}
+use Rattle.ab_world.specs.declared.fault.WorldFault.TheVariants.{EventLimit, PacketLimit, NotBuilt, NoPacket, BadParty, Busy, OutOfMemory}
+use Rattle.ab_world.specs.declared.handing.Handed.{Handed}
+use Rattle.ab_world.specs.declared.handing.Handed.TheVariants.{Missed, Heard}
+use Rattle.ab_world.specs.Worlds.{World}
+use Rattle.ab_world.specs.Steps.{Happening, ask, hand, addressed, handed, delivered, asked, asked_at, refuse_command, messages, settled, missed, moved_at, after_taking, after, stepped_by, happening, CauseIn, SettleCause, HasEnded, Leaves}
+use Rattle.ab_world.specs.Handing.{IsHanded, finished}
+use Rattle.ab_world.proofs.PlaceLemmas.{test_there}
 
-pub nth_at : (packets : List Out) (n : ℕ) (o : Out) → 1 ≤ n → slice_get packets (n - 1) ≡ Some o → nth_packet packets n ≡ Some o
-nth_at packets zero o one at = absurd (omega arith)
-nth_at packets (suc n) o one at = ap (slice_get packets) (let e : n ≡ suc n - 1 = omega arith in e) ∙ at
+-- ---- places
 
-pub not_refused : (packets : List Out) (n : ℕ) (o : Out) → 1 ≤ n → slice_get packets (n - 1) ≡ Some o → packet_refusal (nth_packet packets n) ≡ None
-not_refused packets n o one at = ap packet_refusal (nth_at packets n o one at)
+pub place_is : (x : Setup) (p : Party) (twin : Option ℕ) (at : Place) → place_of x p twin ≡ Some at → (t : Option ℕ) × (place_of x (party_at at) t ≡ Some at)
+place_is x p twin at e = (twin, subst (λ (q : Party). place_of x q twin ≡ Some at) (sym (owner_of_place x p twin at e)) e)
+
+pub addressed_is : (x : Setup) (to : Party) (core : Option CoreName) (at : Place) → addressed x to core ≡ Some at → (t : Option ℕ) × (place_of x (party_at at) t ≡ Some at)
+addressed_is x to None at e = place_is x to None at e
+addressed_is x to (Some core) at e = place_is x core.party core.twin at (test_there _ _ at e).1
+
+-- the party of a place is one of the cluster
+pub place_party : (x : Setup) (at : Place) → (t : Option ℕ) × (place_of x (party_at at) t ≡ Some at) → IsTrue (is_party x.f x.clients (party_at at))
+place_party x at there = (test_there (is_party x.f x.clients (party_at at)) (numbered_place x (party_at at) there.0) at there.1).0
+
+-- ---- what comes of an event
 
 module _ {P : Type 0} (proto : Proto P) (w : World P) where
-  -- a packet that is handed over is handed to its addressee
-  pub handed : (n : ℕ) (o : Out) (p : Party) → 1 ≤ n → slice_get w.state.packets (n - 1) ≡ Some o → o.to ≡ p
-      → after proto w (Deliver n None) ≡ record w { state = after_handing w.cluster (rules_of proto no_certificate) w.state p (heard o.msg) }
-  handed n o p one at to =
-      ap (λ q. record w { state = after_packet w.cluster (rules_of proto no_certificate) w.state q }) (nth_at w.state.packets n o one at)
-      ∙ ap (λ q. record w { state = after_handing w.cluster (rules_of proto no_certificate) w.state q (heard o.msg) }) to
+  -- bytes that were handed to a core
+  pub handed_is : (at : Place) (bytes : List ℕ) (new : Cast P) (h : Handed) → IsHanded proto w.made bytes at w.cast new h
+      → finished (record w { cast = new }) (party_at at) h ≡ after proto w (record { place = at; given = hand bytes })
+  handed_is at bytes new (Missed cause) is =
+      (λ j. missed (record w { cast = is.next j }) (party_at at) (is.is j)) ∙ ap (λ r. after_taking proto w at (messages r)) (sym is.opens)
+  handed_is at bytes new (Heard found effects) is =
+      (λ j. settled (record w { cast = is.moves j }) (party_at at) (is.forged j) (is.sends j) (is.shows j))
+      ∙ (ap (λ o. moved_at proto w at (message is.msg) o) (sym is.there) ∙ ap (λ r. after_taking proto w at (messages r)) (sym is.opens))
 
-  -- a client at its seat takes what comes to it
-  pub client_moved : (seats : List Seat) (e c : ℕ) (seat now : Seat) (cue : Cue) (outs : List Out) (seen : List Seen)
-      → w.state.clients ≡ clis_of seats → slice_get seats c ≡ Some seat → IsSeat w.cluster.f e c seat
-      → now ≡ client.after no_certificate seat cue → outs ≡ sends no_certificate seat cue → seen ≡ marks no_certificate seat cue
-      → is_faulty w.cluster.faulty (Client c) ≡ false
-      → settled (record w { state = record w.state { clients = clis_of (slice_set seats c now); events = w.state.events + 1 } }) outs seen
-      ≡ record w { state = after_cue w.cluster (rules_of proto no_certificate) w.state c cue (slice_get w.state.clients c) }
-  client_moved seats e c seat now cue outs seen clients there is after_is outs_is seen_is good =
-      let x = w.state in
-      let here : slice_get x.clients c ≡ Some seat.cli = ap (λ cs. slice_get cs c) clients ∙ clis_of-get seats c seat there in
-      let moved : now.cli ≡ cli_after w.cluster.f no_certificate c seat.cli cue = ap (λ s. s.cli) after_is ∙ (λ j. cli_after (is.faults j) no_certificate (is.own j) seat.cli cue) in
-      let placed : clis_of (slice_set seats c now) ≡ slice_set x.clients c (cli_after w.cluster.f no_certificate c seat.cli cue) = clis_of-set seats c now ∙ (λ j. slice_set (sym clients j) c (moved j)) in
-      let sent : outs ≡ cli_sends w.cluster.f no_certificate c seat.cli cue = outs_is ∙ (λ j. cli_sends (is.faults j) no_certificate (is.own j) seat.cli cue) in
-      let shown : seen ≡ cli_marks w.cluster.f no_certificate c seat.cli cue = seen_is ∙ (λ j. cli_marks (is.faults j) no_certificate (is.own j) seat.cli cue) in
-      let all : x.seen ++ map (note (x.events + 1)) seen ≡ noted w.cluster (Client c) (x.events + 1) x.seen (cli_marks w.cluster.f no_certificate c seat.cli cue) =
-      ap (λ more. x.seen ++ map (note (x.events + 1)) more) shown
-      ∙ sym (ap (λ b. if b then x.seen else x.seen ++ map (note (x.events + 1)) (cli_marks w.cluster.f no_certificate c seat.cli cue)) good) in
-      (λ j. record w { state = record { replicas = x.replicas; clients = placed j; packets = x.packets ++ sent j; seen = all j; events = x.events + 1 } })
-      ∙ ap (λ o. record w { state = after_cue w.cluster (rules_of proto no_certificate) x c cue o }) (sym here)
+  -- a command that a core took
+  pub asked_is : (at : Place) (bytes : ArrayVec ℕ) (s : Core P) (new : Cast P) (h : Handed) (effects : _) → h ≡ Heard None effects → core_at w.cast at ≡ Some s
+      → new ≡ next (with_core w.cast at (core_after proto (party_at at) s (command bytes)))
+      → effects.outs ≡ core_sends proto (party_at at) s (command bytes) → effects.marks.items ≡ core_marks proto (party_at at) s (command bytes)
+      → finished (record w { cast = new }) (party_at at) h ≡ after proto w (record { place = at; given = ask bytes })
+  asked_is at bytes s new h effects is there moves sends shows =
+      ap (λ x. finished (record w { cast = new }) (party_at at) x) is
+      ∙ ((λ j. settled (record w { cast = moves j }) (party_at at) None (sends j) (shows j)) ∙ ap (λ o. moved_at proto w at (command bytes) o) (sym there))
 
--- the same where the seat is read in the list
-pub seat_there : (seats : List Seat) (c : ℕ) (seat : Seat) → c < length seats → seat ≡ get_or seats c seat → slice_get seats c ≡ Some seat
-seat_there seats c seat lt is = slice_get_read seats (length seats) c seat refl lt is
+  pub within_is : (v : World P) (h : Happening) → v ≡ after proto w h → total v.packets ≤ most_bytes → stepped_by proto w (Ok h) ≡ Ok v
+  within_is v h is few =
+      let small : total (after proto w h).packets ≤ most_bytes = subst (λ (x : World P). total x.packets ≤ most_bytes) is few in
+      ap (λ b. if b then Ok (after proto w h) else Err PacketLimit) (le-leb (total (after proto w h).packets) most_bytes small) ∙ ap Ok (sym is)
 
-module _ (f : ℕ) (seats : List Seat) (seen : List Noted) (lines : List Line) (events replicas : ℕ) (kept : IsKept f seats seen lines events replicas) where
-  -- one event more
-  pub IsKept-next : events < 100000 → IsKept f seats seen lines (events + 1) replicas
-  IsKept-next few = record {
-    seated = later_seats f events (events + 1) seats (omega arith) kept.seated;
-    written = kept.written;
-    few_events = omega (arith, few);
-    few_seats = kept.few_seats;
-    few_replicas = kept.few_replicas;
-  }
+  pub passes_is : (h : Happening) → most_bytes < total (after proto w h).packets → stepped_by proto w (Ok h) ≡ Err PacketLimit
+  passes_is h many =
+      elim (cases_Bool (nat_le (total (after proto w h).packets) most_bytes)) [
+        | inl yes' ↦ absurd (omega (arith, leb-true (total (after proto w h).packets) most_bytes yes', many))
+        | inr no' ↦ ap (λ b. if b then Ok (after proto w h) else Err PacketLimit) no'
+      ]
 
-  -- what an event shows, with its lines
-  pub IsKept-seen : (more : List Seen) (seen' : List Noted) (lines' : List Line) → seen' ≡ seen ++ map (note events) more → lines' ≡ lines ++ map (line_of events) more
-      → IsKept f seats seen' lines' events replicas
-  IsKept-seen more seen' lines' seen_is lines_is = record {
-    seated = kept.seated;
-    written = lines_is ∙ (ap (λ ls. ls ++ map (line_of events) more) kept.written
-        ∙ (ap (λ ls. map noted_line seen ++ ls) (noted_lines more) ∙ (sym (map-append noted_line seen (map (note events) more)) ∙ ap (map noted_line) (sym seen_is))));
-    few_events = kept.few_events;
-    few_seats = kept.few_seats;
-    few_replicas = kept.few_replicas;
-  }
-    where
-      noted_lines : (xs : List Seen) → map (line_of events) xs ≡ map noted_line (map (note events) xs)
-      noted_lines [] = refl
-      noted_lines (x ∷ xs) = ap (λ ls. line_of events x ∷ ls) (noted_lines xs)
+  pub settles_is : (f : WorldFault) (v : World P) (h : Happening) → v ≡ after proto w h → SettleCause f v → CauseIn proto f w (Ok h)
+  settles_is OutOfMemory v h is cause = tt
+  settles_is PacketLimit v h is cause = passes_is h (subst (λ (x : World P). most_bytes < total x.packets) is cause)
+  settles_is EventLimit v h is cause = absurd cause
+  settles_is NotBuilt v h is cause = absurd cause
+  settles_is NoPacket v h is cause = absurd cause
+  settles_is BadParty v h is cause = absurd cause
+  settles_is Busy v h is cause = absurd cause
 
-  -- a client that goes on in an event
-  pub IsKept-client : (c : ℕ) (seat now : Seat) → events < 100000 → slice_get seats c ≡ Some seat → now.me ≡ seat.me → now.f ≡ seat.f → now.cli.stamp ≤ seat.cli.stamp + 1
-      → IsKept f (slice_set seats c now) seen lines (events + 1) replicas
-  IsKept-client c seat now few there me faults stamp =
-      let was = kept.seated c seat there in record {
-        seated = AreSeats-set f (events + 1) c seats seat now there (later_seats f events (events + 1) seats (omega arith) kept.seated)
-            (record { own = me ∙ was.own; faults = faults ∙ was.faults; stamp = omega (arith, stamp, was.stamp) });
-        written = kept.written;
-        few_events = omega (arith, few);
-        few_seats = omega (arith, set_length seats c now, kept.few_seats);
-        few_replicas = kept.few_replicas;
-      }
+  -- ---- which event happens
 
--- ---- what a step leaves, over what a world holds
+  -- a packet that is there goes to the core at this place
+  pub delivered_is : (number : ℕ) (core : Option CoreName) (packet : Packet) (at : Place) → nth w.packets number ≡ Some packet → addressed w.cast.setup packet.to core ≡ Some at
+      → delivered w.cast.setup (nth w.packets number) core ≡ Ok (record { place = at; given = hand packet.bytes })
+  delivered_is number core packet at there to =
+      ap (λ o. delivered w.cast.setup o core) there ∙ ap (λ o. handed packet.bytes o) to
 
-abbrev pub world_of : {P : Type 0} → ℕ → ℕ → List (Rep P) → List Seat → List Out → List Noted → ℕ → Option WorldFault → World P
-world_of f n replicas seats packets seen events ended =
-    record { cluster = cluster_of f n; state = record { replicas = replicas; clients = clis_of seats; packets = packets; seen = seen; events = events }; ended = ended }
+  -- a command of the right length is looked at where its core is
+  pub asks_at : (core : CoreName) (bytes : ArrayVec ℕ) → 1 ≤ length bytes.items → length bytes.items ≤ 128
+      → happening w (Invoke core bytes) ≡ asked w bytes (place_of w.cast.setup core.party core.twin)
+  asks_at core bytes some few =
+      (λ j. if le-leb 1 (length bytes.items) some j && le-leb (length bytes.items) 128 few j then asked w bytes (place_of w.cast.setup core.party core.twin) else Err NotBuilt)
 
-module _ {P : Type 0} (proto : Proto P) (f n : ℕ) (replicas : List (Rep P)) (seats : List Seat) (packets : List Out) (seen : List Noted) (events : ℕ) (ended : Option WorldFault) where
-  pub client_steps : (w : World P) (c : ℕ) (seat now : Seat) (cue : Cue) (outs : List Out) (shown : List Seen)
-      → world_of f n replicas seats packets seen events ended ≡ w → slice_get seats c ≡ Some seat → IsSeat f events c seat
-      → now ≡ client.after no_certificate seat cue → outs ≡ sends no_certificate seat cue → shown ≡ marks no_certificate seat cue
-      → settled (world_of f n replicas (slice_set seats c now) packets seen (events + 1) ended) outs shown
-      ≡ record w { state = after_cue w.cluster (rules_of proto no_certificate) w.state c cue (slice_get w.state.clients c) }
-  client_steps w c seat now cue outs shown view there is after_is outs_is shown_is =
-      subst (λ (v : World P). settled (world_of f n replicas (slice_set seats c now) packets seen (events + 1) ended) outs shown
-      ≡ record v { state = after_cue v.cluster (rules_of proto no_certificate) v.state c cue (slice_get v.state.clients c) }) view
-      (client_moved proto (world_of f n replicas seats packets seen events ended) seats events c seat now cue outs shown refl there is after_is outs_is shown_is refl)
+  pub asks_none : (core : CoreName) (bytes : ArrayVec ℕ) → 1 ≤ length bytes.items → length bytes.items ≤ 128
+      → place_of w.cast.setup core.party core.twin ≡ None → happening w (Invoke core bytes) ≡ Err BadParty
+  asks_none core bytes some few none = asks_at core bytes some few ∙ ap (λ o. asked w bytes o) none
 
-  pub replica_steps : (w : World P) (r : ℕ) (s now : Rep P) (call : Call) (outs : List Out) (shown : List Seen)
-      → world_of f n replicas seats packets seen events ended ≡ w → slice_get replicas r ≡ Some s
-      → now ≡ rep_after (rules_of proto no_certificate) r s call → outs ≡ rep_sends (rules_of proto no_certificate) r s call
-      → shown ≡ rep_marks (rules_of proto no_certificate) r s call
-      → settled (world_of f n (slice_set replicas r now) seats packets seen (events + 1) ended) outs shown
-      ≡ record w { state = after_call w.cluster (rules_of proto no_certificate) w.state r call (slice_get w.state.replicas r) }
-  replica_steps w r s now call outs shown view there after_is outs_is shown_is =
-      subst (λ (v : World P). settled (world_of f n (slice_set replicas r now) seats packets seen (events + 1) ended) outs shown
-      ≡ record v { state = after_call v.cluster (rules_of proto no_certificate) v.state r call (slice_get v.state.replicas r) }) view
-      ((λ j. settled (world_of f n (slice_set replicas r (after_is j)) seats packets seen (events + 1) ended) (outs_is j) (shown_is j))
-      ∙ ap (λ o. record (world_of f n replicas seats packets seen events ended) { state = after_call (cluster_of f n) (rules_of proto no_certificate) (world_of f n replicas seats packets seen events ended).state r call o }) (sym there))
-
-  -- the client that the state shows is at its seat
-  pub same_client : (w : World P) (c : ℕ) (seat : Seat) (s : Cli) → world_of f n replicas seats packets seen events ended ≡ w → slice_get seats c ≡ Some seat
-      → slice_get w.state.clients c ≡ Some s → s ≡ seat.cli
-  same_client w c seat s view there at =
-      let e : Some s ≡ Some seat.cli = sym at ∙ (ap (λ v. slice_get v.state.clients c) (sym view) ∙ clis_of-get seats c seat there) in cc
-
-pub not_idle : (p : Phase) → p ≢ Idle → is_idle p ≡ false
-not_idle Idle not = absurd (not refl)
-not_idle Waiting not = refl
-not_idle Panicking not = refl
-
--- a client with an open request is busy, and another takes a command
-pub refused_busy : (s : Cli) (phase : Phase) → s.phase ≡ phase → phase ≢ Idle → client_refusal (Some s) ≡ Some Busy
-refused_busy s phase is not = ap (λ b. if b then None else Some Busy) (ap is_idle is ∙ not_idle phase not)
-
-pub refused_not : (s : Cli) (phase : Phase) → s.phase ≡ phase → phase ≡ Idle → client_refusal (Some s) ≡ None
-refused_not s phase is idle = ap (λ p. if is_idle p then None else Some Busy) (is ∙ idle)
+  pub asks_core : (core : CoreName) (bytes : ArrayVec ℕ) (at : Place) (s : Core P) → 1 ≤ length bytes.items → length bytes.items ≤ 128
+      → place_of w.cast.setup core.party core.twin ≡ Some at → core_at w.cast at ≡ Some s
+      → happening w (Invoke core bytes) ≡ refuse_command (command_refusal s) at bytes
+  asks_core core bytes at s some few place there =
+      asks_at core bytes some few ∙ (ap (λ o. asked w bytes o) place ∙ ap (λ o. asked_at at bytes o) there)
 
 pub if_err_then : {T E : Type 0} (r : Result T E) (P Q : E → Type 0) → ((e : E) → P e → Q e) → IfErr r P → IfErr r Q
 if_err_then (Ok x) P Q f h = h
 if_err_then (Err e) P Q f h = f e h
 
--- memory may be refused where nothing is refused
-pub may_refuse_memory : (e : WorldFault) (r : Option WorldFault) → r ≡ None → e ≡ OutOfMemory → Cause e r
-may_refuse_memory e r none is = subst (λ (x : WorldFault). Cause x r) (sym is) (inl none)
+pub if_err_both : {T E : Type 0} (r : Result T E) (P Q R : E → Type 0) → ((e : E) → P e → Q e → R e) → IfErr r P → IfErr r Q → IfErr r R
+if_err_both (Ok x) P Q R f h k = h
+if_err_both (Err e) P Q R f h k = f e h k
 
-pub length-seats : (seats : List Seat) → length (clis_of seats) ≡ length seats
-length-seats [] = refl
-length-seats (x ∷ seats) = ap suc (length-seats seats)
+pub ok_then : {T E Q : Type 0} (r : Result T E) (x : T) → r ≡ Ok x → OnOk r Q → Q
+ok_then (Ok y) x e h = h
+ok_then (Err f) x e h = absurd (cc)
+
+-- ---- what stays
+
+module _ {P : Type 0} where
+  replica_setup : (x : Cast P) (at : Place) (s : Rep P) → (with_replica x at s).setup ≡ x.setup
+  replica_setup x (place.Replica r) s = refl
+  replica_setup x (place.Client c) s = refl
+  replica_setup x (place.ReplicaTwin r i) s = refl
+  replica_setup x (place.ClientTwin c i) s = refl
+
+  client_setup : (x : Cast P) (at : Place) (s : Seat) → (with_client x at s).setup ≡ x.setup
+  client_setup x (place.Replica r) s = refl
+  client_setup x (place.Client c) s = refl
+  client_setup x (place.ReplicaTwin r i) s = refl
+  client_setup x (place.ClientTwin c i) s = refl
+
+  pub core_setup : (x : Cast P) (at : Place) (s : Core P) → (next (with_core x at s)).setup ≡ x.setup
+  core_setup x at (replica s) = replica_setup x at s
+  core_setup x at (client s) = client_setup x at s
+
+  pub handed_setup : (proto : Proto P) (made : List (List ℕ)) (bytes : List ℕ) (at : Place) (old new : Cast P) (h : Handed) → IsHanded proto made bytes at old new h → new.setup ≡ old.setup
+  handed_setup proto made bytes at old new (Missed cause) is = ap (λ x. x.setup) is.next
+  handed_setup proto made bytes at old new (Heard found effects) is = ap (λ x. x.setup) is.moves ∙ core_setup old at (core_after proto (party_at at) is.core (message is.msg))
+
+  -- where the world has ended, that is all that a refusal leaves
+  pub ended_leaves : (f : WorldFault) (w v x : World P) (new : Cast P) → new.setup ≡ w.cast.setup → SettleCause f x → HasEnded f (record w { cast = new }) v → Leaves f w v
+  ended_leaves f w v x new same cause end = leaves f cause (record { ended = end.ended; setup = end.setup ∙ same; packets = end.packets; seen = end.seen; lines = end.lines; forged = end.forged })
+    where
+      leaves : (f : WorldFault) → SettleCause f x → HasEnded f w v → Leaves f w v
+      leaves OutOfMemory cause end = end
+      leaves PacketLimit cause end = end
+      leaves EventLimit cause end = absurd cause
+      leaves NotBuilt cause end = absurd cause
+      leaves NoPacket cause end = absurd cause
+      leaves BadParty cause end = absurd cause
+      leaves Busy cause end = absurd cause

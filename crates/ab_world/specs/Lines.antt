@@ -1,9 +1,13 @@
--- The lines of a report that observations make.
+-- The lines of a report.
 use Rattle.std.specs.Prelude.{ℕ, List, map}
 use Rattle.ab_hist.specs.declared.request.Request.{Request}
 use Rattle.ab_hist.specs.Requests.{key_of}
+use Rattle.ab_text.specs.declared.line.Cause.{Cause}
+use Rattle.ab_text.specs.declared.line.Cause.TheVariants as cause
 use Rattle.ab_text.specs.declared.line.Line.{Line}
 use Rattle.ab_text.specs.declared.line.Line.TheVariants as line
+use Rattle.ab_seal.specs.declared.fault.OpenFault.{OpenFault}
+use Rattle.ab_seal.specs.declared.fault.OpenFault.TheVariants as fault
 use Rattle.ab_abs.specs.declared.seen.Seen.{Seen}
 use Rattle.ab_run.specs.declared.noted.Noted.{Noted}
 use Rattle.ab_abs.specs.declared.seen.Seen.TheVariants.{Invoked, Init, Cert, Committed}
@@ -19,5 +23,12 @@ line_of e (Init i r h) = line.Init e r i (entries_of h)
 line_of e (Cert i p h) = line.Cert e p i (entries_of h)
 line_of e (Committed i c m n d reply) = line.Commit e c i m.stamp n reply
 
-abbrev pub noted_line : Noted → Line
-noted_line n = line_of n.event n.what
+-- what is written of bytes that did not open
+abbrev pub cause_of : OpenFault → Cause
+cause_of (fault.Bad bad) = cause.Bad
+cause_of fault.NotMine = cause.Kind
+cause_of (fault.BadTag place) = cause.Tag
+
+-- an observation of an event
+abbrev pub note : ℕ → Seen → Noted
+note event what = record { event = event; what = what }

@@ -1,138 +1,226 @@
--- A world, and what an event does to it.
-use Rattle.std.specs.Prelude.{◌≡◌, ◌⊎◌, ℕ, Bool, true, false, nat_lt, if◌then◌else◌, Option, None, Some, List, [], ◌++◌, length, map, slice_get}
+-- What an event does to a world.
+use Rattle.std.specs.Prelude.{◌≡◌, ℕ, ◌<◌, nat_lt, nat_le, ◌&&◌, if◌then◌else◌, Option, None, Some, List, [], ◌∷◌, ◌++◌, length, map, Result, Ok, Err}
+use Rattle.arrayvec.specs.ArrayVec.{ArrayVec}
 use Rattle.ab_num.specs.declared.party.Party.{Party}
-use Rattle.ab_num.specs.declared.party.Party.TheVariants.{Replica, Client}
-use Rattle.ab_text.specs.declared.event.Core.{Core}
+use Rattle.ab_num.specs.Parties.{party_eq}
+use Rattle.ab_text.specs.declared.line.Cause.{Cause as TextCause}
+use Rattle.ab_text.specs.declared.event.Core.{Core as CoreName}
 use Rattle.ab_text.specs.declared.event.Event.{Event}
 use Rattle.ab_text.specs.declared.event.Event.TheVariants.{Invoke, Deliver, Timeout, Inject}
 use Rattle.ab_text.specs.declared.line.Line.{Line}
+use Rattle.ab_text.specs.declared.line.Line.TheVariants.{Refused}
+use Rattle.ab_msg.specs.declared.message.Msg.{Msg}
 use Rattle.ab_msg.specs.declared.message.Out.{Out}
-use Rattle.ab_abs.specs.Ensembles.{Proto}
-use Rattle.ab_run.specs.declared.phase.Phase.{Phase}
-use Rattle.ab_run.specs.declared.phase.Phase.TheVariants.{Idle, Waiting, Panicking}
-use Rattle.ab_run.specs.Clusters.{Cluster}
-use Rattle.ab_run.specs.Replicas.{rules_of}
-use Rattle.ab_run.specs.Clients.{Cli}
-use Rattle.ab_run.specs.Packets.{Given, ask, deliver, nth_packet, no_certificate}
-use Rattle.ab_run.specs.States.{State, first_state, state_after}
-use Rattle.ab_world.specs.declared.fault.WorldFault.{WorldFault}
-use Rattle.ab_world.specs.declared.fault.WorldFault.TheVariants.{Limit, NotBuilt, NoPacket, BadParty, Busy, OutOfMemory}
+use Rattle.ab_seal.specs.declared.fault.OpenFault.{OpenFault}
+use Rattle.ab_seal.specs.Sealing.{sealed}
 use Rattle.ab_abs.specs.declared.seen.Seen.{Seen}
-use Rattle.ab_world.specs.Lines.{noted_line}
-use Rattle.ab_world.specs.Seats.{note}
+use Rattle.ab_abs.specs.Ensembles.{Proto}
+use Rattle.ab_run.specs.States.{noted}
+use Rattle.ab_run.specs.Stages.{Forgery, made_after, forged_in, forgery, first_of}
+use Rattle.ab_run.specs.Inputs.{Input, told, came, elsewhere}
+use Rattle.ab_post.specs.Packets.{Packet, nth, total, most_bytes}
+use Rattle.ab_cast.specs.declared.fault.CommandFault.{CommandFault}
+use Rattle.ab_cast.specs.declared.fault.CommandFault.TheVariants as command_fault
+use Rattle.ab_cast.specs.declared.place.Place.{Place}
+use Rattle.ab_cast.specs.declared.place.Place.TheVariants as place
+use Rattle.ab_cast.specs.Setups.{Setup, cluster_of, is_bad, party_at, place_of, ring_at}
+use Rattle.ab_cast.specs.Cores.{Core, Taken, command, message, claims_in, core_after, core_sends, core_marks}
+use Rattle.ab_cast.specs.Casts.{core_at, with_core, next, command_refusal}
+use Rattle.ab_world.specs.declared.fault.WorldFault.{WorldFault}
+use Rattle.ab_world.specs.declared.fault.WorldFault.TheVariants.{EventLimit, PacketLimit, NotBuilt, NoPacket, BadParty, Busy, OutOfMemory}
+use Rattle.ab_world.specs.Lines.{line_of, cause_of}
+use Rattle.ab_world.specs.Worlds.{World, opening_at}
 
--- the cluster, where all of it is, and why the world takes no more events, if it doesn't
-pub record World (P : Type 0) : Type 0 where
-  pub cluster : Cluster
-  pub state : State P
-  pub ended : Option WorldFault
+-- ---- which core takes what
 
--- the lines of the report so far
-abbrev pub lines_of : {P : Type 0} → World P → List Line
-lines_of w = map noted_line w.state.seen
+-- a command, or bytes
+pub data Given : Type 0 where
+  ask : (bytes : ArrayVec ℕ) → Given
+  hand : (bytes : List ℕ) → Given
 
--- no party is declared faulty, and nothing is signed
-abbrev pub cluster_of : ℕ → ℕ → Cluster
-cluster_of f clients = record { f = f; clients = clients; faulty = []; signatures = 0 }
+-- something is given to the core at a place
+pub record Happening : Type 0 where
+  pub place : Place
+  pub given : Given
 
-abbrev pub only_client : Party → Option ℕ → Option ℕ
-only_client (Client c) None = Some c
-only_client (Client c) (Some twin) = None
-only_client (Replica r) twin = None
+abbrev pub refuse_command : Option CommandFault → Place → ArrayVec ℕ → Result Happening WorldFault
+refuse_command None at bytes = Ok (record { place = at; given = ask bytes })
+refuse_command (Some command_fault.Busy) at bytes = Err Busy
+refuse_command (Some command_fault.NoClient) at bytes = Err BadParty
+refuse_command (Some command_fault.OutOfMemory) at bytes = Err BadParty
 
--- the client of a core that isn't a twin
-abbrev pub client_of : Core → Option ℕ
-client_of core = only_client core.party core.twin
+abbrev pub asked_at : {P : Type 0} → Place → ArrayVec ℕ → Option (Core P) → Result Happening WorldFault
+asked_at at bytes None = Err BadParty
+asked_at at bytes (Some s) = refuse_command (command_refusal s) at bytes
 
-abbrev pub is_idle : Phase → Bool
-is_idle Idle = true
-is_idle Waiting = false
-is_idle Panicking = false
+-- bad party comes before busy
+abbrev pub asked : {P : Type 0} → World P → ArrayVec ℕ → Option Place → Result Happening WorldFault
+asked w bytes None = Err BadParty
+asked w bytes (Some at) = asked_at at bytes (core_at w.cast at)
 
--- whether a client is there and has no request open
-abbrev pub is_free : Option Cli → Bool
-is_free None = false
-is_free (Some s) = is_idle s.phase
+abbrev pub handed : List ℕ → Option Place → Result Happening WorldFault
+handed bytes None = Err BadParty
+handed bytes (Some at) = Ok (record { place = at; given = hand bytes })
 
-abbrev pub client_refusal : Option Cli → Option WorldFault
-client_refusal None = Some BadParty
-client_refusal (Some s) = if is_idle s.phase then None else Some Busy
+-- a packet goes to its addressee's first core, or to the core of the addressee that is named
+abbrev pub addressed : Setup → Party → Option CoreName → Option Place
+addressed x to None = place_of x to None
+addressed x to (Some core) = if party_eq core.party to then place_of x core.party core.twin else None
 
-abbrev pub invoke_refusal : List Cli → Option ℕ → Option WorldFault
-invoke_refusal clients None = Some BadParty
-invoke_refusal clients (Some c) = client_refusal (slice_get clients c)
+-- no packet is looked at first
+abbrev pub delivered : Setup → Option Packet → Option CoreName → Result Happening WorldFault
+delivered x None core = Err NoPacket
+delivered x (Some packet) core = handed packet.bytes (addressed x packet.to core)
 
-abbrev pub packet_refusal : Option Out → Option WorldFault
-packet_refusal None = Some NoPacket
-packet_refusal (Some o) = None
+-- what an event gives to which core, or why the cluster doesn't take it. A command has 1 to 128 bytes
+abbrev pub happening : {P : Type 0} → World P → Event → Result Happening WorldFault
+happening w (Invoke core bytes) =
+    if nat_le 1 (length bytes.items) && nat_le (length bytes.items) 128
+    then asked w bytes (place_of w.cast.setup core.party core.twin)
+    else Err NotBuilt
+happening w (Deliver packet core) = delivered w.cast.setup (nth w.packets packet) core
+happening w (Timeout core) = Err NotBuilt
+happening w (Inject core bytes) = handed bytes (place_of w.cast.setup core.party core.twin)
 
--- why an event is refused that comes within the limit. An empty command has no form
-abbrev pub form_refusal : {P : Type 0} → State P → Event → Option WorldFault
-form_refusal x (Invoke core command) = if nat_lt 0 (length command.items) then invoke_refusal x.clients (client_of core) else Some NotBuilt
-form_refusal x (Deliver packet None) = packet_refusal (nth_packet x.packets packet)
-form_refusal x (Deliver packet (Some core)) = Some NotBuilt
-form_refusal x (Timeout core) = Some NotBuilt
-form_refusal x (Inject core bytes) = Some NotBuilt
+-- the same within the limit of events, where the world has not ended
+abbrev pub ready_in : {P : Type 0} → World P → Event → Option WorldFault → Result Happening WorldFault
+ready_in w e (Some f) = Err f
+ready_in w e None = if nat_lt w.cast.events 100000 then happening w e else Err EventLimit
 
-abbrev pub limit_refusal : {P : Type 0} → State P → Event → Option WorldFault
-limit_refusal x e = if nat_lt x.events 100000 then form_refusal x e else Some Limit
+abbrev pub ready : {P : Type 0} → World P → Event → Result Happening WorldFault
+ready w e = ready_in w e w.ended
 
--- why an event is refused
-abbrev pub refused : {P : Type 0} → Option WorldFault → State P → Event → Option WorldFault
-refused (Some f) x e = Some f
-refused None x e = limit_refusal x e
+-- ---- what comes of it
 
-abbrev pub refusal : {P : Type 0} → World P → Event → Option WorldFault
-refusal w e = refused w.ended w.state e
+-- as a message that opens, or why it doesn't
+abbrev pub messages : Result Msg OpenFault → Result Taken OpenFault
+messages (Ok m) = Ok (message m)
+messages (Err fault) = Err fault
 
-abbrev pub asked : Option ℕ → Event → Given
-asked (Some c) (Invoke core command) = ask c command
-asked (Some c) e = deliver 0
-asked None e = deliver 0
+abbrev pub taken_from : Setup → Party → Given → Result Taken OpenFault
+taken_from x p (ask bytes) = Ok (command bytes)
+taken_from x p (hand bytes) = messages (opening_at x p bytes)
 
--- what an event gives to the run
-abbrev pub given : Event → Given
-given (Invoke core command) = asked (client_of core) (Invoke core command)
-given (Deliver packet core) = deliver packet
-given (Timeout core) = deliver 0
-given (Inject core bytes) = deliver 0
+-- what a party sends, with its tags
+abbrev pub posted : Setup → Party → List Out → List Packet
+posted x p outs = map (λ o. record { to = o.to; bytes = sealed (ring_at x p) o }) outs
 
--- the world after an event that is not refused
-abbrev pub after : {P : Type 0} → Proto P → World P → Event → World P
-after proto w e = record w { state = state_after w.cluster (rules_of proto no_certificate) w.state (given e) }
+-- of a faulty party there are no lines
+abbrev pub written : Setup → Party → List Line → List Line → List Line
+written x p lines more = if is_bad x p then lines else lines ++ more
 
--- the world with what the present event sends and shows, where its parties are as they are
-abbrev pub settled : {P : Type 0} → World P → List Out → List Seen → World P
-settled w outs marks = record w {
-  state = record w.state {
-    packets = w.state.packets ++ outs;
-    seen = w.state.seen ++ map (note w.state.events) marks;
-  };
-}
+-- what a correct party took that was forged, where this is the first such claim of the event
+abbrev pub forged_now : Setup → Party → ℕ → Option Forgery → Option Party → Option Forgery
+forged_now x p e before found = if is_bad x p then before else first_of before (forgery e found)
 
-abbrev pub start : {P : Type 0} → Proto P → ℕ → ℕ → World P
-start proto f clients = record { cluster = cluster_of f clients; state = first_state (cluster_of f clients) (rules_of proto no_certificate); ended = None }
+-- the world where in its present event a core of party p has taken such a claim, sends this and shows this
+abbrev pub settled : {P : Type 0} → World P → Party → Option Party → List Out → List Seen → World P
+settled w p found outs marks =
+    let x = w.cast.setup in
+    let e = w.cast.events in
+    record w {
+      packets = w.packets ++ posted x p outs;
+      made = made_after (cluster_of x) p w.made outs;
+      seen = noted (cluster_of x) p e w.seen marks;
+      lines = written x p w.lines (map (line_of e) marks);
+      forged = forged_now x p e w.forged found;
+    }
 
--- a fault is the stated refusal. Memory is refused only where nothing else is
-abbrev pub Cause : WorldFault → Option WorldFault → Type 0
-Cause OutOfMemory r = (r ≡ None) ⊎ (r ≡ Some OutOfMemory)
-Cause Limit r = r ≡ Some Limit
-Cause NotBuilt r = r ≡ Some NotBuilt
-Cause NoPacket r = r ≡ Some NoPacket
-Cause BadParty r = r ≡ Some BadParty
-Cause Busy r = r ≡ Some Busy
+-- the world where in its present event bytes came to party p that did not open
+abbrev pub missed : {P : Type 0} → World P → Party → TextCause → World P
+missed w p cause = record w { lines = written w.cast.setup p w.lines (Refused w.cast.events p cause ∷ []) }
+
+module _ {P : Type 0} (proto : Proto P) where
+  -- the core s of party p at a place takes what comes
+  abbrev pub moved : World P → Place → Party → Taken → Core P → World P
+  moved w at p t s =
+      settled (record w { cast = next (with_core w.cast at (core_after proto p s t)) })
+      p (forged_in (cluster_of w.cast.setup) w.made (claims_in t)) (core_sends proto p s t) (core_marks proto p s t)
+
+  abbrev pub moved_at : World P → Place → Taken → Option (Core P) → World P
+  moved_at w at t None = w
+  moved_at w at t (Some s) = moved w at (party_at at) t s
+
+  abbrev pub after_taking : World P → Place → Result Taken OpenFault → World P
+  after_taking w at (Ok t) = moved_at w at t (core_at w.cast at)
+  after_taking w at (Err fault) = missed (record w { cast = next w.cast }) (party_at at) (cause_of fault)
+
+  -- the world after something is given to a core
+  abbrev pub after : World P → Happening → World P
+  after w h = after_taking w h.place (taken_from w.cast.setup (party_at h.place) h.given)
+
+  abbrev pub within_limit : World P → Result (World P) WorldFault
+  within_limit w = if nat_le (total w.packets) most_bytes then Ok w else Err PacketLimit
+
+  abbrev pub stepped_by : World P → Result Happening WorldFault → Result (World P) WorldFault
+  stepped_by w (Ok h) = within_limit (after w h)
+  stepped_by w (Err fault) = Err fault
+
+  -- the world after an event, or why it takes none
+  abbrev pub stepped : World P → Event → Result (World P) WorldFault
+  stepped w e = stepped_by w (ready w e)
+
+-- ---- refusals
+
+-- memory is wanted only by an event that happens, or was refused before
+abbrev pub MayWant : Result Happening WorldFault → Type 0
+MayWant (Ok h) = Unit {0}
+MayWant (Err fault) = fault ≡ OutOfMemory
+
+-- when each fault comes, where this is what the event gives
+abbrev pub CauseIn : {P : Type 0} → Proto P → WorldFault → World P → Result Happening WorldFault → Type 0
+CauseIn proto OutOfMemory w h = MayWant h
+CauseIn proto EventLimit w h = stepped_by proto w h ≡ Err EventLimit
+CauseIn proto PacketLimit w h = stepped_by proto w h ≡ Err PacketLimit
+CauseIn proto NotBuilt w h = stepped_by proto w h ≡ Err NotBuilt
+CauseIn proto NoPacket w h = stepped_by proto w h ≡ Err NoPacket
+CauseIn proto BadParty w h = stepped_by proto w h ≡ Err BadParty
+CauseIn proto Busy w h = stepped_by proto w h ≡ Err Busy
+
+abbrev pub Cause : {P : Type 0} → Proto P → WorldFault → World P → Event → Type 0
+Cause proto f w e = CauseIn proto f w (ready w e)
+
+-- when what came of an event can't be kept: memory was refused, or these are more bytes than are kept
+abbrev pub SettleCause : {P : Type 0} → WorldFault → World P → Type 0
+SettleCause OutOfMemory w = Unit {0}
+SettleCause PacketLimit w = most_bytes < total w.packets
+SettleCause EventLimit w = ⊥
+SettleCause NotBuilt w = ⊥
+SettleCause NoPacket w = ⊥
+SettleCause BadParty w = ⊥
+SettleCause Busy w = ⊥
 
 -- what a world that has ended shows of what was before
 pub record HasEnded {P : Type 0} (f : WorldFault) (old new : World P) : Type 0 where
   pub ended : new.ended ≡ Some f
-  pub packets : new.state.packets ≡ old.state.packets
-  pub seen : new.state.seen ≡ old.state.seen
+  pub setup : new.cast.setup ≡ old.cast.setup
+  pub packets : new.packets ≡ old.packets
+  pub seen : new.seen ≡ old.seen
+  pub lines : new.lines ≡ old.lines
+  pub forged : new.forged ≡ old.forged
 
 -- a refusal leaves the world as it was, or ended
 abbrev pub Leaves : {P : Type 0} → WorldFault → World P → World P → Type 0
 Leaves OutOfMemory old new = HasEnded OutOfMemory old new
-Leaves Limit old new = HasEnded Limit old new
+Leaves EventLimit old new = HasEnded EventLimit old new
+Leaves PacketLimit old new = HasEnded PacketLimit old new
 Leaves NotBuilt old new = new ≡ old
 Leaves NoPacket old new = new ≡ old
 Leaves BadParty old new = new ≡ old
 Leaves Busy old new = new ≡ old
+
+-- ---- an event as the run takes it
+
+-- what a party's own core takes, the run takes. No party of the run takes what comes to a further core
+abbrev pub input_at : Place → Given → Input
+input_at (place.Replica r) (ask bytes) = elsewhere
+input_at (place.Client c) (ask bytes) = told c bytes
+input_at (place.ReplicaTwin r at) (ask bytes) = elsewhere
+input_at (place.ClientTwin c at) (ask bytes) = elsewhere
+input_at (place.Replica r) (hand bytes) = came (party_at (place.Replica r)) bytes
+input_at (place.Client c) (hand bytes) = came (party_at (place.Client c)) bytes
+input_at (place.ReplicaTwin r at) (hand bytes) = elsewhere
+input_at (place.ClientTwin c at) (hand bytes) = elsewhere
+
+abbrev pub input_of : Happening → Input
+input_of h = input_at h.place h.given

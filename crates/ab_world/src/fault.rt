@@ -1,18 +1,21 @@
 //! Why a step was refused.
 
 use ab_num::OutOfMemory;
+use ab_post::SendFault;
 use std::alloc::AllocError;
 
 /// Why a world took no event.
 #[derive(Clone, Copy, Debug, PartialEq, Eq)]
 pub enum WorldFault {
     /// It has taken 100,000 events, and takes no more.
-    Limit,
+    EventLimit,
+    /// The bytes of its packets would pass 268,435,456, and it takes no more events.
+    PacketLimit,
     /// Its form is not taken yet.
     NotBuilt,
     /// No packet has this number.
     NoPacket,
-    /// The cluster has no such core.
+    /// The cluster has no such core, or the packet goes to another party.
     BadParty,
     /// The client has a request open.
     Busy,
@@ -39,5 +42,19 @@ impl From<OutOfMemory> for WorldFault {
 
     fn from(_refused: OutOfMemory) -> WorldFault {
         WorldFault::OutOfMemory
+    }
+}
+
+impl From<SendFault> for WorldFault {
+    ghost use Rattle.std.specs.Prelude.{◌≡◌};
+    ghost use Rattle.ab_world.specs.Sending.{world_fault};
+
+    ghost from_gives = { λ s e. e ≡ world_fault s };
+
+    fn from(refused: SendFault) -> WorldFault {
+        match refused {
+            SendFault::Limit => WorldFault::PacketLimit,
+            SendFault::OutOfMemory => WorldFault::OutOfMemory,
+        }
     }
 }

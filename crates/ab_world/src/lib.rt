@@ -1,12 +1,19 @@
-//! A cluster in one program: replicas, clients and every packet between them, stepped by events.
+//! A cluster in one program: the cores of its parties and every packet between them, stepped by
+//! events, with what was seen of the correct ones.
 #![tactic(auto)]
 
 mod fault;
+mod forgery;
+mod handing;
+mod laws;
 mod lines;
+mod opening;
+mod posting;
+mod premise;
 mod recording;
-mod replica;
 mod world;
 
 pub use fault::WorldFault;
+pub use laws::{few_are_faulty, premise_is_exact, worlds_are_runs, worlds_keep_promises};
 pub use lines::entries;
 pub use world::World;

@@ -1,21 +1,22 @@
-//! What an event adds to what a world keeps.
+//! What an event adds to what a world keeps of correct parties.
 
 ghost use Rattle.std.specs.Prelude.{◌≡◌, ◌+◌, ◌≤◌, ◌++◌, map, OnOk, OnErr, IfOk, vec_len};
 ghost use Rattle.std.specs.Vec.{vec_capacity};
 ghost use Rattle.arrayvec.specs.ArrayVec.{array_vec_len};
-ghost use Rattle.ab_world.specs.Lines.{line_of};
-ghost use Rattle.ab_world.specs.Seats.{note};
+ghost use Rattle.ab_run.specs.Stages.{first_of, forgery};
+ghost use Rattle.ab_world.specs.Forgeries.{forged_first};
+ghost use Rattle.ab_world.specs.Lines.{line_of, note};
 
+use crate::forgery::Forgery;
 use crate::lines::line;
 use ab_abs::{Marks, Seen};
-use ab_msg::{Out, Outs};
-use ab_num::OutOfMemory;
+use ab_num::{OutOfMemory, Party};
 use ab_run::Noted;
 use ab_text::Line;
 use std::alloc::Global;
 
 /// The lines of what is seen in an event.
-fn lines_of(alloc: Global, event: u32, seen: &[Seen]) -> Result<Vec<Line>, OutOfMemory>
+pub(crate) fn lines_of(alloc: Global, event: u32, seen: &[Seen]) -> Result<Vec<Line>, OutOfMemory>
     ensures { IfOk result (λ lines. lines.items ≡ map (line_of event) seen.now) }
 {
     let mut lines = Vec::with_capacity(alloc, seen.len())?;
@@ -26,7 +27,7 @@ fn lines_of(alloc: Global, event: u32, seen: &[Seen]) -> Result<Vec<Line>, OutOf
 }
 
 /// Adds what is seen in an event, for which there is room.
-fn add_seen(all: &mut Vec<Noted>, event: u32, mut seen: Marks)
+pub(crate) fn add_seen(all: &mut Vec<Noted>, event: u32, mut seen: Marks)
     requires { vec_len all.old + array_vec_len seen ≤ vec_capacity all.old }
     ensures { all.new.items ≡ all.old.items ++ map (note event) seen.items }
 {
@@ -39,29 +40,28 @@ fn add_seen(all: &mut Vec<Noted>, event: u32, mut seen: Marks)
     }
 }
 
-/// Adds what is sent and seen in an event, with the lines of what is seen. After an `Err` all is as
-/// before.
-pub(crate) fn record(
-    alloc: Global,
-    packets: &mut Vec<Out>,
-    seen: &mut Vec<Noted>,
-    lines: &mut Vec<Line>,
-    event: u32,
-    outs: Outs,
-    marks: Marks,
-) -> Result<(), OutOfMemory>
-    ensures packets { OnOk result (packets.new.items ≡ packets.old.items ++ outs) }
-    ensures seen { OnOk result (seen.new.items ≡ seen.old.items ++ map (note event) marks.items) }
-    ensures lines { OnOk result (lines.new.items ≡ lines.old.items ++ map (line_of event) marks.items) }
-    ensures kept_packets { OnErr result (packets.new.items ≡ packets.old.items) }
-    ensures kept_seen { OnErr result (seen.new.items ≡ seen.old.items) }
-    ensures kept_lines { OnErr result (lines.new.items ≡ lines.old.items) }
+/// Adds lines, for which there is room.
+pub(crate) fn add_lines(all: &mut Vec<Line>, mut lines: Vec<Line>)
+    requires { vec_len all.old + vec_len lines ≤ vec_capacity all.old }
+    ensures { all.new.items ≡ all.old.items ++ lines.items }
 {
-    let mut more = lines_of(alloc, event, marks.as_slice())?;
-    packets.reserve(outs.len())?;
-    seen.reserve(marks.len())?;
-    lines.append(&mut more)?;
-    outs.append_to(packets);
-    add_seen(seen, event, marks);
-    Ok(())
+    match all.append(&mut lines) {
+        Ok(()) => {}
+        Err(_) => unreachable!(),
+    }
+}
+
+/// The first forgery, where in this event the name of a party was forged, if it was.
+pub(crate) fn first_forgery(
+    before: Option<Forgery>,
+    event: u32,
+    found: Option<Party>,
+) -> Option<Forgery>
+    ensures { forged_first result ≡ first_of (forged_first before) (forgery event found) }
+{
+    match (before, found) {
+        (Some(forgery), _) => Some(forgery),
+        (None, Some(maker)) => Some(Forgery { event, maker }),
+        (None, None) => None,
+    }
 }

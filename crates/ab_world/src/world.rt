@@ -1,31 +1,36 @@
 //! The cluster as a whole.
 
-ghost use Rattle.std.specs.Prelude.{◌≡◌, ◌+◌, ◌*◌, ◌<◌, ◌≤◌, ◌↔◌, ℕ, length, map, IsTrue, OnOk, OnErr, IfOk, IfErr, IfSome, MatchOption, Some, None, is_some, slice_get};
+ghost use Rattle.std.specs.Prelude.{◌≡◌, ◌⊎◌, ◌+◌, ◌<◌, ◌≤◌, ℕ, All, length, IsTrue, OnOk, OnErr, IfErr, IfOk, IfSome, MatchOption, Ok, Some, None, Option, is_some, slice_get};
 ghost use Rattle.std.specs.Option.{option_map};
 ghost use Rattle.ab_num.specs.Places.{kind_of};
-ghost use Rattle.ab_msg.specs.declared.message.Out.{Out as TheOut};
-ghost use Rattle.ab_abs.specs.Messages.{took, heard};
-ghost use Rattle.ab_run.specs.Clients.{Cli as TheCli};
-ghost use Rattle.ab_run.specs.Replicas.{rules_of};
-ghost use Rattle.ab_client.specs.Clients.{told};
-ghost use Rattle.ab_run.specs.Packets.{no_certificate};
-ghost use Rattle.ab_run.specs.Local.{cue_message};
-ghost use Rattle.ab_run.specs.States.{after_call, after_cue, first_reps};
-ghost use Rattle.ab_world.specs.Signing.{SignsNothing};
-ghost use Rattle.ab_world.specs.Seats.{first_seats};
-ghost use Rattle.ab_world.specs.Steps.{lines_of, start, after, refusal, form_refusal, settled, client_of, client_refusal, is_free, Cause, Leaves, HasEnded};
+ghost use Rattle.ab_keys.specs.Keys.{is_party};
+ghost use Rattle.ab_msg.specs.Claims.{content_of, maker_of};
+ghost use Rattle.ab_msg.specs.Grammar.{IsDraft};
+ghost use Rattle.ab_abs.specs.Places.{SendsDrafts, SendsOwn};
+ghost use Rattle.ab_post.specs.Packets.{total, most_bytes};
+ghost use Rattle.ab_cast.specs.Setups.{place_of, party_at};
+ghost use Rattle.ab_cast.specs.Casts.{is_free};
+ghost use Rattle.ab_cast.specs.Signing.{SignsNothing};
+ghost use Rattle.ab_world.specs.Worlds.{start};
+ghost use Rattle.ab_world.specs.Premises.{premise_of};
+ghost use Rattle.ab_world.specs.Steps.{addressed, handed, settled, missed, stepped, stepped_by, happening, Cause, CauseIn, HasEnded, Leaves, SettleCause};
+ghost use Rattle.ab_world.specs.Handing.{finished, EachOut};
 
 use crate::fault::WorldFault;
-use crate::recording::record;
-use crate::replica::Replica;
+use crate::forgery::Forgery;
+use crate::handing::{Handed, hand};
+use crate::posting::{post, state};
+use crate::premise::premise;
+use crate::recording::{add_lines, add_seen, first_forgery, lines_of};
 use ab_abs::{Marks, Protocol};
-use ab_client::{Client, InvokeFault};
+use ab_cast::{Cast, CommandFault, Effects, Place, Setup, places_have_cores};
 use ab_hist::History;
-use ab_msg::{Out, Outs};
-use ab_num::{Cluster, OutOfMemory, Party};
+use ab_msg::Outs;
+use ab_num::{OutOfMemory, Party};
+use ab_post::{Packets, Statements};
 use ab_run::Noted;
 use ab_svc::Service;
-use ab_text::{Core, Event, Line};
+use ab_text::{Cause as TextCause, Core, Event, Line, Premise};
 use arrayvec::ArrayVec;
 use std::alloc::Global;
 use std::marker::Model;
@@ -33,265 +38,227 @@ use std::marker::Model;
 /// How many events a world takes.
 const MOST_EVENTS: u32 = 100_000;
 
-/// Replicas and clients, every packet that was sent between them, and what was seen of the correct
-/// ones.
+/// The cores of a cluster, every packet that was sent, and of the correct parties what they made and
+/// what was seen, with the first claim that was forged.
 #[derive(Drop)]
 pub struct World<S: Service, P: Protocol<S>> {
-    cluster: Cluster,
-    replicas: Vec<Replica<S, P>>,
-    clients: Vec<Client>,
-    packets: Vec<Out>,
+    cast: Cast<S, P>,
+    packets: Packets,
+    made: Statements,
     seen: Vec<Noted>,
     lines: Vec<Line>,
-    events: u32,
+    forged: Option<Forgery>,
     ended: Option<WorldFault>,
 }
 
 impl<S: Service, P: Protocol<S>> Model for World<S, P> {
-    ghost use Rattle.std.specs.Prelude.{length};
-    ghost use Rattle.ab_world.specs.Steps.{World as TheWorld, cluster_of};
-    ghost use Rattle.ab_world.specs.Seats.{clis_of, IsKept};
+    ghost use Rattle.std.specs.Prelude.{◌≤◌};
+    ghost use Rattle.ab_post.specs.Packets.{total, most_bytes};
+    ghost use Rattle.ab_world.specs.Forgeries.{forged_first};
+    ghost use Rattle.ab_world.specs.Worlds.{World as TheWorld};
 
     ghost Value = { TheWorld P };
 
     ghost view = { λ w. record {
-      cluster = cluster_of w.cluster.f w.cluster.clients;
-      state = record { replicas = w.replicas.items; clients = clis_of w.clients.items; packets = w.packets.items; seen = w.seen.items; events = w.events };
+      cast = w.cast;
+      packets = w.packets;
+      made = w.made;
+      seen = w.seen.items;
+      lines = w.lines.items;
+      forged = forged_first w.forged;
       ended = w.ended;
     } };
 
-    ghost invariant = { λ w. IsKept w.cluster.f w.clients.items w.seen.items w.lines.items w.events (length w.replicas.items) };
+    ghost invariant = { λ w. total w.packets ≤ most_bytes };
 }
 
-/// The replicas before the first event.
-fn first_replicas<S: Service, P: Protocol<S>>(
-    alloc: Global,
-    cluster: &Cluster,
-) -> Result<Vec<Replica<S, P>>, OutOfMemory>
-    requires { IsTrue (P.serves (kind_of cluster.now.plan 1)) }
-    ensures { IfOk result (λ v. v.items ≡ first_reps (rules_of P.proto no_certificate) 0 (3 * cluster.now.f + 1)) }
-{
-    let mut replicas = Vec::with_capacity(alloc, cluster.replicas() as usize)?;
-    for me in 0..cluster.replicas() {
-        replicas.push(Replica::new(alloc, cluster, me)?)?;
-    }
-    Ok(replicas)
-}
-
-/// The clients before the first event.
-fn first_clients(alloc: Global, cluster: &Cluster) -> Result<Vec<Client>, OutOfMemory>
-    ensures { IfOk result (λ v. v.items ≡ first_seats cluster.now.f cluster.now.clients) }
-{
-    let mut clients = Vec::with_capacity(alloc, cluster.clients as usize)?;
-    for me in 0..cluster.clients {
-        clients.push(Client::new(cluster, me))?;
-    }
-    Ok(clients)
-}
-
-/// The client of a core that isn't a twin.
-fn client_number(core: Core) -> Option<u16>
-    ensures { result ≡ client_of core }
+/// Where a packet to a party goes: to its first core, or to the core of it that is named.
+fn addressed(setup: &Setup, to: Party, core: Option<Core>) -> Option<Place>
+    ensures { result ≡ addressed setup.now to core }
 {
     match core {
-        Core {
-            party: Party::Client(c),
-            twin: None,
-        } => Some(c),
-        _ => None,
+        None => setup.place(to, None),
+        Some(core) => {
+            if core.party == to {
+                setup.place(core.party, core.twin)
+            } else {
+                None
+            }
+        }
     }
 }
 
 impl<S: Service, P: Protocol<S>> World<S, P> {
-    /// A cluster of correct parties before the first event, where P serves the kind that the
-    /// cluster's plan gives to instance 1.
-    pub fn new(alloc: Global, cluster: &Cluster) -> Result<Self, OutOfMemory>
-        requires { IsTrue (P.serves (kind_of cluster.now.plan 1)) }
-        ensures { IfOk result (λ w. w ≡ start P.proto cluster.now.f cluster.now.clients) }
+    /// A cluster before the first event, where P serves the kind that the cluster's plan gives to
+    /// instance 1.
+    pub fn new(alloc: Global, setup: Setup) -> Result<Self, OutOfMemory>
+        requires { IsTrue (P.serves (kind_of setup.plan 1)) }
+        ensures { IfOk result (λ w. w ≡ start P.proto setup) }
     {
         Ok(World {
-            cluster: *cluster,
-            replicas: first_replicas(alloc, cluster)?,
-            clients: first_clients(alloc, cluster)?,
-            packets: Vec::new(alloc),
+            cast: Cast::new(alloc, setup)?,
+            packets: Packets::new(alloc),
+            made: Statements::new(alloc),
             seen: Vec::new(alloc),
             lines: Vec::new(alloc),
-            events: 0,
+            forged: None,
             ended: None,
         })
     }
 
-    /// The lines of what was seen, in its order.
+    /// What the cluster is set up with.
+    pub fn setup(&self) -> &Setup
+        ensures { result.now ≡ self.now.cast.setup }
+    {
+        self.cast.setup()
+    }
+
+    /// The lines of the report so far.
     pub fn seen(&self) -> &[Line]
-        ensures { result.now ≡ lines_of self.now }
+        ensures { result.now ≡ self.now.lines }
     {
         self.lines.as_slice()
     }
 
     /// What was seen of correct parties, in its order.
     pub fn observations(&self) -> &[Noted]
-        ensures { result.now ≡ self.now.state.seen }
+        ensures { result.now ≡ self.now.seen }
     {
         self.seen.as_slice()
     }
 
     /// How many packets were sent.
     pub fn packets(&self) -> u64
-        ensures { result ≡ length self.now.state.packets }
+        ensures { result ≡ length self.now.packets }
     {
-        self.packets.len() as u64
+        self.packets.len()
     }
 
     /// How many events were taken.
     pub fn events(&self) -> u32
-        ensures { result ≡ self.now.state.events }
+        ensures { result ≡ self.now.cast.events }
     {
-        self.events
+        self.cast.events()
     }
 
-    /// Whether it takes no more events: it took 100,000, or memory was refused.
+    /// Whether the premises of the order properties hold so far, and what broke the first.
+    pub fn premise(&self) -> Premise
+        ensures { result ≡ premise_of self.now }
+    {
+        let setup = self.cast.setup();
+        premise(setup.cluster().f, setup.faulty(), self.forged)
+    }
+
+    /// Whether it takes no more events: it took 100,000, its packets would pass their number of
+    /// bytes, or memory was refused.
     pub fn ended(&self) -> bool
         ensures { result ≡ is_some self.now.ended }
     {
         self.ended.is_some()
     }
 
-    /// How many replicas there are.
-    pub fn replicas(&self) -> u8
-        ensures { result ≡ length self.now.state.replicas }
-    {
-        self.replicas.len() as u8
-    }
-
-    /// Whether client `c` is there and has no request open.
-    fn is_free(&self, c: usize) -> bool
-        ensures { result ≡ is_free (slice_get self.now.state.clients c) }
-    {
-        match self.clients.get(c) {
-            Some(client) => !client.open(),
-            None => false,
-        }
-    }
-
-    /// For each number whether it is that of a client which has no request open.
+    /// For each number whether it is that of a client whose first core has no request open.
     pub fn idle(&self) -> [bool; 16]
-        ensures { (c : ℕ) → c < 16 → slice_get result c ≡ Some (is_free (slice_get self.now.state.clients c)) }
+        ensures { (c : ℕ) → c < 16 → slice_get result c ≡ Some (is_free (slice_get self.now.cast.clients c)) }
     {
-        let mut idle = [false; 16];
-        for c in 0..16 {
-            idle[c] = self.is_free(c);
-        }
-        idle
+        self.cast.idle()
     }
 
-    /// The log that replica `r` has. None exactly where there is no such replica.
+    /// The log that the first core of replica `r` has. None exactly where there is no such replica.
     pub fn log_of(&self, r: u8) -> Option<&History>
-        ensures { MatchOption result (slice_get self.now.state.replicas r ≡ None)
-            (λ log. IfSome (slice_get self.now.state.replicas r) (λ s. log.now ≡ (P.proto.state s.value).log)) }
+        ensures { MatchOption result (slice_get self.now.cast.replicas r ≡ None)
+            (λ log. IfSome (slice_get self.now.cast.replicas r) (λ s. log.now ≡ (P.proto.state s.value).log)) }
     {
-        let replica = self.replicas.get(r as usize)?;
-        Some(replica.log())
+        self.cast.log_of(r)
     }
 
-    /// The instance in which replica `r` is. None exactly where there is no such replica.
+    /// The instance in which the first core of replica `r` is. None exactly where there is no such
+    /// replica.
     pub fn instance_of(&self, r: u8) -> Option<u32>
-        ensures { result ≡ option_map (λ s. s.at) (slice_get self.now.state.replicas r) }
+        ensures { result ≡ option_map (λ s. s.at) (slice_get self.now.cast.replicas r) }
     {
-        let replica = self.replicas.get(r as usize)?;
-        Some(replica.instance())
+        self.cast.instance_of(r)
     }
 
-    /// The world ends: memory was refused.
-    fn end(&mut self) -> WorldFault
-        ensures result { result ≡ WorldFault.OutOfMemory }
-        ensures ended { self.new ≡ record self.old { ended = Some WorldFault.OutOfMemory } }
+    /// The world ends.
+    fn end(&mut self, fault: WorldFault) -> WorldFault
+        ensures result { result ≡ fault }
+        ensures ended { self.new ≡ record self.old { ended = Some fault } }
     {
-        self.ended = Some(WorldFault::OutOfMemory);
-        WorldFault::OutOfMemory
+        self.ended = Some(fault);
+        fault
     }
 
-    /// Adds what the present event sends and shows.
-    fn settle(&mut self, alloc: Global, outs: Outs, marks: Marks) -> Result<(), WorldFault>
-        ensures ok { OnOk result (self.new ≡ settled self.old outs marks.items) }
+    /// Adds what a party of the cluster sends and shows in the present event, and the name in which
+    /// something was forged that it took. After an `Err` all that is shown is as before.
+    fn add(
+        &mut self,
+        alloc: Global,
+        party: Party,
+        found: Option<Party>,
+        effects: Effects,
+    ) -> Result<(), WorldFault>
+        requires party { IsTrue (is_party self.old.cast.setup.f self.old.cast.setup.clients party) }
+        requires drafts { All (λ o. IsDraft o.msg) effects.outs }
+        requires makers { All (λ o. maker_of (content_of o.msg) ≡ party) effects.outs }
+        ensures ok { OnOk result ((self.new ≡ settled self.old party found effects.outs effects.marks.items) × (total self.new.packets ≤ most_bytes)) }
+        ensures cause { IfErr result (λ f. SettleCause f (settled self.old party found effects.outs effects.marks.items)) }
+        ensures err { OnErr result (self.new ≡ record self.old { made = self.new.made }) }
+    {
+        let event = self.cast.events();
+        let setup = self.cast.setup();
+        let packets = post(alloc, setup, party, effects.outs.as_slice())?;
+        if setup.is_faulty(party) {
+            self.packets.send(alloc, packets)?;
+            return Ok(());
+        }
+        let lines = lines_of(alloc, event, effects.marks.as_slice())?;
+        self.lines.reserve(lines.len())?;
+        self.seen.reserve(effects.marks.len())?;
+        state(alloc, setup, party, &mut self.made, effects.outs.as_slice())?;
+        self.packets.send(alloc, packets)?;
+        add_lines(&mut self.lines, lines);
+        add_seen(&mut self.seen, event, effects.marks);
+        self.forged = first_forgery(self.forged, event, found);
+        Ok(())
+    }
+
+    /// Bytes came to a party in the present event that did not open.
+    fn refuse(&mut self, party: Party, cause: TextCause) -> Result<(), WorldFault>
+        ensures ok { OnOk result ((self.new ≡ missed self.old party cause) × (total self.new.packets ≤ most_bytes)) }
         ensures cause { IfErr result (λ f. f ≡ WorldFault.OutOfMemory) }
-        ensures err { OnErr result (self.new ≡ record self.old { ended = Some WorldFault.OutOfMemory }) }
+        ensures err { OnErr result (self.new ≡ self.old) }
     {
-        let recorded = record(
-            alloc,
-            &mut self.packets,
-            &mut self.seen,
-            &mut self.lines,
-            self.events,
-            outs,
-            marks,
-        );
-        match recorded {
+        if self.cast.setup().is_faulty(party) {
+            return Ok(());
+        }
+        let event = self.cast.events();
+        match self.lines.push(Line::Refused {
+            event,
+            party,
+            cause,
+        }) {
             Ok(()) => Ok(()),
-            Err(_) => Err(self.end()),
+            Err(_) => Err(WorldFault::OutOfMemory),
         }
     }
 
-    /// The packet at this index comes to replica `r`.
-    fn ask(&mut self, alloc: Global, r: u8, index: usize) -> Result<(), WorldFault>
-        requires quiet { SignsNothing P.proto }
-        requires few { self.old.state.events < 100000 }
-        requires there { index < length self.old.state.packets }
-        ensures ok { (o : TheOut) → slice_get self.old.state.packets index ≡ Some o → OnOk result (self.new ≡ record self.old {
-          state = after_call self.old.cluster (rules_of P.proto no_certificate) self.old.state r (took (heard o.msg)) (slice_get self.old.state.replicas r);
-        }) }
-        ensures cause { IfErr result (λ f. f ≡ WorldFault.OutOfMemory) }
-        ensures err { OnErr result (HasEnded WorldFault.OutOfMemory self.old self.new) }
+    /// The present event ends: what came of it is added. After an `Err` the world has ended.
+    fn finish(&mut self, alloc: Global, party: Party, handed: Handed) -> Result<(), WorldFault>
+        requires party { IsTrue (is_party self.old.cast.setup.f self.old.cast.setup.clients party) }
+        requires drafts { EachOut (λ o. IsDraft o.msg) handed }
+        requires makers { EachOut (λ o. maker_of (content_of o.msg) ≡ party) handed }
+        ensures ok { OnOk result ((self.new ≡ finished self.old party handed) × (total self.new.packets ≤ most_bytes)) }
+        ensures cause { IfErr result (λ f. SettleCause f (finished self.old party handed)) }
+        ensures err { IfErr result (λ f. HasEnded f self.old self.new) }
     {
-        self.events += 1;
-        let place = r as usize;
-        if place >= self.replicas.len() {
-            return Ok(());
-        }
-        match self.replicas[place].on(alloc, &self.packets[index].msg) {
-            Ok(outs) => self.settle(alloc, outs, Marks::new_in(alloc)),
-            Err(OutOfMemory) => Err(self.end()),
-        }
-    }
-
-    /// The packet at this index comes to client `c`.
-    fn tell(&mut self, alloc: Global, c: u16, index: usize) -> Result<(), WorldFault>
-        requires few { self.old.state.events < 100000 }
-        requires there { index < length self.old.state.packets }
-        ensures ok { (o : TheOut) → slice_get self.old.state.packets index ≡ Some o → OnOk result (self.new ≡ record self.old {
-          state = after_cue self.old.cluster (rules_of P.proto no_certificate) self.old.state c (cue_message (heard o.msg)) (slice_get self.old.state.clients c);
-        }) }
-        ensures cause { IfErr result (λ f. f ≡ WorldFault.OutOfMemory) }
-        ensures err { OnErr result (HasEnded WorldFault.OutOfMemory self.old self.new) }
-    {
-        self.events += 1;
-        let place = c as usize;
-        if place >= self.clients.len() {
-            return Ok(());
-        }
-        let marks = self.clients[place].on(alloc, &self.packets[index].msg);
-        self.settle(alloc, Outs::new(alloc), marks)
-    }
-
-    /// Client `c`, which is there, is given a command.
-    fn call(&mut self, alloc: Global, c: u16, command: &[u8]) -> Result<(), WorldFault>
-        requires few { self.old.state.events < 100000 }
-        requires there { c < length self.old.state.clients }
-        requires form { (0 < length command.now) × (length command.now ≤ 128) }
-        ensures ok { (s : TheCli) → slice_get self.old.state.clients c ≡ Some s → OnOk result ((client_refusal (Some s) ≡ None) × (self.new ≡ record self.old {
-          state = after_cue self.old.cluster (rules_of P.proto no_certificate) self.old.state c (told command.now) (Some s);
-        })) }
-        ensures cause { (s : TheCli) → slice_get self.old.state.clients c ≡ Some s → IfErr result (λ f. Cause f (client_refusal (Some s))) }
-        ensures err { IfErr result (λ f. Leaves f self.old self.new) }
-    {
-        match self.clients[c as usize].invoke(alloc, command) {
-            Ok((outs, marks)) => {
-                self.events += 1;
-                self.settle(alloc, outs, marks)
-            }
-            Err(InvokeFault::Busy) => Err(WorldFault::Busy),
-            Err(InvokeFault::TooLong) => unreachable!(),
-            Err(InvokeFault::Empty) => unreachable!(),
-            Err(InvokeFault::OutOfMemory) => Err(self.end()),
+        let finished = match handed {
+            Handed::Missed(cause) => self.refuse(party, cause),
+            Handed::Heard(found, effects) => self.add(alloc, party, found, effects),
+        };
+        match finished {
+            Ok(()) => Ok(()),
+            Err(fault) => Err(self.end(fault)),
         }
     }
 
@@ -302,67 +269,89 @@ impl<S: Service, P: Protocol<S>> World<S, P> {
         core: Core,
         command: &ArrayVec<u8, 128>,
     ) -> Result<(), WorldFault>
-        requires few { self.old.state.events < 100000 }
-        ensures ok { OnOk result ((form_refusal self.old.state (Event.Invoke core command.now) ≡ None)
-            × (self.new ≡ after P.proto self.old (Event.Invoke core command.now))) }
-        ensures cause { IfErr result (λ f. Cause f (form_refusal self.old.state (Event.Invoke core command.now))) }
+        requires few { self.old.cast.events < 100000 }
+        ensures ok { OnOk result (stepped_by P.proto self.old (happening self.old (Event.Invoke core command.now)) ≡ Ok self.new) }
+        ensures cause { IfErr result (λ f. CauseIn P.proto f self.old (happening self.old (Event.Invoke core command.now))) }
         ensures err { IfErr result (λ f. Leaves f self.old self.new) }
     {
-        if command.is_empty() {
+        let bytes = command.as_slice();
+        if bytes.is_empty() {
             return Err(WorldFault::NotBuilt);
         }
-        let Some(c) = client_number(core) else {
+        let Some(place) = self.cast.setup().place(core.party, core.twin) else {
             return Err(WorldFault::BadParty);
         };
-        if c as usize >= self.clients.len() {
-            return Err(WorldFault::BadParty);
+        places_have_cores(&self.cast);
+        match self.cast.invoke(alloc, place, bytes) {
+            Ok(effects) => self.finish(alloc, place.party(), Handed::Heard(None, effects)),
+            Err(CommandFault::NoClient) => Err(WorldFault::BadParty),
+            Err(CommandFault::Busy) => Err(WorldFault::Busy),
+            Err(CommandFault::OutOfMemory) => Err(self.end(WorldFault::OutOfMemory)),
         }
-        self.call(alloc, c, command.as_slice())
     }
 
-    /// The packet of this number is handed to its addressee.
-    fn deliver(&mut self, alloc: Global, packet: u64) -> Result<(), WorldFault>
+    /// The packet of this number is handed to its addressee, or to the core of it that is named.
+    fn deliver(&mut self, alloc: Global, number: u64, core: Option<Core>) -> Result<(), WorldFault>
         requires quiet { SignsNothing P.proto }
-        requires few { self.old.state.events < 100000 }
-        ensures ok { OnOk result ((form_refusal self.old.state (Event.Deliver packet None) ≡ None)
-            × (self.new ≡ after P.proto self.old (Event.Deliver packet None))) }
-        ensures cause { IfErr result (λ f. Cause f (form_refusal self.old.state (Event.Deliver packet None))) }
+        requires own { SendsOwn P.proto }
+        requires drafts { SendsDrafts P.proto }
+        requires few { self.old.cast.events < 100000 }
+        ensures ok { OnOk result (stepped_by P.proto self.old (happening self.old (Event.Deliver number core)) ≡ Ok self.new) }
+        ensures cause { IfErr result (λ f. CauseIn P.proto f self.old (happening self.old (Event.Deliver number core))) }
         ensures err { IfErr result (λ f. Leaves f self.old self.new) }
     {
-        if packet == 0 || packet > self.packets.len() as u64 {
+        let Some(packet) = self.packets.get(number) else {
             return Err(WorldFault::NoPacket);
-        }
-        let index = (packet - 1) as usize;
-        match self.packets[index].to {
-            Party::Replica(r) => self.ask(alloc, r, index),
-            Party::Client(c) => self.tell(alloc, c, index),
+        };
+        let Some(place) = addressed(self.cast.setup(), packet.to(), core) else {
+            return Err(WorldFault::BadParty);
+        };
+        match hand(alloc, &mut self.cast, &self.made, place, packet.bytes()) {
+            Ok(handed) => self.finish(alloc, place.party(), handed),
+            Err(_) => Err(self.end(WorldFault::OutOfMemory)),
         }
     }
 
-    /// One event. A refused event changes nothing, but for the limit and want of memory: after
+    /// Bytes are handed to a core.
+    fn inject(&mut self, alloc: Global, core: Core, bytes: &[u8]) -> Result<(), WorldFault>
+        requires quiet { SignsNothing P.proto }
+        requires own { SendsOwn P.proto }
+        requires drafts { SendsDrafts P.proto }
+        requires few { self.old.cast.events < 100000 }
+        ensures ok { OnOk result (stepped_by P.proto self.old (handed bytes.now (place_of self.old.cast.setup core.party core.twin)) ≡ Ok self.new) }
+        ensures cause { IfErr result (λ f. CauseIn P.proto f self.old (handed bytes.now (place_of self.old.cast.setup core.party core.twin))) }
+        ensures err { IfErr result (λ f. Leaves f self.old self.new) }
+    {
+        let Some(place) = self.cast.setup().place(core.party, core.twin) else {
+            return Err(WorldFault::BadParty);
+        };
+        match hand(alloc, &mut self.cast, &self.made, place, bytes) {
+            Ok(handed) => self.finish(alloc, place.party(), handed),
+            Err(_) => Err(self.end(WorldFault::OutOfMemory)),
+        }
+    }
+
+    /// One event. A refused event changes nothing, but for the limits and want of memory: after
     /// these the world has ended, and each further step answers the same.
     pub fn step(&mut self, alloc: Global, e: &Event) -> Result<(), WorldFault>
         requires quiet { SignsNothing P.proto }
-        ensures ok { OnOk result ((refusal self.old e.now ≡ None) × (self.new ≡ after P.proto self.old e.now)) }
-        ensures cause { IfErr result (λ f. Cause f (refusal self.old e.now)) }
+        requires own { SendsOwn P.proto }
+        requires drafts { SendsDrafts P.proto }
+        ensures ok { OnOk result (stepped P.proto self.old e.now ≡ Ok self.new) }
+        ensures cause { IfErr result (λ f. Cause P.proto f self.old e.now) }
         ensures err { IfErr result (λ f. Leaves f self.old self.new) }
     {
         if let Some(fault) = self.ended {
             return Err(fault);
         }
-        if self.events >= MOST_EVENTS {
-            self.ended = Some(WorldFault::Limit);
-            return Err(WorldFault::Limit);
+        if self.cast.events() >= MOST_EVENTS {
+            return Err(self.end(WorldFault::EventLimit));
         }
         match e {
             Event::Invoke { core, command } => self.invoke(alloc, *core, command),
-            Event::Deliver { packet, core: None } => self.deliver(alloc, *packet),
-            Event::Deliver {
-                packet: _,
-                core: Some(_),
-            } => Err(WorldFault::NotBuilt),
+            Event::Deliver { packet, core } => self.deliver(alloc, *packet, *core),
+            Event::Inject { core, bytes } => self.inject(alloc, *core, bytes.as_slice()),
             Event::Timeout { core: _ } => Err(WorldFault::NotBuilt),
-            Event::Inject { core: _, bytes: _ } => Err(WorldFault::NotBuilt),
         }
     }
 }

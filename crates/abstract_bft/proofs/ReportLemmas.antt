@@ -1,39 +1,57 @@
 -- The logs of a report, one after another.
-use Rattle.std.proofs.Common.{◌≡◌, ℕ, ◌+◌, List, ◌∷◌, ◌++◌, Option, None, Some, IfSome, drop, flat_map, slice_get, refl, sym, ap, ◌∙◌, append_assoc}
-use Rattle.std.specs.Option.{option_map}
+use Rattle.std.proofs.Common.{◌≡◌, ℕ, ◌+◌, ◌<◌, List, ◌∷◌, ◌++◌, Bool, true, false, Option, Some, IfSome, if◌then◌else◌, drop, flat_map, length, slice_get, sym, ap, ◌∙◌, append_assoc, subst, inl, inr, arith}
 use Rattle.std.proofs.lemmas.List.{at_drop_more}
-use Rattle.std.proofs.lemmas.Option.{slice_get_within, get_or_from_slice_get}
-use Rattle.ab_hist.specs.declared.request.Request.{Request}
-use Rattle.ab_text.specs.Reports.{log_text, log_line}
-use Rattle.ab_abs.specs.Members.{Member, member_state}
+use Rattle.std.proofs.lemmas.Option.{slice_get_within, slice_get_cases, get_or_from_slice_get}
+use Rattle.ab_num.specs.declared.party.Party.TheVariants.{Replica}
+use Rattle.ab_text.specs.Reports.{log_text}
+use Rattle.ab_abs.specs.Members.{Member}
 use Rattle.ab_run.specs.Replicas.{Rep}
-use Rattle.ab_world.specs.Lines.{entries_of}
-use Rattle.abstract_bft.specs.Replays.{logs_from}
+use Rattle.ab_cast.specs.Setups.{Setup, is_bad}
+use Rattle.abstract_bft.specs.Replays.{log_of, logs_from}
 
 next_is : (xs : List (Rep Member)) (r : ℕ) (s : Rep Member) → slice_get xs r ≡ Some s → drop r xs ≡ s ∷ drop (r + 1) xs
 next_is xs r s e = at_drop_more (λ t. t) xs r s (slice_get_within xs r s e) ∙ ap (λ x. x ∷ drop (r + 1) xs) (get_or_from_slice_get xs r s s e)
 
--- the bytes before the log of replica r, and those with it, make one whole with the logs that follow
-written_at : (whole before now : List ℕ) (xs : List (Rep Member)) (r i : ℕ) (entries : List (ℕ × ℕ)) (h : List Request) (o : Option (Rep Member))
-    → slice_get xs r ≡ o → Some i ≡ option_map (λ s. s.at) o → IfSome o (λ s. h ≡ (member_state s.value).log) → entries ≡ entries_of h
-    → now ≡ before ++ log_line r i entries
-    → before ++ flat_map log_text (logs_from r (drop r xs)) ≡ whole
-    → now ++ flat_map log_text (logs_from (r + 1) (drop (r + 1) xs)) ≡ whole
-written_at whole before now xs r i entries h None e at has are is so = absurd (cc)
-written_at whole before now xs r i entries h (Some s) e at has are is so =
-    let rest = flat_map log_text (logs_from (r + 1) (drop (r + 1) xs)) in
-    let same : i ≡ s.at = cc in
-    let same_entries : entries ≡ entries_of (member_state s.value).log = are ∙ ap entries_of has in
-    let same_line : log_line r i entries ≡ log_line r s.at (entries_of (member_state s.value).log) = λ j. log_line r (same j) (same_entries j) in
+-- the logs from replica r on, where this says whether it is faulty
+logs_at : (x : Setup) (xs : List (Rep Member)) (r : ℕ) (s : Rep Member) (bad : Bool) → slice_get xs r ≡ Some s → is_bad x (Replica r) ≡ bad
+    → logs_from x r (drop r xs) ≡ (if bad then logs_from x (r + 1) (drop (r + 1) xs) else log_of r s ∷ logs_from x (r + 1) (drop (r + 1) xs))
+logs_at x xs r s bad e is =
+    ap (logs_from x r) (next_is xs r s e)
+    ∙ ap (λ b. if b then logs_from x (r + 1) (drop (r + 1) xs) else log_of r s ∷ logs_from x (r + 1) (drop (r + 1) xs)) is
+
+-- the bytes before a faulty replica make one whole with the logs after it
+passed : (x : Setup) (whole before : List ℕ) (xs : List (Rep Member)) (r : ℕ) (s : Rep Member) → slice_get xs r ≡ Some s → is_bad x (Replica r) ≡ true
+    → before ++ flat_map log_text (logs_from x r (drop r xs)) ≡ whole
+    → before ++ flat_map log_text (logs_from x (r + 1) (drop (r + 1) xs)) ≡ whole
+passed x whole before xs r s e bad so = ap (λ t. before ++ flat_map log_text t) (sym (logs_at x xs r s true e bad)) ∙ so
+
+-- and those with the log of a correct one
+written : (x : Setup) (whole before now : List ℕ) (xs : List (Rep Member)) (r : ℕ) (s : Rep Member) → slice_get xs r ≡ Some s → is_bad x (Replica r) ≡ false
+    → now ≡ before ++ log_text (log_of r s)
+    → before ++ flat_map log_text (logs_from x r (drop r xs)) ≡ whole
+    → now ++ flat_map log_text (logs_from x (r + 1) (drop (r + 1) xs)) ≡ whole
+written x whole before now xs r s e good is so =
+    let rest = flat_map log_text (logs_from x (r + 1) (drop (r + 1) xs)) in
     ap (λ t. t ++ rest) is
-    ∙ append_assoc before (log_line r i entries) rest
-    ∙ ap (λ t. before ++ (t ++ rest)) same_line
-    ∙ ap (λ t. before ++ flat_map log_text (logs_from r t)) (sym (next_is xs r s e))
+    ∙ append_assoc before (log_text (log_of r s)) rest
+    ∙ ap (λ t. before ++ flat_map log_text t) (sym (logs_at x xs r s false e good))
     ∙ so
 
-pub written_log : (whole before now : List ℕ) (xs : List (Rep Member)) (r i : ℕ) (entries : List (ℕ × ℕ)) (h : List Request)
-    → Some i ≡ option_map (λ s. s.at) (slice_get xs r) → IfSome (slice_get xs r) (λ s. h ≡ (member_state s.value).log) → entries ≡ entries_of h
-    → now ≡ before ++ log_line r i entries
-    → before ++ flat_map log_text (logs_from r (drop r xs)) ≡ whole
-    → now ++ flat_map log_text (logs_from (r + 1) (drop (r + 1) xs)) ≡ whole
-written_log whole before now xs r i entries h = written_at whole before now xs r i entries h (slice_get xs r) refl
+pub passed_by : (x : Setup) (whole before : List ℕ) (xs : List (Rep Member)) (r : ℕ) → r < length xs → is_bad x (Replica r) ≡ true
+    → before ++ flat_map log_text (logs_from x r (drop r xs)) ≡ whole
+    → before ++ flat_map log_text (logs_from x (r + 1) (drop (r + 1) xs)) ≡ whole
+passed_by x whole before xs r within bad so =
+    elim (slice_get_cases xs r).1 [
+      | inl at ↦ passed x whole before xs r at.0 at.2 bad so
+      | inr past ↦ absurd (omega (arith, within, past.0))
+    ]
+
+pub written_log : (x : Setup) (whole before now : List ℕ) (xs : List (Rep Member)) (r : ℕ) → r < length xs → is_bad x (Replica r) ≡ false
+    → IfSome (slice_get xs r) (λ s. now ≡ before ++ log_text (log_of r s))
+    → before ++ flat_map log_text (logs_from x r (drop r xs)) ≡ whole
+    → now ++ flat_map log_text (logs_from x (r + 1) (drop (r + 1) xs)) ≡ whole
+written_log x whole before now xs r within good is so =
+    elim (slice_get_cases xs r).1 [
+      | inl at ↦ written x whole before now xs r at.0 at.2 good (subst (λ (o : Option (Rep Member)). IfSome o (λ s. now ≡ before ++ log_text (log_of r s))) at.2 is) so
+      | inr past ↦ absurd (omega (arith, within, past.0))
+    ]

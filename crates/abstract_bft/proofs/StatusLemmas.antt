@@ -1,35 +1,75 @@
 -- What follows from the causes of statuses.
-use Rattle.std.proofs.Common.{◌≡◌, ℕ, ◌<◌, ◌⊎◌, List, Ok, Err, Result, length, arith, refl, sym, ap, ◌∙◌, subst, inl, inr}
+use Rattle.std.proofs.Common.{◌≡◌, ◌↔◌, ℕ, ◌<◌, ◌⊎◌, List, Bool, true, false, IsTrue, Ok, Err, Result, if◌then◌else◌, length, arith, refl, sym, ap, ◌∙◌, subst, inl, inr}
+use Rattle.std.specs.Io.KnownBytes.{Keeps}
+use Rattle.ab_num.specs.declared.plan.ServiceName.{ServiceName}
+use Rattle.ab_num.specs.declared.plan.ServiceName.TheVariants.{Echo, Kv}
+use Rattle.ab_abs.specs.Members.{Member}
+use Rattle.ab_svc.specs.Machines.{Machine}
+use Rattle.ab_quorum.specs.Rules.{quorum}
 use Rattle.ab_text.specs.declared.fault.TextFault.{TextFault}
+use Rattle.ab_text.specs.declared.line.Premise.{Premise}
+use Rattle.ab_text.specs.declared.line.Premise.TheVariants.{Held, Broken as NotHeld}
 use Rattle.ab_text.specs.Heads.{Script}
 use Rattle.ab_text.specs.Schedules.{ReadsText}
-use Rattle.abstract_bft.specs.declared.status.Bound.TheVariants.{Bytes, Events}
+use Rattle.abstract_bft.specs.declared.status.Bound.TheVariants.{Bytes, Events, Packets}
 use Rattle.abstract_bft.specs.declared.status.Refusal.{Refusal}
 use Rattle.abstract_bft.specs.declared.status.Status.{Status}
-use Rattle.abstract_bft.specs.declared.status.Status.TheVariants.{Done, Usage, Refused, ReadFault, WriteFault, Limit, OutOfMemory}
+use Rattle.abstract_bft.specs.declared.status.Status.TheVariants.{Done, Broken, Usage, Refused, ReadFault, WriteFault, Limit, OutOfMemory}
 use Rattle.abstract_bft.specs.Texts.{code_of}
 use Rattle.abstract_bft.specs.Streams.{IsAllOf, IsTooLong}
-use Rattle.abstract_bft.specs.Replays.{IsRefused, run_of}
 use Rattle.ab_io.specs.Causes.{Rose}
-use Rattle.abstract_bft.specs.Statuses.{Call, StatusCause, Says, HasCauseOf, HasFront, IsClear}
+use Rattle.ab_world.specs.declared.fault.WorldFault.{WorldFault}
+use Rattle.ab_world.specs.declared.fault.WorldFault.TheVariants.{PacketLimit}
+use Rattle.ab_world.specs.Premises.{premise_of}
+use Rattle.ab_world.specs.Worlds.{World}
+use Rattle.abstract_bft.specs.Replays.{Performs, PerformsAs, IsRefused, proto_of, run_of, run_under}
+use Rattle.abstract_bft.specs.Statuses.{Call, IsReplay, StatusCause, Says, HasCauseOf, HasFront, HasReport, IsClear, premise_code}
+
+-- a run has one end
+said_at : {S : Type 0} (machine : Machine S) (s : Script) (report : List ℕ) (held : Bool) (end : World Member) → Performs machine s report held → run_under (quorum machine) s ≡ Ok end
+    → IsTrue held ↔ (premise_of end ≡ Held)
+said_at machine s report held end performs runs =
+    let same : performs.end ≡ end = (let both : Ok performs.end ≡ Ok end = sym performs.runs ∙ runs in cc) in
+    subst (λ (w : World Member). IsTrue held ↔ (premise_of w ≡ Held)) same performs.says
+
+said_of : (service : ServiceName) (s : Script) (report : List ℕ) (held : Bool) (end : World Member) → PerformsAs service s report held
+    → run_under (proto_of service) s ≡ Ok end → IsTrue held ↔ (premise_of end ≡ Held)
+said_of Echo s report held end performs runs = said_at _ s report held end performs runs
+said_of Kv s report held end performs runs = said_at _ s report held end performs runs
+
+code_of_broken : (p : Premise) → (p ≡ Held → IsTrue false) → 1 ≡ premise_code p
+code_of_broken Held never = let e : false ≡ true = never refl in absurd (cc)
+code_of_broken (NotHeld e breach q) never = refl
 
 module _ (one : (text : List ℕ) (r q : Result Script TextFault) → ReadsText text r → ReadsText text q → r ≡ q) (c : Call) (clear : IsClear c) where
   -- the bytes that were read are those that the input tells
   same_text : (text : List ℕ) → IsAllOf c.left text → text ≡ clear.text
   same_text text all = sym (subst (λ left. IsAllOf left text) clear.input all)
 
+  not_ended : (text : List ℕ) (s : Script) (n : ℕ) (f : WorldFault) → text ≡ clear.text → ReadsText text (Ok s) → run_of s ≡ Err (n, f) → ⊥
+  not_ended text s n f same reads ends =
+      let e : Ok s ≡ Ok clear.schedule = one clear.text (Ok s) (Ok clear.schedule) (subst (λ t. ReadsText t (Ok s)) same reads) clear.reads in
+      let is : s ≡ clear.schedule = cc in
+      let o : ◌≡◌ {A = Result (World Member) (ℕ × WorldFault)} (Err (n, f)) (Ok clear.end) = sym ends ∙ (ap run_of is ∙ clear.runs) in cc
+
   not_refused : (text : List ℕ) (r : Refusal) → text ≡ clear.text → IsRefused text r → ⊥
   not_refused text r same refused =
       elim refused [
         | inl bad ↦ let e : Err bad.fault ≡ Ok clear.schedule = one clear.text (Err bad.fault) (Ok clear.schedule) (subst (λ t. ReadsText t (Err bad.fault)) same bad.reads) clear.reads in cc
-        | inr bad ↦
-            let e : Ok bad.schedule ≡ Ok clear.schedule = one clear.text (Ok bad.schedule) (Ok clear.schedule) (subst (λ t. ReadsText t (Ok bad.schedule)) same bad.reads) clear.reads in
-            let s : bad.schedule ≡ clear.schedule = cc in
-            let o : Err (bad.event, bad.fault) ≡ Ok clear.end = sym bad.runs ∙ (ap run_of s ∙ clear.runs) in cc
+        | inr bad ↦ not_ended text bad.schedule bad.event bad.fault same bad.reads bad.runs
       ]
 
-  clear_status : (s : Status) → StatusCause s c → (code_of s ≡ 0) ⊎ (code_of s ≡ 9)
-  clear_status Done cause = inl refl
+  -- the report says whether the premises hold at the end of the run that the input tells
+  says_clear : (held : Bool) → HasReport held c → IsTrue held ↔ (premise_of clear.end ≡ Held)
+  says_clear held (report, (text, all, replays), appended) =
+      let s = replays.schedule in
+      let e : Ok s ≡ Ok clear.schedule = one clear.text (Ok s) (Ok clear.schedule) (subst (λ t. ReadsText t (Ok s)) (same_text text all) replays.reads) clear.reads in
+      let is : s ≡ clear.schedule = cc in
+      said_of s.service s report held clear.end replays.performs (ap run_of is ∙ clear.runs)
+
+  clear_status : (s : Status) → StatusCause s c → (code_of s ≡ premise_code (premise_of clear.end)) ⊎ (code_of s ≡ 9)
+  clear_status Done (words, report, kept) = inl (ap premise_code (sym ((says_clear true report).0 refl)))
+  clear_status Broken (words, report, kept) = inl (code_of_broken (premise_of clear.end) ((says_clear false report).1))
   clear_status Usage (others, kept, said) = absurd (others clear.words)
   clear_status (Refused r) (words, (text, all, refused), kept, said) = absurd (not_refused text r (same_text text all) refused)
   clear_status ReadFault (words, rose, kept, said) = absurd (clear.read rose)
@@ -43,6 +83,8 @@ module _ (one : (text : List ℕ) (r q : Result Script TextFault) → ReadsText 
       absurd (let e : Ok s ≡ Ok clear.schedule = one clear.text (Ok s) (Ok clear.schedule) (subst (λ t. ReadsText t (Ok s)) (same_text text all) reads) clear.reads in
       let same : s ≡ clear.schedule = cc in
       omega (arith, many, ap (λ x. length x.events) same, clear.few))
+  clear_status (Limit Packets) (words, (text, all, many), kept, said) =
+      absurd (not_ended text many.schedule many.event PacketLimit (same_text text all) many.reads many.runs)
   clear_status OutOfMemory cause = inr refl
 
 -- the number of a status that has its cause
@@ -53,10 +95,18 @@ answers one n c s code cause = record {
   code = code;
   cause = cause;
   complete = λ clear. elim (clear_status one c clear s cause) [
-    | inl zero ↦ inl (code ∙ zero)
+    | inl premise ↦ inl (code ∙ premise)
     | inr nine ↦ inr (code ∙ nine)
   ];
 }
+
+written_whole : (c : Call) (held : Bool) → IsReplay c.words → HasReport held c → Keeps c.err_old c.err_new → StatusCause (if held then Done else Broken) c
+written_whole c true words report kept = (words, report, kept)
+written_whole c false words report kept = (words, report, kept)
+
+-- a report that was written whole
+pub report_written : (c : Call) (r : Status) (held : Bool) → r ≡ (if held then Done else Broken) → IsReplay c.words → HasReport held c → Keeps c.err_old c.err_new → StatusCause r c
+report_written c r held is words report kept = subst (λ (s : Status). StatusCause s c) (sym is) (written_whole c held words report kept)
 
 -- a fault of out that is said, or not
 pub write_fault_said : (c : Call) (r : Status) → ((r ≡ WriteFault) × Says WriteFault c) ⊎ (((r ≡ WriteFault) × Rose c.err_before c.err_now) ⊎ (r ≡ OutOfMemory))

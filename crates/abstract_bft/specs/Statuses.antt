@@ -1,17 +1,20 @@
 -- The statuses of the top call, each with its cause.
-use Rattle.std.specs.Prelude.{◌≡◌, ◌≤◌, ℕ, List, [], ◌∷◌, ◌⊎◌, Option, Some, Ok, length, codes}
+use Rattle.std.specs.Prelude.{◌≡◌, ◌≤◌, ℕ, Bool, true, false, List, [], ◌∷◌, ◌⊎◌, Option, Some, Ok, length, codes}
 use Rattle.std.specs.Io.KnownBytes.{Appends, Keeps}
 use Rattle.ab_io.specs.Causes.{Rose}
-use Rattle.abstract_bft.specs.declared.status.Bound.TheVariants.{Bytes, Events}
+use Rattle.abstract_bft.specs.declared.status.Bound.TheVariants.{Bytes, Events, Packets}
 use Rattle.abstract_bft.specs.declared.status.Status.{Status}
-use Rattle.abstract_bft.specs.declared.status.Status.TheVariants.{Done, Usage, Refused, ReadFault, WriteFault, Limit, OutOfMemory}
+use Rattle.abstract_bft.specs.declared.status.Status.TheVariants.{Done, Broken, Usage, Refused, ReadFault, WriteFault, Limit, OutOfMemory}
 use Rattle.abstract_bft.specs.Texts.{code_of, text_of}
 use Rattle.abstract_bft.specs.Streams.{IsAllOf, IsTooLong, AppendsFront}
 use Rattle.ab_abs.specs.Members.{Member}
 use Rattle.ab_text.specs.Heads.{Script}
 use Rattle.ab_text.specs.Schedules.{ReadsText}
-use Rattle.ab_world.specs.Steps.{World}
-use Rattle.abstract_bft.specs.Replays.{Replays, IsRefused, HasTooManyEvents, run_of}
+use Rattle.ab_text.specs.declared.line.Premise.{Premise}
+use Rattle.ab_text.specs.declared.line.Premise.TheVariants as premise
+use Rattle.ab_world.specs.Premises.{premise_of}
+use Rattle.ab_world.specs.Worlds.{World}
+use Rattle.abstract_bft.specs.Replays.{Replays, IsRefused, HasTooManyEvents, HasTooManyBytes, run_of}
 
 -- what a call of the program met: its words, what was left of the input, what out and err held before and after, and the
 -- counts of faults before and after
@@ -44,22 +47,25 @@ IsReplay words = words ≡ codes "replay" ∷ []
 abbrev pub HasInput : (List ℕ → Type 0) → Call → Type 0
 HasInput Is c = (text : List ℕ) × IsAllOf c.left text × Is text
 
--- out got the report of the run that the input spells, and nothing else
-abbrev pub HasReport : Call → Type 0
-HasReport c = (report : List ℕ) × HasInput (λ text. Replays text report) c × Appends c.out_old c.out_new report
+-- out got the report of the run that the input spells, and nothing else. Its premise line says `held` or `broken`
+abbrev pub HasReport : Bool → Call → Type 0
+HasReport held c = (report : List ℕ) × HasInput (λ text. Replays text report held) c × Appends c.out_old c.out_new report
 
 -- out got a front of the report, or nothing
 abbrev pub HasFront : Call → Type 0
-HasFront c = KeepsOut c ⊎ ((report : List ℕ) × HasInput (λ text. Replays text report) c × AppendsFront c.out_old c.out_new report)
+HasFront c =
+    KeepsOut c ⊎ ((report : List ℕ) × (held : Bool) × HasInput (λ text. Replays text report held) c × AppendsFront c.out_old c.out_new report)
 
 -- when each status comes, and what it leaves on out and err
 abbrev pub StatusCause : Status → Call → Type 0
-StatusCause Done c = IsReplay c.words × HasReport c × Keeps c.err_old c.err_new
+StatusCause Done c = IsReplay c.words × HasReport true c × Keeps c.err_old c.err_new
+StatusCause Broken c = IsReplay c.words × HasReport false c × Keeps c.err_old c.err_new
 StatusCause Usage c = (IsReplay c.words → ⊥) × KeepsOut c × Says Usage c
 StatusCause (Refused r) c = IsReplay c.words × HasInput (λ text. IsRefused text r) c × KeepsOut c × Says (Refused r) c
 StatusCause ReadFault c = IsReplay c.words × Rose c.read_before c.read_now × KeepsOut c × Says ReadFault c
 StatusCause WriteFault c = ((Rose c.out_before c.out_now × Says WriteFault c) ⊎ Rose c.err_before c.err_now) × HasFront c
 StatusCause (Limit Bytes) c = IsReplay c.words × IsTooLong c.left × KeepsOut c × Says (Limit Bytes) c
+StatusCause (Limit Packets) c = IsReplay c.words × HasInput HasTooManyBytes c × KeepsOut c × Says (Limit Packets) c
 StatusCause (Limit Events) c = IsReplay c.words × HasInput HasTooManyEvents c × KeepsOut c × Says (Limit Events) c
 StatusCause OutOfMemory c = HasFront c
 
@@ -79,9 +85,15 @@ pub record IsClear (c : Call) : Type 0 where
   pub out : Rose c.out_before c.out_now → ⊥
   pub err : Rose c.err_before c.err_now → ⊥
 
--- the number is that of a status that has its cause. Where nothing stands in the way, it is 0, or memory was refused
+-- 0 where the premise line says `held`, 1 where it says `broken`
+abbrev pub premise_code : Premise → ℕ
+premise_code premise.Held = 0
+premise_code (premise.Broken e breach p) = 1
+
+-- the number is that of a status that has its cause. Where nothing stands in the way, it is that of the premise line, or memory
+-- was refused
 pub record HasCauseOf (n : ℕ) (c : Call) : Type 0 where
   pub status : Status
   pub code : n ≡ code_of status
   pub cause : StatusCause status c
-  pub complete : IsClear c → (n ≡ 0) ⊎ (n ≡ 9)
+  pub complete : (clear : IsClear c) → (n ≡ premise_code (premise_of clear.end)) ⊎ (n ≡ 9)

@@ -1,23 +1,25 @@
 //! Replays of schedules.
 
-ghost use Rattle.std.specs.Prelude.{◌≡◌, ℕ, List, ◌+◌, ◌<◌, ◌≤◌, ◌^◌, length, IsTrue, OnOk, IfOk, IfErr, Ok, None};
+ghost use Rattle.std.specs.Prelude.{◌≡◌, ◌↔◌, ℕ, List, ◌+◌, ◌<◌, ◌≤◌, ◌^◌, All, length, IsTrue, OnOk, IfOk, IfErr, Ok, None};
 ghost use Rattle.ab_text.specs.Schedules.{script_of};
 ghost use Rattle.ab_num.specs.Places.{kind_of};
 ghost use Rattle.ab_quorum.specs.Rules.{quorum, is_quorum};
-ghost use Rattle.abstract_bft.specs.Replays.{outcome, run_under, Performs, Replays, EventsCause, TextCause, ReplayCause, fault_from, text_refusal, step_refusal};
+ghost use Rattle.ab_keys.specs.Keys.{is_party};
+ghost use Rattle.ab_world.specs.Runs.{outcome};
+ghost use Rattle.abstract_bft.specs.Replays.{run_under, Performs, Replays, EventsCause, TextCause, ReplayCause, fault_from, text_refusal, step_refusal};
 ghost use Rattle.abstract_bft.specs.Streams.{IsAllOf};
 
 use crate::report::report;
 use crate::status::{Cause, Refusal};
 use crate::stream::{ReadFault, read_all};
+use ab_cast::Setup;
 use ab_io::Source;
 use ab_kv::Kv;
 use ab_num::{OutOfMemory, ServiceName};
-use ab_quorum::{Quorum, quorum_sends_its_own};
-use ab_run::packets_keep_promises;
+use ab_quorum::{Quorum, quorum_sends_drafts, quorum_sends_its_own};
 use ab_svc::{Echo, Service};
-use ab_text::{Event, Schedule, TextFault, read_is_spelled, read_schedule};
-use ab_world::{World, WorldFault};
+use ab_text::{Event, Premise, Schedule, TextFault, read_is_in_form, read_schedule};
+use ab_world::{World, WorldFault, premise_is_exact, worlds_keep_promises};
 use std::alloc::Global;
 
 /// A cluster under the plan `quorum`.
@@ -33,6 +35,8 @@ pub(crate) enum ReplayFault {
     TooLong,
     Refused(Refusal),
     TooManyEvents,
+    /// The bytes of its packets would pass what a world keeps.
+    TooManyPackets,
     OutOfMemory,
 }
 
@@ -77,7 +81,8 @@ fn refusal_of_step(line: u32, fault: WorldFault) -> Option<Refusal>
         WorldFault::NoPacket => Cause::NoPacket,
         WorldFault::BadParty => Cause::BadParty,
         WorldFault::Busy => Cause::Busy,
-        WorldFault::Limit => return None,
+        WorldFault::EventLimit => return None,
+        WorldFault::PacketLimit => return None,
         WorldFault::OutOfMemory => return None,
     };
     Some(Refusal { line, cause })
@@ -101,19 +106,36 @@ fn run_events<S: Service>(
     line: u32,
 ) -> Result<(), ReplayFault>
     requires few { length events.now < 100001 }
-    requires begins { (world.old.state.events ≡ 0) × (world.old.ended ≡ None) }
+    requires begins { (world.old.cast.events ≡ 0) × (world.old.ended ≡ None) }
     requires short { line < 2 ^ 31 }
     ensures ok { OnOk result (outcome (quorum S.machine) 1 world.old events.now ≡ Ok world.new) }
     ensures cause { IfErr result (λ e. EventsCause e line (outcome (quorum S.machine) 1 world.old events.now)) }
 {
+    quorum_sends_its_own::<S>();
+    quorum_sends_drafts::<S>();
     for (i, e) in events.iter().enumerate() {
         match world.step(alloc, e) {
             Ok(()) => {}
-            Err(WorldFault::Limit) => unreachable!(),
+            Err(WorldFault::EventLimit) => unreachable!(),
+            Err(WorldFault::PacketLimit) => return Err(ReplayFault::TooManyPackets),
             Err(fault) => return Err(fault_of(refusal_of_step(line + 1 + i as u32, fault))),
         }
     }
     Ok(())
+}
+
+/// What a replay gives: the report, and whether its premise line says `held`.
+#[derive(Drop)]
+pub(crate) struct Replayed {
+    pub report: Vec<u8>,
+    pub held: bool,
+}
+
+/// Whether the premises held.
+fn is_held(premise: &Premise) -> bool
+    ensures { IsTrue result ↔ (premise.now ≡ Premise.Held) }
+{
+    matches!(premise, Premise::Held)
 }
 
 /// The report of a schedule of few events under the plan `quorum`, with a service. The first event
@@ -122,24 +144,31 @@ fn perform<S: Service>(
     alloc: Global,
     schedule: &Schedule,
     line: u32,
-) -> Result<Vec<u8>, ReplayFault>
+) -> Result<Replayed, ReplayFault>
     requires served { IsTrue (is_quorum (kind_of schedule.now.head.cluster.plan 1)) }
+    requires parties { All (λ e. IsTrue (is_party schedule.now.head.cluster.f schedule.now.head.cluster.clients e.0)) schedule.now.head.faulty }
     requires few { length schedule.now.events < 100001 }
     requires short { line < 2 ^ 31 }
-    ensures ok { IfOk result (λ v. Performs S.machine (script_of schedule.now.head schedule.now.events) v.items) }
+    ensures ok { IfOk result (λ v. Performs S.machine (script_of schedule.now.head schedule.now.events) v.report.items v.held) }
     ensures cause { IfErr result (λ e. EventsCause e line (run_under (quorum S.machine) (script_of schedule.now.head schedule.now.events))) }
 {
-    let mut world = QuorumWorld::<S>::new(alloc, &schedule.head.cluster)?;
+    let head = &schedule.head;
+    let setup = Setup::new(alloc, &head.cluster, head.faulty.as_slice())?;
+    let mut world = QuorumWorld::<S>::new(alloc, setup)?;
     run_events(alloc, &mut world, schedule.events.as_slice(), line)?;
-    quorum_sends_its_own::<S>();
-    packets_keep_promises::<S, Quorum<S>>();
-    Ok(report(alloc, &world)?)
+    quorum_sends_drafts::<S>();
+    premise_is_exact::<S, Quorum<S>>();
+    worlds_keep_promises::<S, Quorum<S>>();
+    Ok(Replayed {
+        report: report(alloc, &world)?,
+        held: is_held(&world.premise()),
+    })
 }
 
 /// The report of the schedule that a text spells.
-fn simulate(alloc: Global, text: &[u8]) -> Result<Vec<u8>, ReplayFault>
+fn simulate(alloc: Global, text: &[u8]) -> Result<Replayed, ReplayFault>
     requires { length text.now < 2 ^ 31 }
-    ensures ok { IfOk result (λ v. Replays text.now v.items) }
+    ensures ok { IfOk result (λ v. Replays text.now v.report.items v.held) }
     ensures cause { IfErr result (λ e. TextCause e text.now) }
 {
     let schedule = match read_schedule(alloc, text) {
@@ -149,8 +178,8 @@ fn simulate(alloc: Global, text: &[u8]) -> Result<Vec<u8>, ReplayFault>
     if schedule.events.as_slice().len() > MOST_EVENTS {
         return Err(ReplayFault::TooManyEvents);
     }
-    // What was read is built: the plan is `quorum`, and no party is declared faulty yet.
-    read_is_spelled();
+    // What was read is in form: the plan is `quorum`, and faulty parties are of the cluster.
+    read_is_in_form();
     let line = 7 + schedule.head.faulty.as_slice().len() as u32;
     match schedule.head.service {
         ServiceName::Echo => perform::<Echo>(alloc, &schedule, line),
@@ -159,8 +188,8 @@ fn simulate(alloc: Global, text: &[u8]) -> Result<Vec<u8>, ReplayFault>
 }
 
 /// The report of the schedule that an input spells.
-pub(crate) fn replay<I: Source>(alloc: Global, input: &mut I) -> Result<Vec<u8>, ReplayFault>
-    ensures ok { IfOk result (λ v. (text : List ℕ) × IsAllOf (I.left input.old) text × Replays text v.items) }
+pub(crate) fn replay<I: Source>(alloc: Global, input: &mut I) -> Result<Replayed, ReplayFault>
+    ensures ok { IfOk result (λ v. (text : List ℕ) × IsAllOf (I.left input.old) text × Replays text v.report.items v.held) }
     ensures later { I.faults input.old ≤ I.faults input.new }
     ensures cause { IfErr result (λ e. ReplayCause e (I.left input.old) (I.faults input.old) (I.faults input.new)) }
 {

@@ -34,12 +34,16 @@ pub(crate) struct Refusal {
 pub(crate) enum Bound {
     Bytes,
     Events,
+    Packets,
 }
 
 /// How a call of the program ended.
 #[derive(Clone, Copy, Debug, PartialEq, Eq)]
 pub(crate) enum Status {
+    /// A replay was done, and its premises held.
     Done,
+    /// A replay was done, and a premise was broken.
+    Broken,
     Usage,
     Refused(Refusal),
     ReadFault,
@@ -55,6 +59,7 @@ impl Status {
     {
         match self {
             Status::Done => 0,
+            Status::Broken => 1,
             Status::Usage => 2,
             Status::Refused(_) => 3,
             Status::ReadFault => 4,

@@ -2,9 +2,11 @@
 
 use crate::replay::QuorumWorld;
 use crate::top::run;
+use ab_cast::Setup;
 use ab_hist::array_of;
 use ab_io::{MemClock, MemLink, MemSink, MemSource, SureSink, SureSource};
 use ab_num::{Cluster, Party, Plan};
+use ab_quorum::{quorum_sends_drafts, quorum_sends_its_own};
 use ab_svc::Echo;
 use ab_text::{Core, Event};
 use std::alloc::Global;
@@ -16,6 +18,13 @@ const HEAD: &str = "abstract 1\nf 1\nplan quorum\nclients 2\nservice kv\nlms 5\n
 
 /// The same with the service that echoes.
 const ECHO_HEAD: &str = "abstract 1\nf 1\nplan quorum\nclients 2\nservice echo\nlms 5\nrun\n";
+
+/// The head of a schedule of one client with the service that echoes, before its faulty parties.
+const ONE_CLIENT: &str = "abstract 1\nf 1\nplan quorum\nclients 1\nservice echo\nlms 5\n";
+
+/// A request of a client that each replica has answered, where three of the answers have come.
+const THREE_ANSWERS: &str =
+    "run\ninvoke c0 put a 1\ndeliver 1\ndeliver 2\ndeliver 3\ndeliver 4\ndeliver 5\ndeliver 6\ndeliver 7\n";
 
 const USAGE: &str = "usage: abstract_bft <keys|node|replay|storm> [options]\n";
 
@@ -168,6 +177,96 @@ fn what_is_refused_is_said(rt: HostRuntime) -> Result<(), Fail> {
     )
 }
 
+#[test]
+fn too_many_faulty_replicas_break_the_premise(rt: HostRuntime) -> Result<(), Fail> {
+    expect_after(
+        &rt,
+        rt.alloc(),
+        ONE_CLIENT,
+        &["replay"],
+        "faulty r0 1\nfaulty r1 1\nrun\nend\n",
+        1,
+        "log r2 1 -\nlog r3 1 -\npremise broken 0 faulty r1\nend 0 0\n",
+        "",
+    )?;
+    expect_after(
+        &rt,
+        rt.alloc(),
+        ONE_CLIENT,
+        &["replay"],
+        "faulty r3 2\nfaulty c0 1\nrun\nend\n",
+        0,
+        "log r0 1 -\nlog r1 1 -\nlog r2 1 -\npremise held\nend 0 0\n",
+        "",
+    )
+}
+
+#[test]
+fn bytes_of_anyone_are_checked(rt: HostRuntime) -> Result<(), Fail> {
+    let alloc = rt.alloc();
+    let answer =
+        "inject c0 030300000300000001000000000000000000010001688e05e3250f603fe42468fe71560525868d0b254ba6463c94985b87d2909ac0";
+    let logs = "log r0 1 c0.1\nlog r1 1 c0.1\nlog r2 1 c0.1\nlog r3 1 c0.1\n";
+    // The fourth answer as r3 sent it, but for the last bit of its tag.
+    let flipped = format!(in alloc;
+        "{THREE_ANSWERS}{answer}077075742061203133d24bf6c4f40c51d1d1dcec886310d571858fc8b435ce7f0064474827372fb0\nend\n"
+    )?;
+    let refused = format!(in alloc;
+        "invoked 1 c0 1 1\nrefused 9 c0 tag\n{logs}premise held\nend 9 8\n"
+    )?;
+    expect_after(
+        &rt,
+        alloc,
+        ONE_CLIENT,
+        &["replay"],
+        flipped.as_str(),
+        0,
+        refused.as_str(),
+        "",
+    )?;
+    // An answer of another reply under the key of r3, which never made it.
+    let forged = format!(in alloc;
+        "{THREE_ANSWERS}{answer}026e6f2976507b9f21858ef1298271561e0883b9393513c27b0ed3fb8ac53a15a049cd\nend\n"
+    )?;
+    let broken = format!(in alloc;
+        "invoked 1 c0 1 1\n{logs}premise broken 9 forged r3\nend 9 8\n"
+    )?;
+    expect_after(
+        &rt,
+        alloc,
+        ONE_CLIENT,
+        &["replay"],
+        forged.as_str(),
+        1,
+        broken.as_str(),
+        "",
+    )
+}
+
+#[test]
+fn a_core_that_is_not_there_is_refused(rt: HostRuntime) -> Result<(), Fail> {
+    expect_after(
+        &rt,
+        rt.alloc(),
+        ONE_CLIENT,
+        &["replay"],
+        "faulty r0 2\nrun\ninvoke c0 put a 1\ndeliver 1 r0.2\ndeliver 1 r0.3\nend\n",
+        3,
+        "",
+        "line 11: bad party\n",
+    )?;
+    expect_after(
+        &rt,
+        rt.alloc(),
+        ONE_CLIENT,
+        &["replay"],
+        "run\ninvoke c0 put a 1\ndeliver 1 r0.1\nend\n",
+        3,
+        "",
+        "line 9: bad party\n",
+    )
+}
+
 /// Runs the command on an empty schedule over a source and sinks whose calls with these numbers
 /// fail, and compares its status and what it says.
 fn expect_fault(
@@ -234,7 +333,9 @@ fn a_world_shows_itself(rt: HostRuntime) -> Result<(), Fail> {
     let Some(c) = Cluster::new(1, 2, Plan::Quorum) else {
         return Err(Fail::from("in bounds"));
     };
-    let mut world = QuorumWorld::<Echo>::new(alloc, &c)?;
+    quorum_sends_its_own::<Echo>();
+    quorum_sends_drafts::<Echo>();
+    let mut world = QuorumWorld::<Echo>::new(alloc, Setup::new(alloc, &c, &[])?)?;
     assert_eq!(rt; idle(&world), (true, true, false));
     let invoke = Event::Invoke {
         core: Core {

@@ -1,6 +1,6 @@
 //! The top call.
 
-ghost use Rattle.std.specs.Prelude.{◌≡◌, ◌≤◌, ◌↔◌, ◌⊎◌, ℕ, List, IsTrue, map, codes};
+ghost use Rattle.std.specs.Prelude.{◌≡◌, ◌≤◌, ◌↔◌, ◌⊎◌, ℕ, List, IsTrue, if◌then◌else◌, map, codes};
 ghost use Rattle.std.specs.Io.KnownBytes.{Appends};
 ghost use Rattle.ab_io.specs.Causes.{Rose};
 ghost use Rattle.abstract_bft.specs.Texts.{code_of, refusal_text};
@@ -48,6 +48,13 @@ fn say_refusal<E: Sink>(alloc: Global, err: &mut E, refusal: Refusal) -> Status
     }
 }
 
+/// The status of a replay that was done.
+fn done(held: bool) -> Status
+    ensures { result ≡ (if held then Status.Done else Status.Broken) }
+{
+    if held { Status::Done } else { Status::Broken }
+}
+
 /// What the program does.
 fn serve<I: Source, O: Sink, E: Sink>(
     alloc: Global,
@@ -74,8 +81,8 @@ fn serve<I: Source, O: Sink, E: Sink>(
     if !is_replay(words) {
         return say(err, USAGE, Status::Usage);
     }
-    let report = match replay(alloc, input) {
-        Ok(report) => report,
+    let replayed = match replay(alloc, input) {
+        Ok(replayed) => replayed,
         Err(ReplayFault::Read) => return say(err, "read fault\n", Status::ReadFault),
         Err(ReplayFault::TooLong) => {
             return say(err, "limit bytes\n", Status::Limit(Bound::Bytes));
@@ -84,10 +91,13 @@ fn serve<I: Source, O: Sink, E: Sink>(
         Err(ReplayFault::TooManyEvents) => {
             return say(err, "limit events\n", Status::Limit(Bound::Events));
         }
+        Err(ReplayFault::TooManyPackets) => {
+            return say(err, "limit packets\n", Status::Limit(Bound::Packets));
+        }
         Err(ReplayFault::OutOfMemory) => return say(err, "out of memory\n", Status::OutOfMemory),
     };
-    match write_all(out, report.as_slice()) {
-        Ok(()) => Status::Done,
+    match write_all(out, replayed.report.as_slice()) {
+        Ok(()) => done(replayed.held),
         Err(WriteFault::Failed) => say(err, "write fault\n", Status::WriteFault),
         Err(WriteFault::OutOfMemory) => say(err, "out of memory\n", Status::OutOfMemory),
     }
@@ -96,10 +106,19 @@ fn serve<I: Source, O: Sink, E: Sink>(
 /// Does the command that the words are, and returns the number of its status.
 ///
 /// `replay` reads a schedule from `input` to its end, runs it, and writes the report of the run to
-/// `out`: 0. Other words are no command: 2. A schedule that is out of form or whose event is
-/// refused is refused: 3. A fault of `input` is 4, of `out` or `err` 5, an input of more bytes or
-/// events than are taken is 7, and want of memory 9. Each status but 0 is said on `err`. `link` and
-/// `clock` are not called.
+/// `out`. The statuses are:
+///
+/// - 0: the report was written, and its premise line says `held`.
+/// - 1: the report was written, and its premise line says `broken`.
+/// - 2: the words are no command.
+/// - 3: a line is out of form or not built, or its event is refused.
+/// - 4: `input` failed.
+/// - 5: `out` or `err` failed.
+/// - 7: the input has more bytes or more events than are taken, or the packets of its run have more
+///   bytes.
+/// - 9: memory was refused.
+///
+/// Each but 0 and 1 is said on `err`. `link` and `clock` are not called.
 pub fn run<I: Source, O: Sink, E: Sink, L: Link, C: Clock>(
     alloc: Global,
     words: &[&str],

@@ -1,19 +1,37 @@
-use Rattle.std.proofs.Common.{◌≡◌, Ok, sym, ap, ◌∙◌}
-use Rattle.ab_quorum.specs.Rules.{quorum}
+use Rattle.std.proofs.Common.{◌≡◌, ◌↔◌, IsTrue, Ok, subst}
+use Rattle.ab_text.specs.declared.line.Premise.{Premise}
+use Rattle.ab_text.specs.declared.line.Premise.TheVariants.{Held}
 use Rattle.ab_text.specs.Schedules.{script_of}
-use Rattle.abstract_bft.specs.Replays.{outcome, run_under}
-use Rattle.abstract_bft.proofs.RunLemmas.{run_keeps}
+use Rattle.ab_quorum.specs.Rules.{quorum}
+use Rattle.abstract_bft.specs.Replays.{run_under, setup_of}
+use Rattle.abstract_bft.proofs.RunLemmas.{all_replicas, premises_met, runs_schedule}
 use Rattle.abstract_bft.proofs.replay.perform.Goals as goal
+
+pub report-requires : goal.report-requires
+report-requires g c =
+    let proto = quorum g.S.Service.machine in
+    let head = c.args.schedule.now.head in
+    let events = c.args.schedule.now.events in
+    let end = c.run_events.new.world in
+    all_replicas proto (script_of head events) end
+    (runs_schedule proto head events c.as_slice-2.result.now c.as_slice.result.now c.in_ok-setup.setup c.in_ok-world.world (Ok end) c.as_slice.ensures c.in_ok-setup.ensures c.in_ok-world.ensures c.as_slice-2.ensures c.in_ok-run_events.ensures.ok)
 
 pub returns-clause-ok : goal.returns-clause-ok
 returns-clause-ok g c =
-    let machine = g.S.Service.machine in
-    let s = script_of c.args.schedule.now.head c.args.schedule.now.events in
-    let same : run_under (quorum machine) s ≡ outcome (quorum machine) 1 c.in_ok-world.world c.as_slice.result.now = λ j. outcome (quorum machine) 1 (sym c.in_ok-world.ensures j) (sym c.as_slice.ensures j) in
-    let runs : run_under (quorum machine) s ≡ Ok c.run_events.new.world = same ∙ c.in_ok-run_events.ensures.ok in
+    let proto = quorum g.S.Service.machine in
+    let head = c.args.schedule.now.head in
+    let events = c.args.schedule.now.events in
+    let s = script_of head events in
+    let end = c.run_events.new.world in
+    let bounds = head.cluster.in_bounds in
+    let drafts = c.quorum_sends_drafts.ensures in
+    let runs : run_under proto s ≡ Ok end =
+    runs_schedule proto head events c.as_slice-2.result.now c.as_slice.result.now c.in_ok-setup.setup c.in_ok-world.world (Ok end) c.as_slice.ensures c.in_ok-setup.ensures c.in_ok-world.ensures c.as_slice-2.ensures c.in_ok-run_events.ensures.ok in
     record {
-      end = c.run_events.new.world;
+      end = end;
       runs = runs;
       reports = c.in_ok-report.ensures;
-      promises = run_keeps machine c.packets_keep_promises.ensures c.quorum_sends_its_own.ensures s c.run_events.new.world runs;
+      says = subst (λ (p : Premise). IsTrue c.is_held.result ↔ (p ≡ Held)) c.premise.ensures c.is_held.ensures;
+      exact = premises_met proto c.premise_is_exact.ensures drafts s end bounds runs;
+      promises = λ held free. c.worlds_keep_promises.ensures (setup_of s) s.events end bounds drafts runs held free;
     }

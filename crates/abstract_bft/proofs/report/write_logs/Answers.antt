@@ -1,7 +1,27 @@
-use Rattle.std.proofs.Common.{rules}
-use Rattle.abstract_bft.proofs.ReportLemmas.{written_log}
+use Rattle.std.proofs.Common.{◌≡◌, ◌<◌, ◌+◌, ◌++◌, flat_map, drop, length, ap, ◌∙◌, sym, arith}
+use Rattle.ab_num.specs.declared.party.Party.TheVariants.{Replica}
+use Rattle.ab_cast.specs.Setups.{Setup, is_bad}
+use Rattle.ab_text.specs.Reports.{log_text}
+use Rattle.abstract_bft.specs.Replays.{logs_from}
+use Rattle.abstract_bft.proofs.ReportLemmas.{passed_by, written_log}
 use Rattle.abstract_bft.proofs.report.write_logs.Goals as goal
+use Rattle.abstract_bft.proofs.report.write_logs.Goals.{then-not-is_faulty+in_ok-write_log_of, else-not-is_faulty}
 
 pub loop-r-preserved : goal.loop-r-preserved
 loop-r-preserved g c =
-    written_log _ c.loop-r.out.items c.write_log.new.out.items c.args.world.now.state.replicas c.loop-r.r c.in-Some.instance c.in_ok-entries.entries c.in-Some-log_of.log.now (search rules) (search rules) (search rules) (search rules) c.loop-r.invariant
+    let x = c.args.world.now.cast.setup in
+    let replicas = c.args.world.now.cast.replicas in
+    let r = c.loop-r.r in
+    let before = c.loop-r.out.items in
+    let whole = c.args.out.now.items ++ flat_map log_text (logs_from x 0 replicas) in
+    let within : r < length replicas = omega (arith, c.loop-r-test.true, c.replicas-r-end.ensures, c.cluster.ensures.f, ap (λ (y : Setup). y.f) c.setup.ensures, c.requires) in
+    let asked = c.is_faulty.ensures ∙ ap (λ (y : Setup). is_bad y (Replica r)) c.setup-in-loop-r.ensures in
+    elim c.if-not-is_faulty.branch [
+      | then-not-is_faulty+in_ok-write_log_of w ↦
+          let is : c.if-not-is_faulty.out.items ≡ w.write_log_of.new.out.items = ap (λ o. o.items) w.out-is in
+          ap (λ t. t ++ flat_map log_text (logs_from x (r + 1) (drop (r + 1) replicas))) is
+          ∙ written_log x whole before w.write_log_of.new.out.items replicas r within (sym asked ∙ w.if-not-is_faulty.true) (w.in_ok-write_log_of.ensures) c.loop-r.invariant
+      | else-not-is_faulty w ↦
+          ap (λ t. t ++ flat_map log_text (logs_from x (r + 1) (drop (r + 1) replicas))) (ap (λ o. o.items) w.out-is)
+          ∙ passed_by x whole before replicas r within (sym asked ∙ w.if-not-is_faulty.false) c.loop-r.invariant
+    ]

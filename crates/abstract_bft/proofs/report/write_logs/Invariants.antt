@@ -4,4 +4,6 @@ use Rattle.abstract_bft.specs.Replays.{logs_from}
 use Rattle.abstract_bft.proofs.report.write_logs.Given as goal
 
 abbrev pub invariant-loop-r : goal.invariant-loop-r
-invariant-loop-r g l = l.out.items ++ flat_map log_text (logs_from l.r (drop l.r l.world.state.replicas)) ≡ l.initial.out.items ++ flat_map log_text (logs_from 0 l.world.state.replicas)
+invariant-loop-r g l =
+    let logs = logs_from l.world.cast.setup in
+    l.out.items ++ flat_map log_text (logs l.r (drop l.r l.world.cast.replicas)) ≡ l.initial.out.items ++ flat_map log_text (logs 0 l.world.cast.replicas)

@@ -1,55 +1,57 @@
-use Rattle.std.proofs.Common.{◌≡◌, ◌<◌, ◌≤◌, length, sym, ap, ◌∙◌, refl, arith, Some, None, slice_get, ◌-◌}
-use Rattle.ab_world.specs.Steps.{form_refusal, Cause}
-use Rattle.ab_num.specs.declared.party.Party.TheVariants.{Replica, Client}
+use Rattle.std.proofs.Common.{◌≡◌, Ok, Some, sym, ap, ◌∙◌, subst}
+use Rattle.std.specs.Prelude.{IsTrue, OnOk}
+use Rattle.std.specs.Option.{option_map}
 use Rattle.std.proofs.lemmas.Result.{on_ok_weaker}
-use Rattle.ab_world.proofs.StepLemmas.{if_err_then, may_refuse_memory, not_refused, handed}
-use Rattle.std.proofs.lemmas.Option.{slice_get_read}
-use Rattle.ab_world.specs.declared.fault.WorldFault.TheVariants.{OutOfMemory}
-use Rattle.ab_text.specs.declared.event.Event.TheVariants.{Deliver}
+use Rattle.ab_num.specs.declared.party.Party.{Party}
+use Rattle.ab_keys.specs.Keys.{is_party}
+use Rattle.ab_post.specs.Packets.{nth}
+use Rattle.ab_cast.specs.Setups.{Setup}
+use Rattle.ab_world.specs.Worlds.{World}
+use Rattle.ab_world.specs.Forgeries.{forged_first}
+use Rattle.ab_world.specs.Steps.{addressed, delivered, hand, after, stepped_by}
+use Rattle.ab_world.specs.Handing.{finished}
+use Rattle.ab_world.proofs.StepLemmas.{addressed_is, place_party, handed_setup, handed_is, within_is, delivered_is}
 use Rattle.ab_world.proofs.world.World.deliver.Goals as goal
 
--- src/world.rt:292:5
-pub returns-in-Replica-clause-ok : goal.returns-in-Replica-clause-ok
-returns-in-Replica-clause-ok g c =
-    let o = c.index.result.now in
-    let lt : c.args.packet - 1 < length c.self.inside.packets.items = omega (arith, c.if-packet-eq0.false, c.if-packet-len.false, c.len.ensures) in
-    let inside : slice_get c.self.inside.packets.items (c.args.packet - 1) ≡ Some o = slice_get_read c.self.inside.packets.items (length c.self.inside.packets.items) (c.args.packet - 1) o refl lt c.index.ensures in
-    let at : slice_get c.args.self.now.state.packets (c.args.packet - 1) ≡ Some o = ap (λ v. slice_get v.state.packets (c.args.packet - 1)) (sym c.self.view_is) ∙ inside in
-    let one : 1 ≤ c.args.packet = omega (arith, c.if-packet-eq0.false) in
-    let none = not_refused c.args.self.now.state.packets c.args.packet o one at in
-    on_ok_weaker c.ask.result (λ e. (none, e ∙ sym (handed g.P.Protocol.proto c.args.self.now c.args.packet o (Replica c.in-Replica.r) one at c.in-Replica.is))) (c.ask.ensures.ok o at)
+pub hand-requires-clause-there : goal.hand-requires-clause-there
+hand-requires-clause-there g c =
+    let x = c.self.inside.cast.setup in
+    addressed_is x c.to.result c.args.core c.in-Some-addressed.place
+    (ap (λ y. addressed y c.to.result c.args.core) (sym c.setup.ensures) ∙ (sym c.addressed.ensures ∙ c.in-Some-addressed.is))
 
--- src/world.rt:292:5
-pub returns-in-Replica-clause-cause : goal.returns-in-Replica-clause-cause
-returns-in-Replica-clause-cause g c =
-    let o = c.index.result.now in
-    let lt : c.args.packet - 1 < length c.self.inside.packets.items = omega (arith, c.if-packet-eq0.false, c.if-packet-len.false, c.len.ensures) in
-    let inside : slice_get c.self.inside.packets.items (c.args.packet - 1) ≡ Some o = slice_get_read c.self.inside.packets.items (length c.self.inside.packets.items) (c.args.packet - 1) o refl lt c.index.ensures in
-    let at : slice_get c.args.self.now.state.packets (c.args.packet - 1) ≡ Some o = ap (λ v. slice_get v.state.packets (c.args.packet - 1)) (sym c.self.view_is) ∙ inside in
-    let one : 1 ≤ c.args.packet = omega (arith, c.if-packet-eq0.false) in
-    let none = not_refused c.args.self.now.state.packets c.args.packet o one at in
-    let refusal_of = form_refusal c.args.self.now.state (Deliver c.args.packet None) in
-    if_err_then c.ask.result (λ f. f ≡ OutOfMemory) (λ f. Cause f refusal_of) (λ f is. may_refuse_memory f refusal_of none is) c.ask.ensures.cause
+pub finish-requires-clause-party : goal.finish-requires-clause-party
+finish-requires-clause-party g c =
+    let x = c.self.inside.cast.setup in
+    let at = c.in-Some-addressed.place in
+    let there = addressed_is x c.to.result c.args.core at
+    (ap (λ y. addressed y c.to.result c.args.core) (sym c.setup.ensures) ∙ (sym c.addressed.ensures ∙ c.in-Some-addressed.is)) in
+    let same = handed_setup g.P.Protocol.proto _ _ at c.self.inside.cast c.hand.new.cast c.in-Ok.handed c.in-Ok.ensures.handed in
+    subst (λ (y : Setup). IsTrue (is_party y.f y.clients c.party.result)) (sym same)
+    (subst (λ (p : Party). IsTrue (is_party x.f x.clients p)) (sym c.party.ensures) (place_party x at there))
 
--- src/world.rt:292:5
-pub returns-in-Client-clause-ok : goal.returns-in-Client-clause-ok
-returns-in-Client-clause-ok g c =
-    let o = c.index.result.now in
-    let lt : c.args.packet - 1 < length c.self.inside.packets.items = omega (arith, c.if-packet-eq0.false, c.if-packet-len.false, c.len.ensures) in
-    let inside : slice_get c.self.inside.packets.items (c.args.packet - 1) ≡ Some o = slice_get_read c.self.inside.packets.items (length c.self.inside.packets.items) (c.args.packet - 1) o refl lt c.index.ensures in
-    let at : slice_get c.args.self.now.state.packets (c.args.packet - 1) ≡ Some o = ap (λ v. slice_get v.state.packets (c.args.packet - 1)) (sym c.self.view_is) ∙ inside in
-    let one : 1 ≤ c.args.packet = omega (arith, c.if-packet-eq0.false) in
-    let none = not_refused c.args.self.now.state.packets c.args.packet o one at in
-    on_ok_weaker c.tell.result (λ e. (none, e ∙ sym (handed g.P.Protocol.proto c.args.self.now c.args.packet o (Client c.in-Client.c) one at c.in-Client.is))) (c.tell.ensures.ok o at)
-
--- src/world.rt:292:5
-pub returns-in-Client-clause-cause : goal.returns-in-Client-clause-cause
-returns-in-Client-clause-cause g c =
-    let o = c.index.result.now in
-    let lt : c.args.packet - 1 < length c.self.inside.packets.items = omega (arith, c.if-packet-eq0.false, c.if-packet-len.false, c.len.ensures) in
-    let inside : slice_get c.self.inside.packets.items (c.args.packet - 1) ≡ Some o = slice_get_read c.self.inside.packets.items (length c.self.inside.packets.items) (c.args.packet - 1) o refl lt c.index.ensures in
-    let at : slice_get c.args.self.now.state.packets (c.args.packet - 1) ≡ Some o = ap (λ v. slice_get v.state.packets (c.args.packet - 1)) (sym c.self.view_is) ∙ inside in
-    let one : 1 ≤ c.args.packet = omega (arith, c.if-packet-eq0.false) in
-    let none = not_refused c.args.self.now.state.packets c.args.packet o one at in
-    let refusal_of = form_refusal c.args.self.now.state (Deliver c.args.packet None) in
-    if_err_then c.tell.result (λ f. f ≡ OutOfMemory) (λ f. Cause f refusal_of) (λ f is. may_refuse_memory f refusal_of none is) c.tell.ensures.cause
+pub returns-in-Ok-clause-ok : goal.returns-in-Ok-clause-ok
+returns-in-Ok-clause-ok g c =
+    let proto = g.P.Protocol.proto in
+    let number = c.args.number in
+    let core = c.args.core in
+    let at = c.in-Some-addressed.place in
+    let packet = c.in-Some.packet.now in
+    let w : World g.row.P.Denot = record {
+      cast = c.self.inside.cast;
+      packets = c.self.inside.packets;
+      made = c.self.inside.made;
+      seen = c.self.inside.seen.items;
+      lines = c.self.inside.lines.items;
+      forged = forged_first c.self.inside.forged;
+      ended = c.self.inside.ended;
+    } in
+    let there : nth w.packets number ≡ Some packet = sym c.get.ensures ∙ ap (option_map (λ p. p.now)) c.in-Some.is in
+    let to : addressed w.cast.setup packet.to core ≡ Some at =
+    ap (λ p. addressed w.cast.setup p core) (sym c.to.ensures)
+    ∙ (ap (λ y. addressed y c.to.result core) (sym c.setup.ensures) ∙ (sym c.addressed.ensures ∙ c.in-Some-addressed.is)) in
+    let happens = delivered_is proto w number core packet at there to in
+    let is = ap (λ p. finished (record w { cast = c.hand.new.cast }) p c.in-Ok.handed) c.party.ensures
+    ∙ (handed_is proto w at c.bytes.result.now c.hand.new.cast c.in-Ok.handed c.in-Ok.ensures.handed
+    ∙ ap (λ bytes. after proto w (record { place = at; given = hand bytes })) c.bytes.ensures) in
+    subst (λ (v : World g.row.P.Denot). OnOk c.finish.result (stepped_by proto v (delivered v.cast.setup (nth v.packets number) core) ≡ Ok c.finish.new.self)) c.self.view_is
+    (on_ok_weaker c.finish.result (λ both. ap (stepped_by proto w) happens ∙ within_is proto w c.finish.new.self (record { place = at; given = hand packet.bytes }) (both.0 ∙ is) both.1) c.finish.ensures.ok)

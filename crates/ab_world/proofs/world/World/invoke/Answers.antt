@@ -1,70 +1,282 @@
-use Rattle.std.proofs.Common.{◌≡◌, ℕ, ◌<◌, true, false, List, length, Some, None, Result, OnOk, IfErr, arith, sym, ap, ◌∙◌, subst, nat_lt}
-use Rattle.std.specs.Prelude.{◌==◌, slice_get, if◌then◌else◌}
+use Rattle.std.proofs.Common.{◌≡◌, ℕ, ◌≤◌, None, Some, Ok, Err, length, sym, ap, ◌∙◌, subst, refl, arith}
+use Rattle.std.specs.Prelude.{IsTrue, IfErr, OnOk}
 use Rattle.std.proofs.lemmas.Result.{on_ok_weaker}
-use Rattle.std.proofs.lemmas.List.{length-map}
 use Rattle.arrayvec.specs.ArrayVec.{ArrayVec}
-use Rattle.ab_text.specs.declared.event.Core.{Core}
+use Rattle.ab_num.specs.declared.party.Party.{Party}
 use Rattle.ab_text.specs.declared.event.Event.TheVariants.{Invoke}
-use Rattle.ab_abs.specs.Ensembles.{Proto}
-use Rattle.ab_run.specs.Clients.{Cli}
-use Rattle.ab_run.specs.Replicas.{rules_of}
-use Rattle.ab_run.specs.Packets.{no_certificate}
-use Rattle.ab_run.specs.States.{after_cue, state_after}
-use Rattle.ab_client.specs.Clients.{Seat, told}
-use Rattle.ab_world.specs.Seats.{clis_of}
-use Rattle.ab_world.specs.Steps.{World, after, asked, form_refusal, invoke_refusal, client_of, client_refusal, Cause}
+use Rattle.ab_keys.specs.Keys.{is_party}
+use Rattle.ab_cast.specs.declared.fault.CommandFault.{CommandFault}
+use Rattle.ab_cast.specs.Setups.{Setup, party_at, place_of}
+use Rattle.ab_cast.specs.Cores.{command, core_after, core_sends, core_marks}
+use Rattle.ab_cast.specs.Casts.{with_core, next, CommandCause}
 use Rattle.ab_world.specs.declared.fault.WorldFault.{WorldFault}
-use Rattle.ab_world.specs.declared.fault.WorldFault.TheVariants.{NotBuilt}
-use Rattle.ab_world.proofs.SeatLemmas.{get_there}
+use Rattle.ab_world.specs.declared.fault.WorldFault.TheVariants.{BadParty, Busy}
+use Rattle.ab_world.specs.declared.handing.Handed.TheVariants.{Heard}
+use Rattle.ab_world.specs.Worlds.{World}
+use Rattle.ab_world.specs.Forgeries.{forged_first}
+use Rattle.ab_world.specs.Steps.{Happening, ask, after, happening, refuse_command, stepped_by, CauseIn, MayWant, SettleCause, HasEnded, Leaves}
+use Rattle.ab_world.specs.Handing.{finished}
+use Rattle.ab_text.proofs.LineLemmas.{positive}
+use Rattle.ab_world.proofs.StepLemmas.{place_is, place_party, asked_is, within_is, settles_is, asks_none, asks_core, core_setup, ended_leaves, if_err_then, if_err_both}
 use Rattle.ab_world.proofs.world.World.invoke.Goals as goal
 
-filled : (n : ℕ) → (n == 0) ≡ false → 0 < n
-filled n more = grind arith
+pub returns-in_default-clause-cause : goal.returns-in_default-clause-cause
+returns-in_default-clause-cause g c =
+    let proto = g.P.Protocol.proto in
+    let core = c.args.core in
+    let cmd : ArrayVec ℕ = c.args.command.now in
+    let w : World g.row.P.Denot = record {
+      cast = c.self.inside.cast;
+      packets = c.self.inside.packets;
+      made = c.self.inside.made;
+      seen = c.self.inside.seen.items;
+      lines = c.self.inside.lines.items;
+      forged = forged_first c.self.inside.forged;
+      ended = c.self.inside.ended;
+    } in
+    let value : length c.as_slice-bytes.result.now ≡ length cmd.items = ap length c.as_slice-bytes.ensures.value in
+    let some : 1 ≤ length cmd.items = omega (arith, positive _ c.if-is_empty.ensures, value) in
+    let few : length cmd.items ≤ 128 = omega (arith, c.as_slice-bytes.ensures.fits, value) in
+    let none : place_of w.cast.setup core.party core.twin ≡ None =
+    ap (λ y. place_of y core.party core.twin) (sym c.setup.ensures) ∙ (sym c.place.ensures ∙ c.in_default.is) in
+    subst (λ (v : World g.row.P.Denot). stepped_by proto v (happening v (Invoke core cmd)) ≡ Err BadParty) c.self.view_is
+    (ap (stepped_by proto w) (asks_none proto w core cmd some few none))
 
-holds_one : (n : ℕ) → (n == 0) ≡ false → nat_lt 0 n ≡ true
-holds_one n more = let lt : 0 < n = filled n more in search arith
+pub invoke-requires-clause-there : goal.invoke-requires-clause-there
+invoke-requires-clause-there g c =
+    place_is c.self.inside.cast.setup c.args.core.party c.args.core.twin c.in-Some.place
+    (ap (λ y. place_of y c.args.core.party c.args.core.twin) (sym c.setup.ensures) ∙ (sym c.place.ensures ∙ c.in-Some.is))
 
-module _ {P : Type 0} (proto : Proto P) (w : World P) (core : Core) (command : ArrayVec ℕ) (c : ℕ) (some : (length command.items == 0) ≡ false) (number : client_of core ≡ Some c) where
-  refusal_is : (s : Cli) → slice_get w.state.clients c ≡ Some s → form_refusal w.state (Invoke core command) ≡ client_refusal (Some s)
-  refusal_is s there =
-      ap (λ b. if b then invoke_refusal w.state.clients (client_of core) else Some NotBuilt) (holds_one (length command.items) some)
-      ∙ (ap (invoke_refusal w.state.clients) number ∙ ap client_refusal there)
+pub finish-requires-clause-party : goal.finish-requires-clause-party
+finish-requires-clause-party g c =
+    let proto = g.P.Protocol.proto in
+    let core = c.args.core in
+    let cmd : ArrayVec ℕ = c.args.command.now in
+    let w : World g.row.P.Denot = record {
+      cast = c.self.inside.cast;
+      packets = c.self.inside.packets;
+      made = c.self.inside.made;
+      seen = c.self.inside.seen.items;
+      lines = c.self.inside.lines.items;
+      forged = forged_first c.self.inside.forged;
+      ended = c.self.inside.ended;
+    } in
+    let value : length c.as_slice-bytes.result.now ≡ length cmd.items = ap length c.as_slice-bytes.ensures.value in
+    let some : 1 ≤ length cmd.items = omega (arith, positive _ c.if-is_empty.ensures, value) in
+    let few : length cmd.items ≤ 128 = omega (arith, c.as_slice-bytes.ensures.fits, value) in
+    let at = c.in-Some.place in
+    let place : place_of w.cast.setup core.party core.twin ≡ Some at =
+    ap (λ y. place_of y core.party core.twin) (sym c.setup.ensures) ∙ (sym c.place.ensures ∙ c.in-Some.is) in
+    let found = c.places_have_cores.ensures.cores core.party core.twin at place in
+    let s = found.0 in
+    let there = found.1 in
+    let asks = asks_core proto w core cmd at s some few place there in
+    let same : record { items = c.as_slice-bytes.result.now } ≡ cmd = ap (λ xs. record { items = xs }) c.as_slice-bytes.ensures.value in
+    let moves = c.in-Ok.ensures.cast s there ∙ ap (λ b. next (with_core w.cast at (core_after proto (party_at at) s (command b)))) same in
+    let stays = ap (λ x. x.setup) moves ∙ core_setup w.cast at (core_after proto (party_at at) s (command cmd)) in
+    subst (λ (y : Setup). IsTrue (is_party y.f y.clients c.party.result)) (sym stays)
+    (subst (λ (p : Party). IsTrue (is_party w.cast.setup.f w.cast.setup.clients p)) (sym c.party.ensures) (place_party w.cast.setup at (place_is w.cast.setup core.party core.twin at place)))
 
-  abbrev given_to : List ℕ → Cli → World P
-  given_to bytes s = record w { state = after_cue w.cluster (rules_of proto no_certificate) w.state c (told bytes) (Some s) }
+pub returns-in-Ok-clause-ok : goal.returns-in-Ok-clause-ok
+returns-in-Ok-clause-ok g c =
+    let proto = g.P.Protocol.proto in
+    let core = c.args.core in
+    let cmd : ArrayVec ℕ = c.args.command.now in
+    let w : World g.row.P.Denot = record {
+      cast = c.self.inside.cast;
+      packets = c.self.inside.packets;
+      made = c.self.inside.made;
+      seen = c.self.inside.seen.items;
+      lines = c.self.inside.lines.items;
+      forged = forged_first c.self.inside.forged;
+      ended = c.self.inside.ended;
+    } in
+    let value : length c.as_slice-bytes.result.now ≡ length cmd.items = ap length c.as_slice-bytes.ensures.value in
+    let some : 1 ≤ length cmd.items = omega (arith, positive _ c.if-is_empty.ensures, value) in
+    let few : length cmd.items ≤ 128 = omega (arith, c.as_slice-bytes.ensures.fits, value) in
+    let at = c.in-Some.place in
+    let place : place_of w.cast.setup core.party core.twin ≡ Some at =
+    ap (λ y. place_of y core.party core.twin) (sym c.setup.ensures) ∙ (sym c.place.ensures ∙ c.in-Some.is) in
+    let found = c.places_have_cores.ensures.cores core.party core.twin at place in
+    let s = found.0 in
+    let there = found.1 in
+    let asks = asks_core proto w core cmd at s some few place there in
+    let same : record { items = c.as_slice-bytes.result.now } ≡ cmd = ap (λ xs. record { items = xs }) c.as_slice-bytes.ensures.value in
+    let h : Happening = record { place = at; given = ask cmd } in
+    let happens : happening w (Invoke core cmd) ≡ Ok h = asks ∙ ap (λ o. refuse_command o at cmd) (c.in-Ok.ensures.idle s there) in
+    let moves = c.in-Ok.ensures.cast s there ∙ ap (λ b. next (with_core w.cast at (core_after proto (party_at at) s (command b)))) same in
+    let sends = c.in-Ok.ensures.outs s there ∙ ap (λ b. core_sends proto (party_at at) s (command b)) same in
+    let shows = c.in-Ok.ensures.marks s there ∙ ap (λ b. core_marks proto (party_at at) s (command b)) same in
+    let handed = Heard None c.in-Ok.effects in
+    let new = c.invoke.new.self in
+    let is : finished (record w { cast = new }) c.party.result handed ≡ after proto w h =
+    ap (λ p. finished (record w { cast = new }) p handed) c.party.ensures
+    ∙ asked_is proto w at cmd s new handed c.in-Ok.effects refl there moves sends shows in
+    subst (λ (v : World g.row.P.Denot). OnOk c.finish.result (stepped_by proto v (happening v (Invoke core cmd)) ≡ Ok c.finish.new.self)) c.self.view_is
+    (on_ok_weaker c.finish.result (λ both. ap (stepped_by proto w) happens ∙ within_is proto w c.finish.new.self h (both.0 ∙ is) both.1) c.finish.ensures.ok)
 
-  after_is : (s : Cli) → slice_get w.state.clients c ≡ Some s → after proto w (Invoke core command) ≡ given_to command.items s
-  after_is s there =
-      ap (λ k. record w { state = state_after w.cluster (rules_of proto no_certificate) w.state (asked k (Invoke core command)) }) number
-      ∙ ap (λ k. record w { state = after_cue w.cluster (rules_of proto no_certificate) w.state c (told command.items) k }) there
+pub returns-in-Ok-clause-cause : goal.returns-in-Ok-clause-cause
+returns-in-Ok-clause-cause g c =
+    let proto = g.P.Protocol.proto in
+    let core = c.args.core in
+    let cmd : ArrayVec ℕ = c.args.command.now in
+    let w : World g.row.P.Denot = record {
+      cast = c.self.inside.cast;
+      packets = c.self.inside.packets;
+      made = c.self.inside.made;
+      seen = c.self.inside.seen.items;
+      lines = c.self.inside.lines.items;
+      forged = forged_first c.self.inside.forged;
+      ended = c.self.inside.ended;
+    } in
+    let value : length c.as_slice-bytes.result.now ≡ length cmd.items = ap length c.as_slice-bytes.ensures.value in
+    let some : 1 ≤ length cmd.items = omega (arith, positive _ c.if-is_empty.ensures, value) in
+    let few : length cmd.items ≤ 128 = omega (arith, c.as_slice-bytes.ensures.fits, value) in
+    let at = c.in-Some.place in
+    let place : place_of w.cast.setup core.party core.twin ≡ Some at =
+    ap (λ y. place_of y core.party core.twin) (sym c.setup.ensures) ∙ (sym c.place.ensures ∙ c.in-Some.is) in
+    let found = c.places_have_cores.ensures.cores core.party core.twin at place in
+    let s = found.0 in
+    let there = found.1 in
+    let asks = asks_core proto w core cmd at s some few place there in
+    let same : record { items = c.as_slice-bytes.result.now } ≡ cmd = ap (λ xs. record { items = xs }) c.as_slice-bytes.ensures.value in
+    let h : Happening = record { place = at; given = ask cmd } in
+    let happens : happening w (Invoke core cmd) ≡ Ok h = asks ∙ ap (λ o. refuse_command o at cmd) (c.in-Ok.ensures.idle s there) in
+    let moves = c.in-Ok.ensures.cast s there ∙ ap (λ b. next (with_core w.cast at (core_after proto (party_at at) s (command b)))) same in
+    let sends = c.in-Ok.ensures.outs s there ∙ ap (λ b. core_sends proto (party_at at) s (command b)) same in
+    let shows = c.in-Ok.ensures.marks s there ∙ ap (λ b. core_marks proto (party_at at) s (command b)) same in
+    let handed = Heard None c.in-Ok.effects in
+    let new = c.invoke.new.self in
+    let is : finished (record w { cast = new }) c.party.result handed ≡ after proto w h =
+    ap (λ p. finished (record w { cast = new }) p handed) c.party.ensures
+    ∙ asked_is proto w at cmd s new handed c.in-Ok.effects refl there moves sends shows in
+    let end = finished (record w { cast = new }) c.party.result handed in
+    subst (λ (v : World g.row.P.Denot). IfErr c.finish.result (λ f. CauseIn proto f v (happening v (Invoke core cmd)))) c.self.view_is
+    (if_err_then c.finish.result (λ f. SettleCause f end) (λ f. CauseIn proto f w (happening w (Invoke core cmd)))
+    (λ f cause. subst (CauseIn proto f w) (sym happens) (settles_is proto w f end h is cause)) c.finish.ensures.cause)
 
-  module _ (r : Result (Unit {0}) WorldFault) (lt : c < length w.state.clients) where
-    taken : (bytes : List ℕ) (new : World P) → bytes ≡ command.items
-        → ((s : Cli) → slice_get w.state.clients c ≡ Some s → OnOk r ((client_refusal (Some s) ≡ None) × (new ≡ given_to bytes s)))
-        → OnOk r ((form_refusal w.state (Invoke core command) ≡ None) × (new ≡ after proto w (Invoke core command)))
-    taken bytes new same given =
-        let seat = get_there w.state.clients c lt in
-        on_ok_weaker r (λ both. (refusal_is seat.0 seat.1 ∙ both.0, both.1 ∙ (ap (λ bs. given_to bs seat.0) same ∙ sym (after_is seat.0 seat.1)))) (given seat.0 seat.1)
+pub returns-in-Ok-clause-err : goal.returns-in-Ok-clause-err
+returns-in-Ok-clause-err g c =
+    let proto = g.P.Protocol.proto in
+    let core = c.args.core in
+    let cmd : ArrayVec ℕ = c.args.command.now in
+    let w : World g.row.P.Denot = record {
+      cast = c.self.inside.cast;
+      packets = c.self.inside.packets;
+      made = c.self.inside.made;
+      seen = c.self.inside.seen.items;
+      lines = c.self.inside.lines.items;
+      forged = forged_first c.self.inside.forged;
+      ended = c.self.inside.ended;
+    } in
+    let value : length c.as_slice-bytes.result.now ≡ length cmd.items = ap length c.as_slice-bytes.ensures.value in
+    let some : 1 ≤ length cmd.items = omega (arith, positive _ c.if-is_empty.ensures, value) in
+    let few : length cmd.items ≤ 128 = omega (arith, c.as_slice-bytes.ensures.fits, value) in
+    let at = c.in-Some.place in
+    let place : place_of w.cast.setup core.party core.twin ≡ Some at =
+    ap (λ y. place_of y core.party core.twin) (sym c.setup.ensures) ∙ (sym c.place.ensures ∙ c.in-Some.is) in
+    let found = c.places_have_cores.ensures.cores core.party core.twin at place in
+    let s = found.0 in
+    let there = found.1 in
+    let asks = asks_core proto w core cmd at s some few place there in
+    let same : record { items = c.as_slice-bytes.result.now } ≡ cmd = ap (λ xs. record { items = xs }) c.as_slice-bytes.ensures.value in
+    let h : Happening = record { place = at; given = ask cmd } in
+    let happens : happening w (Invoke core cmd) ≡ Ok h = asks ∙ ap (λ o. refuse_command o at cmd) (c.in-Ok.ensures.idle s there) in
+    let moves = c.in-Ok.ensures.cast s there ∙ ap (λ b. next (with_core w.cast at (core_after proto (party_at at) s (command b)))) same in
+    let sends = c.in-Ok.ensures.outs s there ∙ ap (λ b. core_sends proto (party_at at) s (command b)) same in
+    let shows = c.in-Ok.ensures.marks s there ∙ ap (λ b. core_marks proto (party_at at) s (command b)) same in
+    let handed = Heard None c.in-Ok.effects in
+    let new = c.invoke.new.self in
+    let is : finished (record w { cast = new }) c.party.result handed ≡ after proto w h =
+    ap (λ p. finished (record w { cast = new }) p handed) c.party.ensures
+    ∙ asked_is proto w at cmd s new handed c.in-Ok.effects refl there moves sends shows in
+    let end = finished (record w { cast = new }) c.party.result handed in
+    let stays = ap (λ x. x.setup) moves ∙ core_setup w.cast at (core_after proto (party_at at) s (command cmd)) in
+    subst (λ (v : World g.row.P.Denot). IfErr c.finish.result (λ f. Leaves f v c.finish.new.self)) c.self.view_is
+    (if_err_both c.finish.result (λ f. SettleCause f end) (λ f. HasEnded f (record w { cast = new }) c.finish.new.self) (λ f. Leaves f w c.finish.new.self)
+    (λ f cause ended. ended_leaves f w c.finish.new.self end new stays cause ended) c.finish.ensures.cause c.finish.ensures.err)
 
-    refused : ((s : Cli) → slice_get w.state.clients c ≡ Some s → IfErr r (λ f. Cause f (client_refusal (Some s))))
-        → IfErr r (λ f. Cause f (form_refusal w.state (Invoke core command)))
-    refused given =
-        let seat = get_there w.state.clients c lt in
-        subst (λ why. IfErr r (λ f. Cause f why)) (sym (refusal_is seat.0 seat.1)) (given seat.0 seat.1)
+pub returns-in-Err-NoClient-clause-cause : goal.returns-in-Err-NoClient-clause-cause
+returns-in-Err-NoClient-clause-cause g c =
+    let proto = g.P.Protocol.proto in
+    let core = c.args.core in
+    let cmd : ArrayVec ℕ = c.args.command.now in
+    let w : World g.row.P.Denot = record {
+      cast = c.self.inside.cast;
+      packets = c.self.inside.packets;
+      made = c.self.inside.made;
+      seen = c.self.inside.seen.items;
+      lines = c.self.inside.lines.items;
+      forged = forged_first c.self.inside.forged;
+      ended = c.self.inside.ended;
+    } in
+    let value : length c.as_slice-bytes.result.now ≡ length cmd.items = ap length c.as_slice-bytes.ensures.value in
+    let some : 1 ≤ length cmd.items = omega (arith, positive _ c.if-is_empty.ensures, value) in
+    let few : length cmd.items ≤ 128 = omega (arith, c.as_slice-bytes.ensures.fits, value) in
+    let at = c.in-Some.place in
+    let place : place_of w.cast.setup core.party core.twin ≡ Some at =
+    ap (λ y. place_of y core.party core.twin) (sym c.setup.ensures) ∙ (sym c.place.ensures ∙ c.in-Some.is) in
+    let found = c.places_have_cores.ensures.cores core.party core.twin at place in
+    let s = found.0 in
+    let there = found.1 in
+    let asks = asks_core proto w core cmd at s some few place there in
+    let cause = subst (λ (e : CommandFault). CommandCause e s) c.in-Err-NoClient.field-0-is (c.in-Err-NoClient.ensures.cause s there) in
+    subst (λ (v : World g.row.P.Denot). stepped_by proto v (happening v (Invoke core cmd)) ≡ Err BadParty) c.self.view_is
+    (ap (stepped_by proto w) (asks ∙ ap (λ o. refuse_command o at cmd) cause))
 
-is_there : {P : Type 0} (w : World P) (seats : List Seat) (n c : ℕ) → w.state.clients ≡ clis_of seats → n ≡ length seats → c < n → c < length w.state.clients
-is_there w seats n c clients len lt =
-    let all : length w.state.clients ≡ length seats = ap length clients ∙ length-map seats (λ s. s.cli) in
-    omega (arith, all, len, lt)
+pub returns-in-Err-Busy-clause-cause : goal.returns-in-Err-Busy-clause-cause
+returns-in-Err-Busy-clause-cause g c =
+    let proto = g.P.Protocol.proto in
+    let core = c.args.core in
+    let cmd : ArrayVec ℕ = c.args.command.now in
+    let w : World g.row.P.Denot = record {
+      cast = c.self.inside.cast;
+      packets = c.self.inside.packets;
+      made = c.self.inside.made;
+      seen = c.self.inside.seen.items;
+      lines = c.self.inside.lines.items;
+      forged = forged_first c.self.inside.forged;
+      ended = c.self.inside.ended;
+    } in
+    let value : length c.as_slice-bytes.result.now ≡ length cmd.items = ap length c.as_slice-bytes.ensures.value in
+    let some : 1 ≤ length cmd.items = omega (arith, positive _ c.if-is_empty.ensures, value) in
+    let few : length cmd.items ≤ 128 = omega (arith, c.as_slice-bytes.ensures.fits, value) in
+    let at = c.in-Some.place in
+    let place : place_of w.cast.setup core.party core.twin ≡ Some at =
+    ap (λ y. place_of y core.party core.twin) (sym c.setup.ensures) ∙ (sym c.place.ensures ∙ c.in-Some.is) in
+    let found = c.places_have_cores.ensures.cores core.party core.twin at place in
+    let s = found.0 in
+    let there = found.1 in
+    let asks = asks_core proto w core cmd at s some few place there in
+    let cause = subst (λ (e : CommandFault). CommandCause e s) c.in-Err-Busy.field-0-is (c.in-Err-Busy.ensures.cause s there) in
+    subst (λ (v : World g.row.P.Denot). stepped_by proto v (happening v (Invoke core cmd)) ≡ Err Busy) c.self.view_is
+    (ap (stepped_by proto w) (asks ∙ ap (λ o. refuse_command o at cmd) cause))
 
-pub returns-clause-ok : goal.returns-clause-ok
-returns-clause-ok g c =
-    let there = is_there c.args.self.now c.self.inside.clients.items c.len.result c.in-Some.c (ap (λ w. w.state.clients) (sym c.self.view_is)) (c.len.ensures ∙ c.self.inside.clients.ok.0) c.if-c-len.false in
-    taken g.P.Protocol.proto c.args.self.now c.args.core c.args.command.now c.in-Some.c (sym c.is_empty.ensures ∙ c.if-is_empty.false) (sym c.in-Some.ensures) c.call.result there
-    c.as_slice.result.now c.call.new.self c.as_slice.ensures.value c.call.ensures.ok
-
-pub returns-clause-cause : goal.returns-clause-cause
-returns-clause-cause g c =
-    let there = is_there c.args.self.now c.self.inside.clients.items c.len.result c.in-Some.c (ap (λ w. w.state.clients) (sym c.self.view_is)) (c.len.ensures ∙ c.self.inside.clients.ok.0) c.if-c-len.false in
-    refused g.P.Protocol.proto c.args.self.now c.args.core c.args.command.now c.in-Some.c (sym c.is_empty.ensures ∙ c.if-is_empty.false) (sym c.in-Some.ensures) c.call.result there
-    c.call.ensures.cause
+pub returns-in-Err-OutOfMemory-clause-cause : goal.returns-in-Err-OutOfMemory-clause-cause
+returns-in-Err-OutOfMemory-clause-cause g c =
+    let proto = g.P.Protocol.proto in
+    let core = c.args.core in
+    let cmd : ArrayVec ℕ = c.args.command.now in
+    let w : World g.row.P.Denot = record {
+      cast = c.self.inside.cast;
+      packets = c.self.inside.packets;
+      made = c.self.inside.made;
+      seen = c.self.inside.seen.items;
+      lines = c.self.inside.lines.items;
+      forged = forged_first c.self.inside.forged;
+      ended = c.self.inside.ended;
+    } in
+    let value : length c.as_slice-bytes.result.now ≡ length cmd.items = ap length c.as_slice-bytes.ensures.value in
+    let some : 1 ≤ length cmd.items = omega (arith, positive _ c.if-is_empty.ensures, value) in
+    let few : length cmd.items ≤ 128 = omega (arith, c.as_slice-bytes.ensures.fits, value) in
+    let at = c.in-Some.place in
+    let place : place_of w.cast.setup core.party core.twin ≡ Some at =
+    ap (λ y. place_of y core.party core.twin) (sym c.setup.ensures) ∙ (sym c.place.ensures ∙ c.in-Some.is) in
+    let found = c.places_have_cores.ensures.cores core.party core.twin at place in
+    let s = found.0 in
+    let there = found.1 in
+    let asks = asks_core proto w core cmd at s some few place there in
+    let cause = subst (λ (e : CommandFault). CommandCause e s) c.in-Err-OutOfMemory.field-0-is (c.in-Err-OutOfMemory.ensures.cause s there) in
+    let happens = asks ∙ ap (λ o. refuse_command o at cmd) cause in
+    subst (λ (v : World g.row.P.Denot). CauseIn proto c.end.result v (happening v (Invoke core cmd))) c.self.view_is
+    (subst (λ (f : WorldFault). CauseIn proto f w (happening w (Invoke core cmd))) (sym c.end.ensures.result) (subst MayWant (sym happens) tt))

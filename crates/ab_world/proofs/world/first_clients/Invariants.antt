@@ -1,6 +1,0 @@
-use Rattle.std.proofs.Common.{◌≡◌}
-use Rattle.ab_world.specs.Seats.{first_seats}
-use Rattle.ab_world.proofs.world.first_clients.Given as goal
-
-abbrev pub invariant-loop-me : goal.invariant-loop-me
-invariant-loop-me l = l.clients.items ≡ first_seats l.cluster.f l.me

@@ -1,0 +1,60 @@
+//! Bytes that come to a core.
+
+ghost use Rattle.std.specs.Prelude.{◌≡◌, ◌<◌, ℕ, All, IfOk, OnErr, Option, Some};
+ghost use Rattle.ab_msg.specs.Claims.{content_of, maker_of};
+ghost use Rattle.ab_msg.specs.Grammar.{IsDraft};
+ghost use Rattle.ab_abs.specs.Places.{SendsDrafts, SendsOwn};
+ghost use Rattle.ab_cast.specs.Setups.{party_at, place_of};
+ghost use Rattle.ab_cast.specs.Signing.{SignsNothing};
+ghost use Rattle.ab_world.specs.Handing.{IsHanded, EachOut};
+
+use crate::opening::{cause_of, forged_in, open_at};
+use ab_abs::Protocol;
+use ab_cast::{Cast, Effects, Place, places_have_cores};
+use ab_num::{OutOfMemory, Party};
+use ab_post::Statements;
+use ab_svc::Service;
+use ab_text::Cause;
+use std::alloc::Global;
+
+/// What comes of bytes that are handed to a core.
+#[derive(Drop)]
+pub(crate) enum Handed {
+    /// They don't open.
+    Missed(Cause),
+    /// They open, with the maker of the first claim that its maker, a correct party, didn't make
+    /// before, and the core takes the message.
+    Heard(Option<Party>, Effects),
+}
+
+/// Hands bytes to the core at a place of the cluster. Each message is opened once, and its parts stay
+/// where they are. After an `Err` no core has changed.
+pub(crate) fn hand<S: Service, P: Protocol<S>>(
+    alloc: Global,
+    cast: &mut Cast<S, P>,
+    made: &Statements,
+    place: Place,
+    bytes: &[u8],
+) -> Result<Handed, OutOfMemory>
+    requires quiet { SignsNothing P.proto }
+    requires own { SendsOwn P.proto }
+    requires drafts { SendsDrafts P.proto }
+    requires few { cast.old.events < 100000 }
+    requires there { (twin : Option ℕ) × (place_of cast.old.setup (party_at place) twin ≡ Some place) }
+    ensures handed { IfOk result (IsHanded P.proto made.now bytes.now place cast.old cast.new) }
+    ensures drafts { IfOk result (EachOut (λ o. IsDraft o.msg)) }
+    ensures makers { IfOk result (EachOut (λ o. maker_of (content_of o.msg) ≡ party_at place)) }
+    ensures err { OnErr result (cast.new ≡ cast.old) }
+{
+    let checked = match open_at(cast.setup(), place.party(), bytes) {
+        Ok(checked) => checked,
+        Err(fault) => {
+            cast.pass();
+            return Ok(Handed::Missed(cause_of(fault)));
+        }
+    };
+    let found = forged_in(cast.setup(), made, &checked);
+    places_have_cores(cast);
+    let effects = cast.hear(alloc, place, checked.msg())?;
+    Ok(Handed::Heard(found, effects))
+}

@@ -1,0 +1,55 @@
+//! What is looked at as bytes come to a party.
+
+ghost use Rattle.std.specs.Prelude.{◌≡◌, ℕ, Ok, Err, MatchResult, IfOk, IsTrue};
+ghost use Rattle.ab_msg.specs.Grammar.{IsMessage};
+ghost use Rattle.ab_abs.specs.Messages.{heard, heard_claims};
+ghost use Rattle.ab_run.specs.Stages.{forged_in};
+ghost use Rattle.ab_cast.specs.Setups.{cluster_of};
+ghost use Rattle.ab_world.specs.Lines.{cause_of};
+ghost use Rattle.ab_world.specs.Worlds.{opening_at};
+ghost use Rattle.ab_keys.specs.Keys.{is_party};
+
+use ab_cast::Setup;
+use ab_num::Party;
+use ab_post::Statements;
+use ab_seal::{Checked, OpenFault, open};
+use ab_text::Cause;
+
+/// Opens bytes that came to a party of the cluster.
+pub(crate) fn open_at<'a>(
+    setup: &Setup,
+    party: Party,
+    bytes: &'a [u8],
+) -> Result<Checked<'a>, OpenFault>
+    requires { IsTrue (is_party setup.now.f setup.now.clients party) }
+    ensures opening { MatchResult result (λ c. opening_at setup.now party bytes.now ≡ Ok c.msg) (λ e. opening_at setup.now party bytes.now ≡ Err e) }
+    ensures grammar { IfOk result (λ c. IsMessage c.msg) }
+    ensures me { IfOk result (λ c. c.me ≡ party) }
+{
+    open(setup.ring(party), bytes)
+}
+
+/// The maker of the first claim of an opened message that names a correct party which didn't make it
+/// before.
+pub(crate) fn forged_in(setup: &Setup, made: &Statements, checked: &Checked<'_>) -> Option<Party>
+    requires { IsMessage checked.now.msg }
+    ensures { result ≡ forged_in (cluster_of setup.now) made.now (heard_claims (heard checked.now.msg)) }
+{
+    for (maker, bytes) in checked.stated() {
+        if !setup.is_faulty(maker) && !made.contains(bytes) {
+            return Some(maker);
+        }
+    }
+    None
+}
+
+/// What a report says of bytes that don't open.
+pub(crate) fn cause_of(fault: OpenFault) -> Cause
+    ensures { result ≡ cause_of fault }
+{
+    match fault {
+        OpenFault::Bad(_) => Cause::Bad,
+        OpenFault::NotMine => Cause::Kind,
+        OpenFault::BadTag(_) => Cause::Tag,
+    }
+}
