@@ -106,8 +106,7 @@ impl<S: Service, P: Protocol<S>> Cast<S, P> {
 
     /// The log that replica `r` has. None exactly where there is no such replica.
     pub fn log_of(&self, r: u8) -> Option<&History>
-        ensures { MatchOption result (slice_get self.now.replicas r ≡ None)
-            (λ log. IfSome (slice_get self.now.replicas r) (λ s. log.now ≡ (P.proto.state s.value).log)) }
+        ensures { option_map (λ log. log.now) result ≡ option_map (λ s. (P.proto.state s.value).log) (slice_get self.now.replicas r) }
     {
         let replica = self.replicas.get(r as usize)?;
         Some(replica.log())
