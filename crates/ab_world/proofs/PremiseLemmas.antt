@@ -1,6 +1,6 @@
 -- Whether the premises of the order properties hold in a world.
-use Rattle.std.proofs.Common.{◌≡◌, ℕ, zero, suc, ◌≤◌, ◌↔◌, true, Option, Some, None, List, [], ◌∷◌, length, arith, refl, sym, ap, ◌∙◌, subst, inl, inr}
-use Rattle.std.specs.Prelude.{map, count_by, nat_lt, reverse, slice_get, Result, Ok, Err}
+use Rattle.std.proofs.Common.{◌≡◌, ℕ, zero, suc, ◌≤◌, ◌↔◌, Bool, true, false, Option, Some, None, List, [], ◌∷◌, length, arith, refl, sym, ap, ◌∙◌, subst, inl, inr}
+use Rattle.std.specs.Prelude.{map, count_by, nat_le, nat_lt, reverse, slice_get, Result, Ok, Err, if◌then◌else◌}
 use Rattle.std.specs.List.{filter, list_all}
 use Rattle.std.proofs.lemmas.Bool.{cases_lt, ltb-true}
 use Rattle.std.proofs.lemmas.Option.{slice_get_past}
@@ -9,7 +9,9 @@ use Rattle.std.proofs.lemmas.List.Elements.{All-nil, All-cons}
 use Rattle.ab_num.specs.declared.party.Party.{Party}
 use Rattle.ab_num.specs.declared.party.Party.TheVariants.{Replica, Client}
 use Rattle.ab_text.specs.declared.event.Event.{Event}
-use Rattle.ab_text.specs.declared.line.Premise.TheVariants.{Held}
+use Rattle.ab_text.specs.declared.line.Breach.{Breach}
+use Rattle.ab_text.specs.declared.line.Breach.TheVariants.{Forged, Collision as Collided}
+use Rattle.ab_text.specs.declared.line.Premise.TheVariants.{Held, Broken}
 use Rattle.ab_form.specs.Formats.{IsBytes}
 use Rattle.ab_keys.specs.Rings.{Ring}
 use Rattle.ab_msg.specs.declared.content.Content.TheVariants as content
@@ -28,9 +30,10 @@ use Rattle.ab_run.specs.Premises.{IsHonestRun}
 use Rattle.ab_run.specs.Stages.{Forgery, stage_over}
 use Rattle.ab_cast.specs.Setups.{Setup, cluster_of, ring_at}
 use Rattle.ab_cast.specs.Cores.{rules}
+use Rattle.ab_world.specs.declared.collision.Collision.{Collision}
 use Rattle.ab_world.specs.Worlds.{World, start, opening_at, opened, opener}
-use Rattle.ab_world.specs.Premises.{passing, forged_premise, faulty_premise, premise_of}
-use Rattle.ab_world.specs.Runs.{outcome, inputs_of}
+use Rattle.ab_world.specs.Premises.{passing, first_premise, faulty_premise, premise_of}
+use Rattle.ab_world.specs.Runs.{outcome, inputs_of, HasNoCollision}
 use Rattle.ab_world.proofs.SeatLemmas.{get_there}
 use Rattle.ab_world.proofs.PlaceLemmas.{test_ok, parts_true}
 use Rattle.ab_world.proofs.RunLemmas.{world_is_run}
@@ -81,25 +84,33 @@ opens_contents x grammar p bytes m e =
 
 -- ---- the premise
 
--- it holds exactly where none passes f and nothing was forged
-premise_held : (p : Option Party) (b : Option Forgery) → (faulty_premise p (forged_premise b) ≡ Held) ↔ ((p ≡ None) × (b ≡ None))
-premise_held None None = (λ e. (refl, refl), λ h. refl)
-premise_held None (Some b) = (λ e. absurd (cc (e)), λ h. absurd (cc (h.1)))
-premise_held (Some p) b = (λ e. absurd (cc (e)), λ h. absurd (cc (h.0)))
+either_broken : (t : Bool) (n m : ℕ) (b c : Breach) (p q : Party) → (if t then Broken n b p else Broken m c q) ≡ Held → ⊥
+either_broken true n m b c p q e = cc
+either_broken false n m b c p q e = cc
+
+-- it holds exactly where none passes f, nothing was forged, and nothing collided
+premise_held : (p : Option Party) (b : Option Forgery) (k : Option Collision) → (faulty_premise p (first_premise b k) ≡ Held) ↔ ((p ≡ None) × (b ≡ None) × (k ≡ None))
+premise_held None None None = (λ e. (refl, refl, refl), λ h. refl)
+premise_held None None (Some k) = (λ e. absurd (cc (e)), λ h. absurd (cc (h.2)))
+premise_held None (Some b) None = (λ e. absurd (cc (e)), λ h. absurd (cc (h.1)))
+premise_held None (Some b) (Some k) =
+    (λ e. absurd (either_broken (nat_le b.event k.event) b.event k.event Forged Collided b.maker k.party e), λ h. absurd (cc (h.1)))
+premise_held (Some p) b k = (λ e. absurd (cc (e)), λ h. absurd (cc (h.0)))
 
 module _ {P : Type 0} (proto : Proto P) where
   pub held_exactly : (x : Setup) (es : List Event) (end : World P)
       → let inputs = inputs_of proto (start proto x) es in
       let honest = IsHonestRun (cluster_of x) (rules proto) (events_in (opener x) (reverse inputs)) in
       (((stage_over (cluster_of x) (rules proto) (opener x) inputs).forged ≡ None) ↔ honest)
+      → ((end.collided ≡ None) ↔ HasNoCollision proto x es)
       → outcome proto 1 (start proto x) es ≡ Ok end
-      → (premise_of end ≡ Held) ↔ ((count_by is_replica (cluster_of x).faulty ≤ x.f) × honest)
-  held_exactly x es end told out =
+      → (premise_of end ≡ Held) ↔ ((count_by is_replica (cluster_of x).faulty ≤ x.f) × honest × HasNoCollision proto x es)
+  held_exactly x es end told apart out =
       let is = world_is_run proto x es end out in
       let stage = stage_over (cluster_of x) (rules proto) (opener x) (inputs_of proto (start proto x) es) in
       let forged : end.forged ≡ stage.forged = ap (λ s. s.forged) is.shows in
       let passes : passing end.cast.setup.f end.cast.setup.faulty ≡ passing x.f x.faulty = ap (λ (y : Setup). passing y.f y.faulty) is.setup in
-      let held = premise_held (passing end.cast.setup.f end.cast.setup.faulty) end.forged in (
-        λ holds. ((few_faulty x).0 (sym passes ∙ (held.0 holds).0), told.0 (sym forged ∙ (held.0 holds).1)),
-        λ both. held.1 (passes ∙ (few_faulty x).1 both.0, forged ∙ told.1 both.1),
+      let held = premise_held (passing end.cast.setup.f end.cast.setup.faulty) end.forged end.collided in (
+        λ holds. let all = held.0 holds in ((few_faulty x).0 (sym passes ∙ all.0), told.0 (sym forged ∙ all.1), apart.0 all.2),
+        λ all. held.1 (passes ∙ (few_faulty x).1 all.0, forged ∙ told.1 all.1, apart.1 all.2),
       )

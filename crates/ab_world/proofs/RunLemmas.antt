@@ -66,11 +66,11 @@ module _ {P : Type 0} where
 
 module _ {P : Type 0} (proto : Proto P) where
   -- the world v is one event after w, where its stage is this
-  record Advances (w v : World P) (stage : Stage P) : Type 0 where
-    setup : v.cast.setup ≡ w.cast.setup
-    events : v.cast.events ≡ w.cast.events + 1
-    stands : Stands v.cast
-    shows : stage_of v ≡ stage
+  pub record Advances (w v : World P) (stage : Stage P) : Type 0 where
+    pub setup : v.cast.setup ≡ w.cast.setup
+    pub events : v.cast.events ≡ w.cast.events + 1
+    pub stands : Stands v.cast
+    pub shows : stage_of v ≡ stage
 
   -- ---- further cores of faulty parties
 
@@ -170,14 +170,14 @@ module _ {P : Type 0} (proto : Proto P) where
   advances_at w (place.ReplicaTwin r i) (hand bytes) is at takes = hears_replica_twin w r i (opening_at w.cast.setup (Replica r) bytes) is at
   advances_at w (place.ClientTwin c i) (hand bytes) is at takes = hears_client_twin w c i (opening_at w.cast.setup (Client c) bytes) is at
 
-  advances : (w : World P) (h : Happening) → Stands w.cast → Happens w h
+  pub advances : (w : World P) (h : Happening) → Stands w.cast → Happens w h
       → Advances w (after proto w h) (stage_after (cluster_of w.cast.setup) (rules proto) (opener w.cast.setup) (stage_of w) (input_of h))
   advances w h is happens = advances_at w h.place h.given is happens.there happens.takes
 
   -- ---- events one after another
 
   -- the world that an event leaves goes on, where its packets are kept
-  goes_on : (n : ℕ) (kept : Bool) (v : World P) (rest : World P → Result (World P) (ℕ × WorldFault)) (end : World P)
+  pub goes_on : (n : ℕ) (kept : Bool) (v : World P) (rest : World P → Result (World P) (ℕ × WorldFault)) (end : World P)
       → refused_or proto n (if kept then Ok v else Err PacketLimit) rest ≡ Ok end → rest v ≡ Ok end
   goes_on n true v rest end e = e
   goes_on n false v rest end e = absurd (cc)
@@ -237,7 +237,7 @@ module _ {P : Type 0} (proto : Proto P) where
 
   -- ---- from the start
 
-  first_stands : (x : Setup) → Stands (start proto x).cast
+  pub first_stands : (x : Setup) → Stands (start proto x).cast
   first_stands x = record {
     replicas = first_length (cluster_of x) (rules proto) (3 * x.f + 1);
     clients = length-first_seats x.f x.clients;
@@ -246,7 +246,7 @@ module _ {P : Type 0} (proto : Proto P) where
     seats = first_sit x.f x.clients;
   }
 
-  first_shows : (x : Setup) → stage_of (start proto x) ≡ first_stage (cluster_of x) (rules proto)
+  pub first_shows : (x : Setup) → stage_of (start proto x) ≡ first_stage (cluster_of x) (rules proto)
   first_shows x = ap (λ (z : List Cli). record (first_stage (cluster_of x) (rules proto)) { clients = z }) (clis_of-first x.f x.clients)
 
   pub record IsRun (x : Setup) (es : List Event) (end : World P) : Type 0 where

@@ -22,7 +22,7 @@ use Rattle.ab_world.specs.declared.fault.WorldFault.TheVariants.{EventLimit, Pac
 use Rattle.ab_world.specs.declared.handing.Handed.{Handed}
 use Rattle.ab_world.specs.declared.handing.Handed.TheVariants.{Missed, Heard}
 use Rattle.ab_world.specs.Worlds.{World}
-use Rattle.ab_world.specs.Steps.{Happening, ask, hand, addressed, handed, delivered, asked, asked_at, refuse_command, messages, settled, missed, moved_at, after_taking, after, stepped_by, happening, CauseIn, SettleCause, HasEnded, Leaves}
+use Rattle.ab_world.specs.Steps.{Happening, ask, hand, addressed, handed, delivered, asked, asked_at, refuse_command, messages, own_log, settled, missed, moved_at, after_taking, after, stepped_by, happening, CauseIn, SettleCause, HasEnded, Leaves}
 use Rattle.ab_world.specs.Handing.{IsHanded, finished}
 use Rattle.ab_world.proofs.PlaceLemmas.{test_there}
 
@@ -44,21 +44,21 @@ place_party x at there = (test_there (is_party x.f x.clients (party_at at)) (num
 module _ {P : Type 0} (proto : Proto P) (w : World P) where
   -- bytes that were handed to a core
   pub handed_is : (at : Place) (bytes : List ℕ) (new : Cast P) (h : Handed) → IsHanded proto w.made bytes at w.cast new h
-      → finished (record w { cast = new }) (party_at at) h ≡ after proto w (record { place = at; given = hand bytes })
+      → finished proto (record w { cast = new }) (party_at at) (length (own_log proto w.cast (party_at at))) h ≡ after proto w (record { place = at; given = hand bytes })
   handed_is at bytes new (Missed cause) is =
       (λ j. missed (record w { cast = is.next j }) (party_at at) (is.is j)) ∙ ap (λ r. after_taking proto w at (messages r)) (sym is.opens)
   handed_is at bytes new (Heard found effects) is =
-      (λ j. settled (record w { cast = is.moves j }) (party_at at) (is.forged j) (is.sends j) (is.shows j))
+      (λ j. settled proto (record w { cast = is.moves j }) (party_at at) (length (own_log proto w.cast (party_at at))) (is.forged j) (is.sends j) (is.shows j))
       ∙ (ap (λ o. moved_at proto w at (message is.msg) o) (sym is.there) ∙ ap (λ r. after_taking proto w at (messages r)) (sym is.opens))
 
   -- a command that a core took
   pub asked_is : (at : Place) (bytes : ArrayVec ℕ) (s : Core P) (new : Cast P) (h : Handed) (effects : _) → h ≡ Heard None effects → core_at w.cast at ≡ Some s
       → new ≡ next (with_core w.cast at (core_after proto (party_at at) s (command bytes)))
       → effects.outs ≡ core_sends proto (party_at at) s (command bytes) → effects.marks.items ≡ core_marks proto (party_at at) s (command bytes)
-      → finished (record w { cast = new }) (party_at at) h ≡ after proto w (record { place = at; given = ask bytes })
+      → finished proto (record w { cast = new }) (party_at at) (length (own_log proto w.cast (party_at at))) h ≡ after proto w (record { place = at; given = ask bytes })
   asked_is at bytes s new h effects is there moves sends shows =
-      ap (λ x. finished (record w { cast = new }) (party_at at) x) is
-      ∙ ((λ j. settled (record w { cast = moves j }) (party_at at) None (sends j) (shows j)) ∙ ap (λ o. moved_at proto w at (command bytes) o) (sym there))
+      ap (λ x. finished proto (record w { cast = new }) (party_at at) (length (own_log proto w.cast (party_at at))) x) is
+      ∙ ((λ j. settled proto (record w { cast = moves j }) (party_at at) (length (own_log proto w.cast (party_at at))) None (sends j) (shows j)) ∙ ap (λ o. moved_at proto w at (command bytes) o) (sym there))
 
   pub within_is : (v : World P) (h : Happening) → v ≡ after proto w h → total v.packets ≤ most_bytes → stepped_by proto w (Ok h) ≡ Ok v
   within_is v h is few =
@@ -142,7 +142,7 @@ module _ {P : Type 0} where
 
   -- where the world has ended, that is all that a refusal leaves
   pub ended_leaves : (f : WorldFault) (w v x : World P) (new : Cast P) → new.setup ≡ w.cast.setup → SettleCause f x → HasEnded f (record w { cast = new }) v → Leaves f w v
-  ended_leaves f w v x new same cause end = leaves f cause (record { ended = end.ended; setup = end.setup ∙ same; packets = end.packets; seen = end.seen; lines = end.lines; forged = end.forged })
+  ended_leaves f w v x new same cause end = leaves f cause (record { ended = end.ended; setup = end.setup ∙ same; packets = end.packets; seen = end.seen; lines = end.lines; forged = end.forged; collided = end.collided })
     where
       leaves : (f : WorldFault) → SettleCause f x → HasEnded f w v → Leaves f w v
       leaves OutOfMemory cause end = end

@@ -41,10 +41,10 @@ abbrev pub IsHanded : {P : Type 0} → Proto P → List (List ℕ) → List ℕ 
 IsHanded proto made bytes at old new (Missed cause) = IsMissed bytes at old new cause
 IsHanded proto made bytes at old new (Heard found effects) = IsHeard proto made bytes at old new found effects.outs effects.marks.items
 
--- the world where this came of bytes in its present event
-abbrev pub finished : {P : Type 0} → World P → Party → Handed → World P
-finished w p (Missed cause) = missed w p cause
-finished w p (Heard found effects) = settled w p found effects.outs effects.marks.items
+-- the world where this came of what a core of party p, whose log had n entries, was given in its present event
+abbrev pub finished : {P : Type 0} → Proto P → World P → Party → ℕ → Handed → World P
+finished proto w p n (Missed cause) = missed w p cause
+finished proto w p n (Heard found effects) = settled proto w p n found effects.outs effects.marks.items
 
 -- each message that is sent is so
 abbrev pub EachOut : (Out → Type 0) → Handed → Type 0

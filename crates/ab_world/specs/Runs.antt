@@ -31,7 +31,7 @@ module _ {P : Type 0} (proto : Proto P) where
   inputs_of w [] = []
   inputs_of w (e ∷ es) = input_or (ready w e) (λ h. inputs_of (after proto w h) es)
 
-  -- no two histories that a correct replica had in the run of these events have one digest
+  -- no two different beginnings of histories that a correct replica had in the run of these events have one digest
   abbrev pub HasNoCollision : Setup → List Event → Type 0
   HasNoCollision x es =
       NoCollision (run (cluster_of x) (rules proto) (events_in (opener x) (reverse (inputs_of (start proto x) es)))).had

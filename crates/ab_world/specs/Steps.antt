@@ -1,8 +1,11 @@
 -- What an event does to a world.
-use Rattle.std.specs.Prelude.{◌≡◌, ℕ, ◌<◌, nat_lt, nat_le, ◌&&◌, if◌then◌else◌, Option, None, Some, List, [], ◌∷◌, ◌++◌, length, map, Result, Ok, Err}
+use Rattle.std.specs.Prelude.{◌≡◌, ℕ, ◌<◌, nat_lt, nat_le, ◌&&◌, if◌then◌else◌, Bool, Option, None, Some, List, [], ◌∷◌, ◌++◌, drop, length, map, slice_get, Result, Ok, Err}
 use Rattle.arrayvec.specs.ArrayVec.{ArrayVec}
 use Rattle.ab_num.specs.declared.party.Party.{Party}
+use Rattle.ab_num.specs.declared.party.Party.TheVariants.{Replica, Client}
 use Rattle.ab_num.specs.Parties.{party_eq}
+use Rattle.ab_hist.specs.declared.request.Request.{Request}
+use Rattle.ab_links.specs.Links.{Link, links_of, keep_links, any_collides}
 use Rattle.ab_text.specs.declared.line.Cause.{Cause as TextCause}
 use Rattle.ab_text.specs.declared.event.Core.{Core as CoreName}
 use Rattle.ab_text.specs.declared.event.Event.{Event}
@@ -15,7 +18,7 @@ use Rattle.ab_seal.specs.declared.fault.OpenFault.{OpenFault}
 use Rattle.ab_seal.specs.Sealing.{sealed}
 use Rattle.ab_abs.specs.declared.seen.Seen.{Seen}
 use Rattle.ab_abs.specs.Ensembles.{Proto}
-use Rattle.ab_run.specs.States.{noted}
+use Rattle.ab_run.specs.States.{noted, log_at}
 use Rattle.ab_run.specs.Stages.{Forgery, made_after, forged_in, forgery, first_of}
 use Rattle.ab_run.specs.Inputs.{Input, told, came, elsewhere}
 use Rattle.ab_post.specs.Packets.{Packet, nth, total, most_bytes}
@@ -24,8 +27,9 @@ use Rattle.ab_cast.specs.declared.fault.CommandFault.TheVariants as command_faul
 use Rattle.ab_cast.specs.declared.place.Place.{Place}
 use Rattle.ab_cast.specs.declared.place.Place.TheVariants as place
 use Rattle.ab_cast.specs.Setups.{Setup, cluster_of, is_bad, party_at, place_of, ring_at}
-use Rattle.ab_cast.specs.Cores.{Core, Taken, command, message, claims_in, core_after, core_sends, core_marks}
-use Rattle.ab_cast.specs.Casts.{core_at, with_core, next, command_refusal}
+use Rattle.ab_cast.specs.Cores.{Core, Taken, rules, command, message, claims_in, core_after, core_sends, core_marks}
+use Rattle.ab_cast.specs.Casts.{Cast, core_at, with_core, next, command_refusal}
+use Rattle.ab_world.specs.declared.collision.Collision.{Collision}
 use Rattle.ab_world.specs.declared.fault.WorldFault.{WorldFault}
 use Rattle.ab_world.specs.declared.fault.WorldFault.TheVariants.{EventLimit, PacketLimit, NotBuilt, NoPacket, BadParty, Busy, OutOfMemory}
 use Rattle.ab_world.specs.Lines.{line_of, cause_of}
@@ -113,17 +117,34 @@ written x p lines more = if is_bad x p then lines else lines ++ more
 abbrev pub forged_now : Setup → Party → ℕ → Option Forgery → Option Party → Option Forgery
 forged_now x p e before found = if is_bad x p then before else first_of before (forgery e found)
 
--- the world where in its present event a core of party p has taken such a claim, sends this and shows this
-abbrev pub settled : {P : Type 0} → World P → Party → Option Party → List Out → List Seen → World P
-settled w p found outs marks =
+-- the log of a party's own core, where the party is a replica
+abbrev pub own_log : {P : Type 0} → Proto P → Cast P → Party → List Request
+own_log proto x (Replica r) = log_at (rules proto) (slice_get x.replicas r)
+own_log proto x (Client c) = []
+
+-- the links of its entries behind the first n
+abbrev pub new_links : {P : Type 0} → Proto P → Cast P → Party → ℕ → List Link
+new_links proto x p n = drop n (links_of (own_log proto x p))
+
+abbrev pub first_collision : Option Collision → ℕ → Party → Bool → Option Collision
+first_collision (Some k) e p found = Some k
+first_collision None e p found = if found then Some (record { event = e; party = p }) else None
+
+-- the world where in its present event a core of party p, whose log had n entries, has taken such a claim, sends this and
+-- shows this
+abbrev pub settled : {P : Type 0} → Proto P → World P → Party → ℕ → Option Party → List Out → List Seen → World P
+settled proto w p n found outs marks =
     let x = w.cast.setup in
     let e = w.cast.events in
+    let fresh = new_links proto w.cast p n in
     record w {
       packets = w.packets ++ posted x p outs;
       made = made_after (cluster_of x) p w.made outs;
       seen = noted (cluster_of x) p e w.seen marks;
       lines = written x p w.lines (map (line_of e) marks);
       forged = forged_now x p e w.forged found;
+      links = if is_bad x p then w.links else keep_links w.links fresh;
+      collided = if is_bad x p then w.collided else first_collision w.collided e p (any_collides w.links fresh);
     }
 
 -- the world where in its present event bytes came to party p that did not open
@@ -134,8 +155,8 @@ module _ {P : Type 0} (proto : Proto P) where
   -- the core s of party p at a place takes what comes
   abbrev pub moved : World P → Place → Party → Taken → Core P → World P
   moved w at p t s =
-      settled (record w { cast = next (with_core w.cast at (core_after proto p s t)) })
-      p (forged_in (cluster_of w.cast.setup) w.made (claims_in t)) (core_sends proto p s t) (core_marks proto p s t)
+      settled proto (record w { cast = next (with_core w.cast at (core_after proto p s t)) })
+      p (length (own_log proto w.cast p)) (forged_in (cluster_of w.cast.setup) w.made (claims_in t)) (core_sends proto p s t) (core_marks proto p s t)
 
   abbrev pub moved_at : World P → Place → Taken → Option (Core P) → World P
   moved_at w at t None = w
@@ -198,6 +219,7 @@ pub record HasEnded {P : Type 0} (f : WorldFault) (old new : World P) : Type 0 w
   pub seen : new.seen ≡ old.seen
   pub lines : new.lines ≡ old.lines
   pub forged : new.forged ≡ old.forged
+  pub collided : new.collided ≡ old.collided
 
 -- a refusal leaves the world as it was, or ended
 abbrev pub Leaves : {P : Type 0} → WorldFault → World P → World P → Type 0

@@ -2,6 +2,7 @@
 use Rattle.std.specs.Prelude.{ℕ, nat_lt, if◌then◌else◌, Option, None, Some, List, [], Result, Ok, Err}
 use Rattle.std.specs.List.{list_all}
 use Rattle.ab_num.specs.declared.party.Party.{Party}
+use Rattle.ab_links.specs.Links.{Link}
 use Rattle.ab_text.specs.declared.line.Line.{Line}
 use Rattle.ab_msg.specs.declared.message.Msg.{Msg}
 use Rattle.ab_seal.specs.declared.fault.OpenFault.{OpenFault}
@@ -14,10 +15,12 @@ use Rattle.ab_run.specs.Stages.{Stage, Forgery}
 use Rattle.ab_post.specs.Packets.{Packet}
 use Rattle.ab_cast.specs.Setups.{Setup, ring_at}
 use Rattle.ab_cast.specs.Casts.{Cast, first_cast, clis_of}
+use Rattle.ab_world.specs.declared.collision.Collision.{Collision}
 use Rattle.ab_world.specs.declared.fault.WorldFault.{WorldFault}
 
 -- the cores; all packets, the oldest first; of the correct parties what they made and what was seen, with the lines of the
--- report; the first forgery; and why the world takes no more events, if it doesn't
+-- report; the first forgery; the links of the histories that correct replicas had, and the first of them that collided; and
+-- why the world takes no more events, if it doesn't
 pub record World (P : Type 0) : Type 0 where
   pub cast : Cast P
   pub packets : List Packet
@@ -25,10 +28,12 @@ pub record World (P : Type 0) : Type 0 where
   pub seen : List Noted
   pub lines : List Line
   pub forged : Option Forgery
+  pub links : List Link
+  pub collided : Option Collision
   pub ended : Option WorldFault
 
 abbrev pub start : {P : Type 0} → Proto P → Setup → World P
-start proto x = record { cast = first_cast proto x; packets = []; made = []; seen = []; lines = []; forged = None; ended = None }
+start proto x = record { cast = first_cast proto x; packets = []; made = []; seen = []; lines = []; forged = None; links = []; collided = None; ended = None }
 
 -- ---- a world as a run
 

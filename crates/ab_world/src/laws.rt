@@ -7,7 +7,7 @@ ghost use Rattle.ab_text.specs.declared.line.Premise.TheVariants.{Held};
 ghost use Rattle.ab_abs.specs.Acts.{is_replica};
 ghost use Rattle.ab_abs.specs.Instances.{IsAbstract};
 ghost use Rattle.ab_abs.specs.Observations.{history_at};
-ghost use Rattle.ab_abs.specs.Places.{SendsDrafts};
+ghost use Rattle.ab_abs.specs.Places.{LogsGrow, SendsDrafts};
 ghost use Rattle.ab_run.specs.Premises.{IsHonestRun};
 ghost use Rattle.ab_run.specs.Inputs.{events_in};
 ghost use Rattle.ab_run.specs.Stages.{all_seen, stage_log, stage_over};
@@ -18,6 +18,7 @@ ghost use Rattle.ab_world.specs.Premises.{passing, premise_of};
 ghost use Rattle.ab_world.specs.Runs.{outcome, inputs_of, HasNoCollision};
 
 use ab_abs::Protocol;
+use ab_links::{beginnings_add_nothing, collisions_are_found};
 use ab_run::{bytes_keep_promises, forgeries_are_told};
 use ab_seal::{contents_have_their_own_bytes, opened_messages_are_of_the_grammar};
 use ab_svc::Service;
@@ -35,26 +36,38 @@ pub fn few_are_faulty()
     ensures { (x : TheSetup) → (passing x.f x.faulty ≡ None) ↔ (count_by is_replica (cluster_of x).faulty ≤ x.f) }
 {}
 
-/// The premise holds exactly where at most f replicas are faulty and nothing was forged: each claim
-/// of a correct party that a correct party checked was made before.
+/// No collision was found exactly where no two different beginnings of histories that correct
+/// replicas had have one digest, where logs only grow.
+pub fn collisions_are_told<S: Service, P: Protocol<S>>()
+    ensures { (x : TheSetup) (es : List TheEvent) (end : TheWorld P) → LogsGrow P.proto
+        → outcome P.proto 1 (start P.proto x) es ≡ Ok end
+        → (end.collided ≡ None) ↔ HasNoCollision P.proto x es }
+{
+    collisions_are_found();
+    beginnings_add_nothing();
+}
+
+/// The premise holds exactly where at most f replicas are faulty, nothing was forged (each claim of a
+/// correct party that a correct party checked was made before), and no two histories have one digest.
 pub fn premise_is_exact<S: Service, P: Protocol<S>>()
     ensures { (x : TheSetup) (es : List TheEvent) (end : TheWorld P) → IsInBounds x.f x.clients → SendsDrafts P.proto
-        → outcome P.proto 1 (start P.proto x) es ≡ Ok end
+        → LogsGrow P.proto → outcome P.proto 1 (start P.proto x) es ≡ Ok end
         → (premise_of end ≡ Held)
         ↔ ((count_by is_replica (cluster_of x).faulty ≤ x.f)
-        × IsHonestRun (cluster_of x) (rules P.proto) (events_in (opener x) (reverse (inputs_of P.proto (start P.proto x) es)))) }
+        × IsHonestRun (cluster_of x) (rules P.proto) (events_in (opener x) (reverse (inputs_of P.proto (start P.proto x) es)))
+        × HasNoCollision P.proto x es) }
 {
     contents_have_their_own_bytes();
     opened_messages_are_of_the_grammar();
     forgeries_are_told::<S, P>();
+    collisions_are_told::<S, P>();
 }
 
-/// Where the premise holds and no two histories have one digest, instance 1 keeps what Abstract
-/// promises, whatever came: packets in any order, twice or never, bytes of anyone, twins of faulty
-/// parties.
+/// Where the premise holds, instance 1 keeps what Abstract promises, whatever came: packets in any
+/// order, twice or never, bytes of anyone, twins of faulty parties.
 pub fn worlds_keep_promises<S: Service, P: Protocol<S>>()
     ensures { (x : TheSetup) (es : List TheEvent) (end : TheWorld P) → IsInBounds x.f x.clients → SendsDrafts P.proto
-        → outcome P.proto 1 (start P.proto x) es ≡ Ok end → premise_of end ≡ Held → HasNoCollision P.proto x es
+        → LogsGrow P.proto → outcome P.proto 1 (start P.proto x) es ≡ Ok end → premise_of end ≡ Held
         → IsAbstract S.machine (all_seen (stage_of end)) (history_at (cluster_of x).faulty (3 * x.f + 1) (stage_log (rules P.proto) (stage_of end))) (cluster_of x).faulty 1 }
 {
     premise_is_exact::<S, P>();

@@ -2,11 +2,13 @@
 //! events, with what was seen of the correct ones.
 #![tactic(auto)]
 
+mod collision;
 mod fault;
 mod forgery;
 mod handing;
 mod laws;
 mod lines;
+mod linking;
 mod opening;
 mod posting;
 mod premise;
@@ -14,6 +16,8 @@ mod recording;
 mod world;
 
 pub use fault::WorldFault;
-pub use laws::{few_are_faulty, premise_is_exact, worlds_are_runs, worlds_keep_promises};
+pub use laws::{
+    collisions_are_told, few_are_faulty, premise_is_exact, worlds_are_runs, worlds_keep_promises,
+};
 pub use lines::entries;
 pub use world::World;

@@ -2,8 +2,9 @@
 
 ghost use Rattle.std.specs.Prelude.{◌≡◌};
 ghost use Rattle.ab_world.specs.Forgeries.{forged_first};
-ghost use Rattle.ab_world.specs.Premises.{faulty_premise, forged_premise, passing};
+ghost use Rattle.ab_world.specs.Premises.{faulty_premise, first_premise, passing};
 
+use crate::collision::Collision;
 use crate::forgery::Forgery;
 use ab_num::Party;
 use ab_text::{Breach, Premise};
@@ -19,23 +20,46 @@ fn passing(f: u8, faulty: &[(Party, u8)]) -> Option<Party>
         .nth(f as usize)
 }
 
-/// The premise where these parties are faulty and this was forged first.
-pub(crate) fn premise(f: u8, faulty: &[(Party, u8)], forged: Option<Forgery>) -> Premise
-    ensures { result ≡ faulty_premise (passing f faulty.now) (forged_premise (forged_first forged)) }
+/// What was broken first, and in one event the forgery.
+fn first_premise(forged: Option<Forgery>, collided: Option<Collision>) -> Premise
+    ensures { result ≡ first_premise (forged_first forged) collided }
 {
-    if let Some(party) = passing(f, faulty) {
-        return Premise::Broken {
-            event: 0,
-            breach: Breach::Faulty,
-            party,
-        };
-    }
-    match forged {
-        Some(forgery) => Premise::Broken {
+    let later = match collided {
+        Some(collision) => Premise::Broken {
+            event: collision.event,
+            breach: Breach::Collision,
+            party: collision.party,
+        },
+        None => Premise::Held,
+    };
+    let Some(forgery) = forged else {
+        return later;
+    };
+    match collided {
+        Some(collision) if collision.event < forgery.event => later,
+        _ => Premise::Broken {
             event: forgery.event,
             breach: Breach::Forged,
             party: forgery.maker,
         },
-        None => Premise::Held,
+    }
+}
+
+/// The premise where these parties are faulty, and this was forged and collided first.
+pub(crate) fn premise(
+    f: u8,
+    faulty: &[(Party, u8)],
+    forged: Option<Forgery>,
+    collided: Option<Collision>,
+) -> Premise
+    ensures { result ≡ faulty_premise (passing f faulty.now) (first_premise (forged_first forged) collided) }
+{
+    match passing(f, faulty) {
+        Some(party) => Premise::Broken {
+            event: 0,
+            breach: Breach::Faulty,
+            party,
+        },
+        None => first_premise(forged, collided),
     }
 }

@@ -6,7 +6,9 @@ ghost use Rattle.arrayvec.specs.ArrayVec.{array_vec_len};
 ghost use Rattle.ab_run.specs.Stages.{first_of, forgery};
 ghost use Rattle.ab_world.specs.Forgeries.{forged_first};
 ghost use Rattle.ab_world.specs.Lines.{line_of, note};
+ghost use Rattle.ab_world.specs.Steps.{first_collision};
 
+use crate::collision::Collision;
 use crate::forgery::Forgery;
 use crate::lines::line;
 use ab_abs::{Marks, Seen};
@@ -63,5 +65,21 @@ pub(crate) fn first_forgery(
         (Some(forgery), _) => Some(forgery),
         (None, Some(maker)) => Some(Forgery { event, maker }),
         (None, None) => None,
+    }
+}
+
+/// The first collision, where one was found in this event of a party.
+pub(crate) fn first_collision(
+    before: Option<Collision>,
+    event: u32,
+    party: Party,
+    found: bool,
+) -> Option<Collision>
+    ensures { result ≡ first_collision before event party found }
+{
+    match before {
+        Some(collision) => Some(collision),
+        None if found => Some(Collision { event, party }),
+        None => None,
     }
 }

@@ -16,16 +16,18 @@ ghost use Rattle.ab_world.specs.Premises.{premise_of};
 ghost use Rattle.ab_world.specs.Steps.{addressed, handed, settled, missed, stepped, stepped_by, happening, Cause, CauseIn, HasEnded, Leaves, SettleCause};
 ghost use Rattle.ab_world.specs.Handing.{finished, EachOut};
 
+use crate::collision::Collision;
 use crate::fault::WorldFault;
 use crate::forgery::Forgery;
 use crate::handing::{Handed, hand};
+use crate::linking::{link, logged};
 use crate::posting::{post, state};
 use crate::premise::premise;
-use crate::recording::{add_lines, add_seen, first_forgery, lines_of};
+use crate::recording::{add_lines, add_seen, first_collision, first_forgery, lines_of};
 use ab_abs::{Marks, Protocol};
 use ab_cast::{Cast, CommandFault, Effects, Place, Setup, places_have_cores};
 use ab_hist::History;
-use ab_msg::Outs;
+use ab_links::Links;
 use ab_num::{OutOfMemory, Party};
 use ab_post::{Packets, Statements};
 use ab_run::Noted;
@@ -39,7 +41,7 @@ use std::marker::Model;
 const MOST_EVENTS: u32 = 100_000;
 
 /// The cores of a cluster, every packet that was sent, and of the correct parties what they made and
-/// what was seen, with the first claim that was forged.
+/// what was seen, with the first claim that was forged and the first digests that collided.
 #[derive(Drop)]
 pub struct World<S: Service, P: Protocol<S>> {
     cast: Cast<S, P>,
@@ -48,6 +50,8 @@ pub struct World<S: Service, P: Protocol<S>> {
     seen: Vec<Noted>,
     lines: Vec<Line>,
     forged: Option<Forgery>,
+    links: Links,
+    collided: Option<Collision>,
     ended: Option<WorldFault>,
 }
 
@@ -66,6 +70,8 @@ impl<S: Service, P: Protocol<S>> Model for World<S, P> {
       seen = w.seen.items;
       lines = w.lines.items;
       forged = forged_first w.forged;
+      links = w.links;
+      collided = w.collided;
       ended = w.ended;
     } };
 
@@ -102,6 +108,8 @@ impl<S: Service, P: Protocol<S>> World<S, P> {
             seen: Vec::new(alloc),
             lines: Vec::new(alloc),
             forged: None,
+            links: Links::new(alloc),
+            collided: None,
             ended: None,
         })
     }
@@ -146,7 +154,12 @@ impl<S: Service, P: Protocol<S>> World<S, P> {
         ensures { result ≡ premise_of self.now }
     {
         let setup = self.cast.setup();
-        premise(setup.cluster().f, setup.faulty(), self.forged)
+        premise(
+            setup.cluster().f,
+            setup.faulty(),
+            self.forged,
+            self.collided,
+        )
     }
 
     /// Whether it takes no more events: it took 100,000, its packets would pass their number of
@@ -166,8 +179,7 @@ impl<S: Service, P: Protocol<S>> World<S, P> {
 
     /// The log that the first core of replica `r` has. None exactly where there is no such replica.
     pub fn log_of(&self, r: u8) -> Option<&History>
-        ensures { MatchOption result (slice_get self.now.cast.replicas r ≡ None)
-            (λ log. IfSome (slice_get self.now.cast.replicas r) (λ s. log.now ≡ (P.proto.state s.value).log)) }
+        ensures { option_map (λ log. log.now) result ≡ option_map (λ s. (P.proto.state s.value).log) (slice_get self.now.cast.replicas r) }
     {
         self.cast.log_of(r)
     }
@@ -189,21 +201,23 @@ impl<S: Service, P: Protocol<S>> World<S, P> {
         fault
     }
 
-    /// Adds what a party of the cluster sends and shows in the present event, and the name in which
-    /// something was forged that it took. After an `Err` all that is shown is as before.
+    /// Adds what a party of the cluster sends and shows in the present event, the name in which
+    /// something was forged that it took, and the entries of its log behind those of before. After an
+    /// `Err` all that is shown is as before.
     fn add(
         &mut self,
         alloc: Global,
         party: Party,
+        before: usize,
         found: Option<Party>,
         effects: Effects,
     ) -> Result<(), WorldFault>
         requires party { IsTrue (is_party self.old.cast.setup.f self.old.cast.setup.clients party) }
         requires drafts { All (λ o. IsDraft o.msg) effects.outs }
         requires makers { All (λ o. maker_of (content_of o.msg) ≡ party) effects.outs }
-        ensures ok { OnOk result ((self.new ≡ settled self.old party found effects.outs effects.marks.items) × (total self.new.packets ≤ most_bytes)) }
-        ensures cause { IfErr result (λ f. SettleCause f (settled self.old party found effects.outs effects.marks.items)) }
-        ensures err { OnErr result (self.new ≡ record self.old { made = self.new.made }) }
+        ensures ok { OnOk result ((self.new ≡ settled P.proto self.old party before found effects.outs effects.marks.items) × (total self.new.packets ≤ most_bytes)) }
+        ensures cause { IfErr result (λ f. SettleCause f (settled P.proto self.old party before found effects.outs effects.marks.items)) }
+        ensures err { OnErr result (self.new ≡ record self.old { made = self.new.made; links = self.new.links }) }
     {
         let event = self.cast.events();
         let setup = self.cast.setup();
@@ -216,10 +230,12 @@ impl<S: Service, P: Protocol<S>> World<S, P> {
         self.lines.reserve(lines.len())?;
         self.seen.reserve(effects.marks.len())?;
         state(alloc, setup, party, &mut self.made, effects.outs.as_slice())?;
+        let collides = link(&self.cast, &mut self.links, party, before)?;
         self.packets.send(alloc, packets)?;
         add_lines(&mut self.lines, lines);
         add_seen(&mut self.seen, event, effects.marks);
         self.forged = first_forgery(self.forged, event, found);
+        self.collided = first_collision(self.collided, event, party, collides);
         Ok(())
     }
 
@@ -244,17 +260,23 @@ impl<S: Service, P: Protocol<S>> World<S, P> {
     }
 
     /// The present event ends: what came of it is added. After an `Err` the world has ended.
-    fn finish(&mut self, alloc: Global, party: Party, handed: Handed) -> Result<(), WorldFault>
+    fn finish(
+        &mut self,
+        alloc: Global,
+        party: Party,
+        before: usize,
+        handed: Handed,
+    ) -> Result<(), WorldFault>
         requires party { IsTrue (is_party self.old.cast.setup.f self.old.cast.setup.clients party) }
         requires drafts { EachOut (λ o. IsDraft o.msg) handed }
         requires makers { EachOut (λ o. maker_of (content_of o.msg) ≡ party) handed }
-        ensures ok { OnOk result ((self.new ≡ finished self.old party handed) × (total self.new.packets ≤ most_bytes)) }
-        ensures cause { IfErr result (λ f. SettleCause f (finished self.old party handed)) }
+        ensures ok { OnOk result ((self.new ≡ finished P.proto self.old party before handed) × (total self.new.packets ≤ most_bytes)) }
+        ensures cause { IfErr result (λ f. SettleCause f (finished P.proto self.old party before handed)) }
         ensures err { IfErr result (λ f. HasEnded f self.old self.new) }
     {
         let finished = match handed {
             Handed::Missed(cause) => self.refuse(party, cause),
-            Handed::Heard(found, effects) => self.add(alloc, party, found, effects),
+            Handed::Heard(found, effects) => self.add(alloc, party, before, found, effects),
         };
         match finished {
             Ok(()) => Ok(()),
@@ -282,8 +304,11 @@ impl<S: Service, P: Protocol<S>> World<S, P> {
             return Err(WorldFault::BadParty);
         };
         places_have_cores(&self.cast);
+        let before = logged(&self.cast, place.party());
         match self.cast.invoke(alloc, place, bytes) {
-            Ok(effects) => self.finish(alloc, place.party(), Handed::Heard(None, effects)),
+            Ok(effects) => {
+                self.finish(alloc, place.party(), before, Handed::Heard(None, effects))
+            },
             Err(CommandFault::NoClient) => Err(WorldFault::BadParty),
             Err(CommandFault::Busy) => Err(WorldFault::Busy),
             Err(CommandFault::OutOfMemory) => Err(self.end(WorldFault::OutOfMemory)),
@@ -306,8 +331,9 @@ impl<S: Service, P: Protocol<S>> World<S, P> {
         let Some(place) = addressed(self.cast.setup(), packet.to(), core) else {
             return Err(WorldFault::BadParty);
         };
+        let before = logged(&self.cast, place.party());
         match hand(alloc, &mut self.cast, &self.made, place, packet.bytes()) {
-            Ok(handed) => self.finish(alloc, place.party(), handed),
+            Ok(handed) => self.finish(alloc, place.party(), before, handed),
             Err(_) => Err(self.end(WorldFault::OutOfMemory)),
         }
     }
@@ -325,8 +351,9 @@ impl<S: Service, P: Protocol<S>> World<S, P> {
         let Some(place) = self.cast.setup().place(core.party, core.twin) else {
             return Err(WorldFault::BadParty);
         };
+        let before = logged(&self.cast, place.party());
         match hand(alloc, &mut self.cast, &self.made, place, bytes) {
-            Ok(handed) => self.finish(alloc, place.party(), handed),
+            Ok(handed) => self.finish(alloc, place.party(), before, handed),
             Err(_) => Err(self.end(WorldFault::OutOfMemory)),
         }
     }

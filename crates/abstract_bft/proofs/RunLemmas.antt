@@ -12,7 +12,7 @@ use Rattle.ab_seal.specs.declared.fault.OpenFault.{OpenFault}
 use Rattle.ab_abs.specs.Acts.{is_replica}
 use Rattle.ab_abs.specs.Ensembles.{Proto}
 use Rattle.ab_abs.specs.Members.{Member}
-use Rattle.ab_abs.specs.Places.{SendsDrafts}
+use Rattle.ab_abs.specs.Places.{LogsGrow, SendsDrafts}
 use Rattle.ab_run.specs.Inputs.{events_in}
 use Rattle.ab_run.specs.Premises.{IsHonestRun}
 use Rattle.ab_run.specs.States.{first_reps}
@@ -24,7 +24,7 @@ use Rattle.ab_cast.specs.Casts.{Cast, with_core, core_at}
 use Rattle.ab_world.specs.declared.fault.WorldFault.{WorldFault}
 use Rattle.ab_world.specs.declared.fault.WorldFault.TheVariants.{PacketLimit}
 use Rattle.ab_world.specs.Premises.{premise_of}
-use Rattle.ab_world.specs.Runs.{outcome, refused_or, inputs_of}
+use Rattle.ab_world.specs.Runs.{outcome, refused_or, inputs_of, HasNoCollision}
 use Rattle.ab_world.specs.Steps.{Happening, ready, after, after_taking, moved_at, stepped, stepped_by, taken_from}
 use Rattle.ab_world.specs.Worlds.{World, start, opener}
 use Rattle.abstract_bft.specs.declared.replay.ReplayFault.{ReplayFault}
@@ -121,14 +121,15 @@ runs_schedule proto head events es found x w end faulty sets starts same is =
 
 -- the law of the premise of a world, for the run of a schedule
 pub premises_met : (proto : Proto Member)
-    (law : (x : Setup) (es : List Event) (end : World Member) → IsInBounds x.f x.clients → SendsDrafts proto → outcome proto 1 (start proto x) es ≡ Ok end
+    (law : (x : Setup) (es : List Event) (end : World Member) → IsInBounds x.f x.clients → SendsDrafts proto → LogsGrow proto → outcome proto 1 (start proto x) es ≡ Ok end
     → (premise_of end ≡ Held)
-    ↔ ((count_by is_replica (cluster_of x).faulty ≤ x.f) × IsHonestRun (cluster_of x) (rules proto) (events_in (opener x) (reverse (inputs_of proto (start proto x) es)))))
-    → SendsDrafts proto → (s : Script) (end : World Member) → IsInBounds s.f s.clients → run_under proto s ≡ Ok end
+    ↔ ((count_by is_replica (cluster_of x).faulty ≤ x.f)
+    × IsHonestRun (cluster_of x) (rules proto) (events_in (opener x) (reverse (inputs_of proto (start proto x) es))) × HasNoCollision proto x es))
+    → SendsDrafts proto → LogsGrow proto → (s : Script) (end : World Member) → IsInBounds s.f s.clients → run_under proto s ≡ Ok end
     → (premise_of end ≡ Held) ↔ MeetsPremises proto s
-premises_met proto law drafts s end bounds runs =
-    let exact = law (setup_of s) s.events end bounds drafts runs in
-    ((λ held. let met = exact.0 held in record { few = met.0; honest = met.1 }), (λ met. exact.1 (met.few, met.honest)))
+premises_met proto law drafts grow s end bounds runs =
+    let exact = law (setup_of s) s.events end bounds drafts grow runs in
+    ((λ held. let met = exact.0 held in record { few = met.0; honest = met.1; apart = met.2 }), (λ met. exact.1 (met.few, met.honest, met.apart)))
 
 -- ---- refusals
 

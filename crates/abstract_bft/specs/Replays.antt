@@ -69,12 +69,13 @@ report_of w = report_text w.lines (logs_from w.cast.setup 0 w.cast.replicas) (pr
 
 -- ---- what a run promises
 
--- at most f replicas are declared faulty, and nothing is forged: each claim of a correct party that a correct party checked in
--- an event was made by it before
+-- at most f replicas are declared faulty; nothing is forged: each claim of a correct party that a correct party checked in an
+-- event was made by it before; and no two different beginnings of histories that correct replicas had have one digest
 pub record MeetsPremises (proto : Proto Member) (s : Script) : Type 0 where
   pub few : count_by is_replica (cluster_of (setup_of s)).faulty ≤ s.f
   pub honest : IsHonestRun (cluster_of (setup_of s)) (rules proto)
       (events_in (opener (setup_of s)) (reverse (inputs_of proto (start proto (setup_of s)) s.events)))
+  pub apart : HasNoCollision proto (setup_of s) s.events
 
 -- instance 1 keeps what Abstract promises of the service: Validity, Commit Order and Commit Agreement among it, for the
 -- observations of the run and the logs that its correct replicas have
@@ -84,14 +85,14 @@ KeepsPromises machine s w =
     IsAbstract machine (all_seen (stage_of w)) (history_at faulty (3 * s.f + 1) (stage_log (rules (quorum machine)) (stage_of w))) faulty 1
 
 -- the run of a schedule with a service leads here, and this is its report. The premise line says `held` exactly where the
--- premises are met; then the run keeps what Abstract promises, if no two histories of correct replicas have one digest
+-- premises are met, and then the run keeps what Abstract promises
 pub record Performs {S : Type 0} (machine : Machine S) (s : Script) (report : List ℕ) (held : Bool) : Type 0 where
   pub end : World Member
   pub runs : run_under (quorum machine) s ≡ Ok end
   pub reports : report ≡ report_of end
   pub says : IsTrue held ↔ (premise_of end ≡ Held)
   pub exact : (premise_of end ≡ Held) ↔ MeetsPremises (quorum machine) s
-  pub promises : premise_of end ≡ Held → HasNoCollision (quorum machine) (setup_of s) s.events → KeepsPromises machine s end
+  pub promises : premise_of end ≡ Held → KeepsPromises machine s end
 
 -- the same with the service that is named
 abbrev pub PerformsAs : ServiceName → Script → List ℕ → Bool → Type 0

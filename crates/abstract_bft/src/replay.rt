@@ -16,7 +16,7 @@ use ab_cast::Setup;
 use ab_io::Source;
 use ab_kv::Kv;
 use ab_num::{OutOfMemory, ServiceName};
-use ab_quorum::{Quorum, quorum_sends_drafts, quorum_sends_its_own};
+use ab_quorum::{Quorum, quorum_logs_grow, quorum_sends_drafts, quorum_sends_its_own};
 use ab_svc::{Echo, Service};
 use ab_text::{Event, Premise, Schedule, TextFault, read_is_in_form, read_schedule};
 use ab_world::{World, WorldFault, premise_is_exact, worlds_keep_promises};
@@ -157,6 +157,7 @@ fn perform<S: Service>(
     let mut world = QuorumWorld::<S>::new(alloc, setup)?;
     run_events(alloc, &mut world, schedule.events.as_slice(), line)?;
     quorum_sends_drafts::<S>();
+    quorum_logs_grow::<S>();
     premise_is_exact::<S, Quorum<S>>();
     worlds_keep_promises::<S, Quorum<S>>();
     Ok(Replayed {

@@ -1,9 +1,14 @@
-use Rattle.std.proofs.Common.{◌≡◌, ◌↔◌, IsTrue, Ok, subst}
+use Rattle.std.proofs.Common.{◌≡◌, ◌↔◌, ℕ, IsTrue, Ok, Result, sym, subst, rules}
+use Rattle.std.specs.Prelude.{IfErr}
+use Rattle.ab_abs.specs.Members.{Member}
+use Rattle.ab_world.specs.declared.fault.WorldFault.{WorldFault}
+use Rattle.ab_world.specs.Runs.{outcome}
+use Rattle.ab_world.specs.Worlds.{World}
 use Rattle.ab_text.specs.declared.line.Premise.{Premise}
 use Rattle.ab_text.specs.declared.line.Premise.TheVariants.{Held}
 use Rattle.ab_text.specs.Schedules.{script_of}
 use Rattle.ab_quorum.specs.Rules.{quorum}
-use Rattle.abstract_bft.specs.Replays.{run_under, setup_of}
+use Rattle.abstract_bft.specs.Replays.{run_under, setup_of, EventsCause}
 use Rattle.abstract_bft.proofs.RunLemmas.{all_replicas, premises_met, runs_schedule}
 use Rattle.abstract_bft.proofs.replay.perform.Goals as goal
 
@@ -25,6 +30,7 @@ returns-clause-ok g c =
     let end = c.run_events.new.world in
     let bounds = head.cluster.in_bounds in
     let drafts = c.quorum_sends_drafts.ensures in
+    let grow = c.quorum_logs_grow.ensures in
     let runs : run_under proto s ≡ Ok end =
     runs_schedule proto head events c.as_slice-2.result.now c.as_slice.result.now c.in_ok-setup.setup c.in_ok-world.world (Ok end) c.as_slice.ensures c.in_ok-setup.ensures c.in_ok-world.ensures c.as_slice-2.ensures c.in_ok-run_events.ensures.ok in
     record {
@@ -32,6 +38,16 @@ returns-clause-ok g c =
       runs = runs;
       reports = c.in_ok-report.ensures;
       says = subst (λ (p : Premise). IsTrue c.is_held.result ↔ (p ≡ Held)) c.premise.ensures c.is_held.ensures;
-      exact = premises_met proto c.premise_is_exact.ensures drafts s end bounds runs;
-      promises = λ held free. c.worlds_keep_promises.ensures (setup_of s) s.events end bounds drafts runs held free;
+      exact = premises_met proto c.premise_is_exact.ensures drafts grow s end bounds runs;
+      promises = c.worlds_keep_promises.ensures (setup_of s) s.events end bounds drafts grow runs;
     }
+
+pub returns-in_err-run_events-clause-cause : goal.returns-in_err-run_events-clause-cause
+returns-in_err-run_events-clause-cause g c =
+    let proto = quorum g.S.Service.machine in
+    let head = c.args.schedule.now.head in
+    let events = c.args.schedule.now.events in
+    let w = c.in_ok-world.world in
+    let es = c.as_slice-2.result.now in
+    let same = runs_schedule proto head events es c.as_slice.result.now c.in_ok-setup.setup w (outcome proto 1 w es) c.as_slice.ensures c.in_ok-setup.ensures c.in_ok-world.ensures c.as_slice-2.ensures (λ i. outcome proto 1 w es) in
+    subst (λ (o : Result (World Member) (ℕ × WorldFault)). IfErr c.from_residual-in_err-run_events.result (λ e. EventsCause e c.args.line o)) (sym same) (search rules)

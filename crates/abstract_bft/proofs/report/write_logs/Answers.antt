@@ -1,4 +1,4 @@
-use Rattle.std.proofs.Common.{◌≡◌, ◌<◌, ◌+◌, ◌++◌, flat_map, drop, length, ap, ◌∙◌, sym, arith}
+use Rattle.std.proofs.Common.{◌≡◌, ◌<◌, ◌+◌, ◌++◌, flat_map, drop, length, ap, ◌∙◌, sym, arith, rules}
 use Rattle.ab_num.specs.declared.party.Party.TheVariants.{Replica}
 use Rattle.ab_cast.specs.Setups.{Setup, is_bad}
 use Rattle.ab_text.specs.Reports.{log_text}
@@ -15,7 +15,7 @@ loop-r-preserved g c =
     let before = c.loop-r.out.items in
     let whole = c.args.out.now.items ++ flat_map log_text (logs_from x 0 replicas) in
     let within : r < length replicas = omega (arith, c.loop-r-test.true, c.replicas-r-end.ensures, c.cluster.ensures.f, ap (λ (y : Setup). y.f) c.setup.ensures, c.requires) in
-    let asked = c.is_faulty.ensures ∙ ap (λ (y : Setup). is_bad y (Replica r)) c.setup-in-loop-r.ensures in
+    let asked : c.is_faulty.result ≡ is_bad x (Replica r) = search rules in
     elim c.if-not-is_faulty.branch [
       | then-not-is_faulty+in_ok-write_log_of w ↦
           let is : c.if-not-is_faulty.out.items ≡ w.write_log_of.new.out.items = ap (λ o. o.items) w.out-is in

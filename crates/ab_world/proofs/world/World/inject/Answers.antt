@@ -1,12 +1,12 @@
-use Rattle.std.proofs.Common.{◌≡◌, Ok, Some, sym, ap, ◌∙◌, subst}
+use Rattle.std.proofs.Common.{◌≡◌, length, Ok, Some, sym, ap, ◌∙◌, subst}
 use Rattle.std.specs.Prelude.{IsTrue, OnOk}
 use Rattle.std.proofs.lemmas.Result.{on_ok_weaker}
 use Rattle.ab_num.specs.declared.party.Party.{Party}
 use Rattle.ab_keys.specs.Keys.{is_party}
-use Rattle.ab_cast.specs.Setups.{Setup, place_of}
+use Rattle.ab_cast.specs.Setups.{Setup, party_at, place_of}
 use Rattle.ab_world.specs.Worlds.{World}
 use Rattle.ab_world.specs.Forgeries.{forged_first}
-use Rattle.ab_world.specs.Steps.{hand, handed, stepped_by}
+use Rattle.ab_world.specs.Steps.{own_log, hand, handed, stepped_by}
 use Rattle.ab_world.specs.Handing.{finished}
 use Rattle.ab_world.proofs.StepLemmas.{place_is, place_party, handed_setup, handed_is, within_is}
 use Rattle.ab_world.proofs.world.World.inject.Goals as goal
@@ -23,8 +23,8 @@ finish-requires-clause-party g c =
     let there = place_is x c.args.core.party c.args.core.twin at
     (ap (λ y. place_of y c.args.core.party c.args.core.twin) (sym c.setup.ensures) ∙ (sym c.place.ensures ∙ c.in-Some.is)) in
     let same = handed_setup g.P.Protocol.proto _ _ at c.self.inside.cast c.hand.new.cast c.in-Ok.handed c.in-Ok.ensures.handed in
-    subst (λ (y : Setup). IsTrue (is_party y.f y.clients c.party.result)) (sym same)
-    (subst (λ (p : Party). IsTrue (is_party x.f x.clients p)) (sym c.party.ensures) (place_party x at there))
+    subst (λ (y : Setup). IsTrue (is_party y.f y.clients c.party-in-Ok.result)) (sym same)
+    (subst (λ (p : Party). IsTrue (is_party x.f x.clients p)) (sym c.party-in-Ok.ensures) (place_party x at there))
 
 pub returns-in-Ok-clause-ok : goal.returns-in-Ok-clause-ok
 returns-in-Ok-clause-ok g c =
@@ -39,11 +39,14 @@ returns-in-Ok-clause-ok g c =
       seen = c.self.inside.seen.items;
       lines = c.self.inside.lines.items;
       forged = forged_first c.self.inside.forged;
+      links = c.self.inside.links;
+      collided = c.self.inside.collided;
       ended = c.self.inside.ended;
     } in
     let there : place_of w.cast.setup core.party core.twin ≡ Some at =
     ap (λ y. place_of y core.party core.twin) (sym c.setup.ensures) ∙ (sym c.place.ensures ∙ c.in-Some.is) in
-    let is = ap (λ p. finished (record w { cast = c.hand.new.cast }) p c.in-Ok.handed) c.party.ensures
+    let before : c.logged-before.result ≡ length (own_log proto w.cast (party_at at)) = c.logged-before.ensures ∙ ap (λ p. length (own_log proto w.cast p)) c.party.ensures in
+    let is = (λ j. finished proto (record w { cast = c.hand.new.cast }) (c.party-in-Ok.ensures j) (before j) c.in-Ok.handed)
     ∙ handed_is proto w at bytes c.hand.new.cast c.in-Ok.handed c.in-Ok.ensures.handed in
     subst (λ (v : World g.row.P.Denot). OnOk c.finish.result (stepped_by proto v (handed bytes (place_of v.cast.setup core.party core.twin)) ≡ Ok c.finish.new.self)) c.self.view_is
     (on_ok_weaker c.finish.result (λ both. ap (λ o. stepped_by proto w (handed bytes o)) there ∙ within_is proto w c.finish.new.self (record { place = at; given = hand bytes }) (both.0 ∙ is) both.1) c.finish.ensures.ok)

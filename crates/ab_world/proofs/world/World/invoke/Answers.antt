@@ -14,7 +14,7 @@ use Rattle.ab_world.specs.declared.fault.WorldFault.TheVariants.{BadParty, Busy}
 use Rattle.ab_world.specs.declared.handing.Handed.TheVariants.{Heard}
 use Rattle.ab_world.specs.Worlds.{World}
 use Rattle.ab_world.specs.Forgeries.{forged_first}
-use Rattle.ab_world.specs.Steps.{Happening, ask, after, happening, refuse_command, stepped_by, CauseIn, MayWant, SettleCause, HasEnded, Leaves}
+use Rattle.ab_world.specs.Steps.{Happening, own_log, ask, after, happening, refuse_command, stepped_by, CauseIn, MayWant, SettleCause, HasEnded, Leaves}
 use Rattle.ab_world.specs.Handing.{finished}
 use Rattle.ab_text.proofs.LineLemmas.{positive}
 use Rattle.ab_world.proofs.StepLemmas.{place_is, place_party, asked_is, within_is, settles_is, asks_none, asks_core, core_setup, ended_leaves, if_err_then, if_err_both}
@@ -32,6 +32,8 @@ returns-in_default-clause-cause g c =
       seen = c.self.inside.seen.items;
       lines = c.self.inside.lines.items;
       forged = forged_first c.self.inside.forged;
+      links = c.self.inside.links;
+      collided = c.self.inside.collided;
       ended = c.self.inside.ended;
     } in
     let value : length c.as_slice-bytes.result.now ≡ length cmd.items = ap length c.as_slice-bytes.ensures.value in
@@ -59,6 +61,8 @@ finish-requires-clause-party g c =
       seen = c.self.inside.seen.items;
       lines = c.self.inside.lines.items;
       forged = forged_first c.self.inside.forged;
+      links = c.self.inside.links;
+      collided = c.self.inside.collided;
       ended = c.self.inside.ended;
     } in
     let value : length c.as_slice-bytes.result.now ≡ length cmd.items = ap length c.as_slice-bytes.ensures.value in
@@ -74,8 +78,8 @@ finish-requires-clause-party g c =
     let same : record { items = c.as_slice-bytes.result.now } ≡ cmd = ap (λ xs. record { items = xs }) c.as_slice-bytes.ensures.value in
     let moves = c.in-Ok.ensures.cast s there ∙ ap (λ b. next (with_core w.cast at (core_after proto (party_at at) s (command b)))) same in
     let stays = ap (λ x. x.setup) moves ∙ core_setup w.cast at (core_after proto (party_at at) s (command cmd)) in
-    subst (λ (y : Setup). IsTrue (is_party y.f y.clients c.party.result)) (sym stays)
-    (subst (λ (p : Party). IsTrue (is_party w.cast.setup.f w.cast.setup.clients p)) (sym c.party.ensures) (place_party w.cast.setup at (place_is w.cast.setup core.party core.twin at place)))
+    subst (λ (y : Setup). IsTrue (is_party y.f y.clients c.party-in-Ok.result)) (sym stays)
+    (subst (λ (p : Party). IsTrue (is_party w.cast.setup.f w.cast.setup.clients p)) (sym c.party-in-Ok.ensures) (place_party w.cast.setup at (place_is w.cast.setup core.party core.twin at place)))
 
 pub returns-in-Ok-clause-ok : goal.returns-in-Ok-clause-ok
 returns-in-Ok-clause-ok g c =
@@ -89,6 +93,8 @@ returns-in-Ok-clause-ok g c =
       seen = c.self.inside.seen.items;
       lines = c.self.inside.lines.items;
       forged = forged_first c.self.inside.forged;
+      links = c.self.inside.links;
+      collided = c.self.inside.collided;
       ended = c.self.inside.ended;
     } in
     let value : length c.as_slice-bytes.result.now ≡ length cmd.items = ap length c.as_slice-bytes.ensures.value in
@@ -109,8 +115,9 @@ returns-in-Ok-clause-ok g c =
     let shows = c.in-Ok.ensures.marks s there ∙ ap (λ b. core_marks proto (party_at at) s (command b)) same in
     let handed = Heard None c.in-Ok.effects in
     let new = c.invoke.new.self in
-    let is : finished (record w { cast = new }) c.party.result handed ≡ after proto w h =
-    ap (λ p. finished (record w { cast = new }) p handed) c.party.ensures
+    let before : c.logged-before.result ≡ length (own_log proto w.cast (party_at at)) = c.logged-before.ensures ∙ ap (λ p. length (own_log proto w.cast p)) c.party.ensures in
+    let is : finished proto (record w { cast = new }) c.party-in-Ok.result c.logged-before.result handed ≡ after proto w h =
+    (λ j. finished proto (record w { cast = new }) (c.party-in-Ok.ensures j) (before j) handed)
     ∙ asked_is proto w at cmd s new handed c.in-Ok.effects refl there moves sends shows in
     subst (λ (v : World g.row.P.Denot). OnOk c.finish.result (stepped_by proto v (happening v (Invoke core cmd)) ≡ Ok c.finish.new.self)) c.self.view_is
     (on_ok_weaker c.finish.result (λ both. ap (stepped_by proto w) happens ∙ within_is proto w c.finish.new.self h (both.0 ∙ is) both.1) c.finish.ensures.ok)
@@ -127,6 +134,8 @@ returns-in-Ok-clause-cause g c =
       seen = c.self.inside.seen.items;
       lines = c.self.inside.lines.items;
       forged = forged_first c.self.inside.forged;
+      links = c.self.inside.links;
+      collided = c.self.inside.collided;
       ended = c.self.inside.ended;
     } in
     let value : length c.as_slice-bytes.result.now ≡ length cmd.items = ap length c.as_slice-bytes.ensures.value in
@@ -147,10 +156,11 @@ returns-in-Ok-clause-cause g c =
     let shows = c.in-Ok.ensures.marks s there ∙ ap (λ b. core_marks proto (party_at at) s (command b)) same in
     let handed = Heard None c.in-Ok.effects in
     let new = c.invoke.new.self in
-    let is : finished (record w { cast = new }) c.party.result handed ≡ after proto w h =
-    ap (λ p. finished (record w { cast = new }) p handed) c.party.ensures
+    let before : c.logged-before.result ≡ length (own_log proto w.cast (party_at at)) = c.logged-before.ensures ∙ ap (λ p. length (own_log proto w.cast p)) c.party.ensures in
+    let is : finished proto (record w { cast = new }) c.party-in-Ok.result c.logged-before.result handed ≡ after proto w h =
+    (λ j. finished proto (record w { cast = new }) (c.party-in-Ok.ensures j) (before j) handed)
     ∙ asked_is proto w at cmd s new handed c.in-Ok.effects refl there moves sends shows in
-    let end = finished (record w { cast = new }) c.party.result handed in
+    let end = finished proto (record w { cast = new }) c.party-in-Ok.result c.logged-before.result handed in
     subst (λ (v : World g.row.P.Denot). IfErr c.finish.result (λ f. CauseIn proto f v (happening v (Invoke core cmd)))) c.self.view_is
     (if_err_then c.finish.result (λ f. SettleCause f end) (λ f. CauseIn proto f w (happening w (Invoke core cmd)))
     (λ f cause. subst (CauseIn proto f w) (sym happens) (settles_is proto w f end h is cause)) c.finish.ensures.cause)
@@ -167,6 +177,8 @@ returns-in-Ok-clause-err g c =
       seen = c.self.inside.seen.items;
       lines = c.self.inside.lines.items;
       forged = forged_first c.self.inside.forged;
+      links = c.self.inside.links;
+      collided = c.self.inside.collided;
       ended = c.self.inside.ended;
     } in
     let value : length c.as_slice-bytes.result.now ≡ length cmd.items = ap length c.as_slice-bytes.ensures.value in
@@ -187,10 +199,11 @@ returns-in-Ok-clause-err g c =
     let shows = c.in-Ok.ensures.marks s there ∙ ap (λ b. core_marks proto (party_at at) s (command b)) same in
     let handed = Heard None c.in-Ok.effects in
     let new = c.invoke.new.self in
-    let is : finished (record w { cast = new }) c.party.result handed ≡ after proto w h =
-    ap (λ p. finished (record w { cast = new }) p handed) c.party.ensures
+    let before : c.logged-before.result ≡ length (own_log proto w.cast (party_at at)) = c.logged-before.ensures ∙ ap (λ p. length (own_log proto w.cast p)) c.party.ensures in
+    let is : finished proto (record w { cast = new }) c.party-in-Ok.result c.logged-before.result handed ≡ after proto w h =
+    (λ j. finished proto (record w { cast = new }) (c.party-in-Ok.ensures j) (before j) handed)
     ∙ asked_is proto w at cmd s new handed c.in-Ok.effects refl there moves sends shows in
-    let end = finished (record w { cast = new }) c.party.result handed in
+    let end = finished proto (record w { cast = new }) c.party-in-Ok.result c.logged-before.result handed in
     let stays = ap (λ x. x.setup) moves ∙ core_setup w.cast at (core_after proto (party_at at) s (command cmd)) in
     subst (λ (v : World g.row.P.Denot). IfErr c.finish.result (λ f. Leaves f v c.finish.new.self)) c.self.view_is
     (if_err_both c.finish.result (λ f. SettleCause f end) (λ f. HasEnded f (record w { cast = new }) c.finish.new.self) (λ f. Leaves f w c.finish.new.self)
@@ -208,6 +221,8 @@ returns-in-Err-NoClient-clause-cause g c =
       seen = c.self.inside.seen.items;
       lines = c.self.inside.lines.items;
       forged = forged_first c.self.inside.forged;
+      links = c.self.inside.links;
+      collided = c.self.inside.collided;
       ended = c.self.inside.ended;
     } in
     let value : length c.as_slice-bytes.result.now ≡ length cmd.items = ap length c.as_slice-bytes.ensures.value in
@@ -236,6 +251,8 @@ returns-in-Err-Busy-clause-cause g c =
       seen = c.self.inside.seen.items;
       lines = c.self.inside.lines.items;
       forged = forged_first c.self.inside.forged;
+      links = c.self.inside.links;
+      collided = c.self.inside.collided;
       ended = c.self.inside.ended;
     } in
     let value : length c.as_slice-bytes.result.now ≡ length cmd.items = ap length c.as_slice-bytes.ensures.value in
@@ -264,6 +281,8 @@ returns-in-Err-OutOfMemory-clause-cause g c =
       seen = c.self.inside.seen.items;
       lines = c.self.inside.lines.items;
       forged = forged_first c.self.inside.forged;
+      links = c.self.inside.links;
+      collided = c.self.inside.collided;
       ended = c.self.inside.ended;
     } in
     let value : length c.as_slice-bytes.result.now ≡ length cmd.items = ap length c.as_slice-bytes.ensures.value in
