@@ -1,5 +1,5 @@
 -- Which protocol an instance runs, and which replica has which place in it.
-use Rattle.std.specs.Prelude.{ℕ, ◌+◌, ◌-◌, ◌*◌, ◌/◌, ◌%◌, ◌^◌, min, nat_eq, if◌then◌else◌}
+use Rattle.std.specs.Prelude.{ℕ, ◌+◌, ◌-◌, ◌*◌, ◌/◌, ◌%◌, ◌^◌, min, nat_eq, nat_le, if◌then◌else◌}
 use Rattle.ab_num.specs.declared.plan.Plan.{Plan}
 use Rattle.ab_num.specs.declared.plan.Plan.TheVariants as plan
 use Rattle.ab_num.specs.declared.plan.Kind.{Kind}
@@ -25,6 +25,10 @@ primary_of f i = (i - 1) % replicas_of f
 -- the replica at position p of the chain of instance i, counted from 1
 abbrev pub at_position_of : ℕ → ℕ → ℕ → ℕ
 at_position_of f i p = (i - 1 + p - 1) % replicas_of f
+
+-- the position of replica r in the chain of instance i, counted from 1
+abbrev pub position_in : ℕ → ℕ → ℕ → ℕ
+position_in f i r = if nat_le (primary_of f i) r then r - primary_of f i + 1 else r + replicas_of f - primary_of f i + 1
 
 -- how many instances of kind Backup come before the Backup instance i
 abbrev pub backups_before : Plan → ℕ → ℕ

@@ -2,7 +2,7 @@
 
 ghost use Rattle.std.specs.Prelude.{◌≡◌, ◌+◌, ◌*◌, ◌^◌, ◌<◌, ◌≤◌, ◌↔◌, min, IsSome, IfSome};
 ghost use Rattle.ab_num.specs.Bounds.{IsInBounds};
-ghost use Rattle.ab_num.specs.Places.{at_position_of, backups_before, kind_of, limit_of, primary_of};
+ghost use Rattle.ab_num.specs.Places.{at_position_of, backups_before, kind_of, limit_of, position_in, primary_of};
 
 use crate::plan::{Kind, Plan};
 
@@ -75,6 +75,7 @@ impl Cluster {
         requires instance { 1 ≤ i }
         requires replica { r < 3 * self.now.f + 1 }
         ensures position { (1 ≤ result) × (result ≤ 3 * self.now.f + 1) }
+        ensures counted { result ≡ position_in self.now.f i r }
         ensures here { at_position_of self.now.f i result ≡ r }
     {
         let first = self.primary(i);

@@ -1,52 +1,68 @@
 -- What every run keeps: its acts are those of an ensemble that the protocol's laws speak of.
-use Rattle.std.proofs.Common.{◌≡◌, ℕ, ◌+◌, ◌*◌, ◌<◌, ◌≤◌, Bool, true, false, Some, List}
+use Rattle.std.proofs.Common.{◌≡◌, ℕ, ◌<◌, ◌≤◌, Bool, true, false, Some, List, []}
 use Rattle.std.specs.Prelude.{Contains}
+use Rattle.ab_num.specs.declared.plan.Kind.{Kind}
 use Rattle.ab_hist.specs.declared.request.Request.{Request}
 use Rattle.ab_num.specs.declared.party.Party.TheVariants.{Replica, Client}
-use Rattle.ab_abs.specs.declared.seen.Seen.TheVariants.{Invoked}
-use Rattle.ab_abs.specs.Faults.{is_faulty}
 use Rattle.ab_msg.specs.declared.content.Content.{Content}
+use Rattle.ab_msg.specs.declared.signed.Signed.{Signed}
+use Rattle.ab_msg.specs.Claims.{maker_of}
+use Rattle.ab_msg.specs.Carried.{stated_history, stated_request}
+use Rattle.ab_abs.specs.declared.seen.Seen.TheVariants.{Invoked}
+use Rattle.ab_abs.specs.declared.ballot.Ballot.{Ballot}
+use Rattle.ab_abs.specs.Faults.{is_faulty}
 use Rattle.ab_abs.specs.Acts.{observations, log_of, state_of}
-use Rattle.ab_abs.specs.Rules.{Held}
 use Rattle.ab_abs.specs.Deeds.{Deed, acts_in, seen_in}
-use Rattle.ab_abs.specs.Ensembles.{Ensemble, Reached}
-use Rattle.ab_abs.specs.Messages.{abort_claim}
-use Rattle.ab_run.specs.Clusters.{Cluster}
-use Rattle.ab_run.specs.Replicas.{Rules, state_at}
+use Rattle.ab_abs.specs.Ensembles.{Proto, Ensemble, Reached}
+use Rattle.ab_abs.specs.Places.{KeepsPlace, Belongs}
+use Rattle.ab_abs.specs.Promises.{ServesAll}
+use Rattle.ab_abs.specs.Votes.{AreFirst}
+use Rattle.ab_run.specs.Setups.{Setup, replicas}
+use Rattle.ab_run.specs.Replicas.{state_at}
 use Rattle.ab_run.specs.Clients.{Cli, vote_claim}
 use Rattle.ab_run.specs.declared.phase.Phase.{Phase}
 use Rattle.ab_run.specs.declared.phase.Phase.TheVariants.{Idle, Waiting, Panicking}
-use Rattle.ab_abs.specs.declared.ballot.Ballot.{Ballot}
 use Rattle.ab_run.specs.Runs.{Run}
-use Rattle.ab_run.specs.Premises.{AreRules}
-use Rattle.ab_run.proofs.Did.{MadeInActs, LogsAreHad, AllHonest}
+use Rattle.ab_run.proofs.Did.{MadeInActs, HistoriesAreHad, RequestsAreAsked, AllHonest}
 
 abbrev pub is_open : Phase → Bool
 is_open Idle = false
 is_open Waiting = true
 is_open Panicking = true
 
--- a correct client: one request a stamp, the open one invoked where it is, and its votes and kept ABORTs made by whom they name
-pub record ClientKeeps (k : Cluster) (made : List Content) (deeds : List Deed) (c : ℕ) (s : Cli) : Type 0 where
+-- a correct client: one request a stamp, the open one invoked where it is, its votes the first of each replica, and votes and kept ABORTs
+-- made by whom they name
+pub record ClientKeeps (k : Setup) (made : List Content) (had : List (List Request)) (asked : List Request) (deeds : List Deed) (c : ℕ) (s : Cli) : Type 0 where
   pub begun : 1 ≤ s.at
   pub invoked : (i : ℕ) (m : Request) → Contains (observations (acts_in i deeds)) (Invoked i c m) → (m.stamp ≤ s.stamp) × (m.stamp ≡ s.stamp → s.last ≡ Some m)
   pub own : (m : Request) → s.last ≡ Some m → (m.client ≡ c) × (m.stamp ≡ s.stamp)
   pub openly : (m : Request) → is_open s.phase ≡ true → s.last ≡ Some m → Contains (observations (acts_in s.at deeds)) (Invoked s.at c m)
+  pub first : AreFirst (replicas k) s.votes
   pub votes : (b : Ballot) → Contains s.votes b → is_faulty k.faulty (Replica b.by) ≡ false → Contains made (vote_claim s.at c s.stamp b)
-  pub kept : (v : Held) → Contains s.kept v → is_faulty k.faulty (Replica v.by) ≡ false → Contains made (abort_claim s.at v)
+  pub kept : (v : Signed) → Contains s.kept v → is_faulty k.faulty (maker_of v.content) ≡ false → Contains made v.content
+  pub kept_had : (v : Signed) → Contains s.kept v → (h : List Request) → Contains (stated_history v.content) h → Contains had h
+  pub kept_asked : (v : Signed) → Contains s.kept v → (m : Request) → Contains (stated_request v.content) m → Contains asked m
 
-module _ {P : Type 0} (k : Cluster) (rules : Rules P) (law : AreRules k rules) where
+-- what is known of the protocol
+pub record AreRules {P : Type 0} (k : Setup) (proto : Proto P) (serves : Kind → Bool) : Type 0 where
+  pub form : KeepsPlace proto serves
+  pub all : ServesAll serves k.cluster
+
+module _ {P : Type 0} (k : Setup) (proto : Proto P) (serves : Kind → Bool) where
   -- the ensemble v has the acts of the run w
   pub record Keeps (w : Run P) (v : Ensemble P) : Type 0 where
-    pub reached : Reached rules.proto k.f k.faulty v
-    pub where_at : (r : ℕ) → r < 3 * k.f + 1 → is_faulty k.faulty (Replica r) ≡ false → v.at r ≡ (w.reps r).at
+    pub reached : Reached proto k.cluster k.faulty v
+    pub where_at : (r : ℕ) → r < replicas k → is_faulty k.faulty (Replica r) ≡ false → v.at r ≡ (w.reps r).at
     pub with_value : (r : ℕ) → is_faulty k.faulty (Replica r) ≡ false → v.value r ≡ (w.reps r).value
-    pub placed : (r : ℕ) → is_faulty k.faulty (Replica r) ≡ false → law.stays.place (w.reps r).value ≡ (w.reps r).at
-    pub begun : (r : ℕ) → r < 3 * k.f + 1 → is_faulty k.faulty (Replica r) ≡ false → 1 ≤ (w.reps r).at
-    pub left : (r : ℕ) → r < 3 * k.f + 1 → is_faulty k.faulty (Replica r) ≡ false → state_of (acts_in (w.reps r).at v.run) r ≡ Some (state_at rules (w.reps r))
+    pub with_base : (r : ℕ) → r < replicas k → is_faulty k.faulty (Replica r) ≡ false → v.base r ≡ (w.reps r).entry.base
+    pub belongs : (r : ℕ) → is_faulty k.faulty (Replica r) ≡ false → Belongs proto serves k.cluster (w.reps r).at r (w.reps r).value
+    pub begun : (r : ℕ) → r < replicas k → is_faulty k.faulty (Replica r) ≡ false → 1 ≤ (w.reps r).at
+    pub from_nothing : (r : ℕ) → is_faulty k.faulty (Replica r) ≡ false → (w.reps r).at ≡ 1 → (w.reps r).entry.base ≡ []
+    pub left : (r : ℕ) → r < replicas k → is_faulty k.faulty (Replica r) ≡ false → state_of (acts_in (w.reps r).at v.run) r ≡ Some (state_at k proto (w.reps r))
     pub made : MadeInActs w.made v.run
     pub seen : w.seen ≡ seen_in v.run
-    pub had : LogsAreHad w.had v.run
-    pub log : (i r : ℕ) → r < 3 * k.f + 1 → is_faulty k.faulty (Replica r) ≡ false → w.log i r ≡ log_of (acts_in i v.run) r
+    pub had : HistoriesAreHad w.had v.run
+    pub asked : RequestsAreAsked w.asked v.run
+    pub log : (i r : ℕ) → r < replicas k → is_faulty k.faulty (Replica r) ≡ false → w.log i r ≡ log_of (acts_in i v.run) r
     pub honest : AllHonest k v.run
-    pub clients : (c : ℕ) → is_faulty k.faulty (Client c) ≡ false → ClientKeeps k w.made v.run c (w.clis c)
+    pub clients : (c : ℕ) → is_faulty k.faulty (Client c) ≡ false → ClientKeeps k w.made w.had w.asked v.run c (w.clis c)
