@@ -1,11 +1,11 @@
 -- The laws of contents.
-use Rattle.std.proofs.Common.{◌≡◌, ℕ, ◌^◌, ◌<◌, ◌≤◌, List, ◌++◌, length, refl, sym, ap, arith, lit<}
-use Rattle.std.specs.Int.{w8, w16, w32}
+use Rattle.std.proofs.Common.{◌≡◌, ℕ, ◌^◌, ◌<◌, List, ◌++◌, length, refl, ap, arith, lit<}
+use Rattle.std.specs.Int.{w32}
 use Rattle.ab_num.specs.declared.party.Party.{Party}
 use Rattle.ab_num.specs.declared.party.Party.TheVariants.{Replica, Client}
 use Rattle.ab_hist.specs.declared.request.Request.{Request}
 use Rattle.ab_form.specs.declared.bad.Bad.TheVariants.{BadCode, BadField}
-use Rattle.ab_form.specs.Readers.{Reader, number_at, bytes_at, marked, after, both}
+use Rattle.ab_form.specs.Readers.{Reader, number_at, marked, after, both}
 use Rattle.ab_content.specs.Parts.{replica_at}
 use Rattle.ab_form.specs.Formats.{IsFormat, IsWithin, Stays, u8_bytes, u16_bytes, u32_bytes}
 use Rattle.ab_form.proofs.FormatLemmas.{same-format, both-format, both-stays, after-format, inject-format}
@@ -18,9 +18,9 @@ use Rattle.ab_msg.specs.Fields.{IsWritten}
 use Rattle.ab_content.proofs.PartLemmas.{replica-format, client-format, instance-format, stamp-format, request-format, any_request-format, request-stays, history-format}
 use Rattle.ab_msg.specs.declared.content.Content.{Content}
 use Rattle.ab_msg.specs.declared.content.Content.TheVariants.{Req, Order, Resp, ChainTag, Panic, Abort, PrePrepare, Prepare, Commit, ViewChange, NewView}
-use Rattle.ab_msg.specs.Fields.{IsReplica, IsClient, IsInstance, IsView}
-use Rattle.ab_content.specs.Rows.{req_from, req_at, order_from, order_at, resp_from, resp_at, panic_from, panic_at, abort_from, abort_at, SlotParts, slot_parts_at, pre_prepare_from, pre_prepare_at, prepare_from, prepare_at, commit_from, commit_at, entry_at, change_from, change_at, new_view_from, new_view_at}
-use Rattle.ab_msg.specs.Contents.{IsReq, IsOrder, IsResp, IsPanic, IsAbort, spell_slot, IsOfSlot, IsPrePrepare, IsPrepare, IsCommit, spell_entry, IsEntry, IsChange, IsNewView, spell_content}
+use Rattle.ab_msg.specs.Fields.{IsInstance, IsView}
+use Rattle.ab_content.specs.Rows.{req_from, req_at, order_from, order_at, resp_from, resp_at, chain_tag_from, chain_tag_at, panic_from, panic_at, abort_from, abort_at, SlotParts, slot_parts_at, pre_prepare_from, pre_prepare_at, prepare_from, prepare_at, commit_from, commit_at, entry_at, change_from, change_at, new_view_from, new_view_at}
+use Rattle.ab_msg.specs.Contents.{IsReq, IsOrder, IsResp, IsChainTag, IsPanic, IsAbort, spell_slot, IsPrePrepare, IsPrepare, IsCommit, spell_entry, IsEntry, IsChange, IsNewView, spell_content}
 
 -- ---- requests
 
@@ -113,6 +113,27 @@ resp-format = inject-format resp_from _ _ _ spell_content IsResp (λ t. refl) (�
     (both-format _ _ _ _ _ _ stamp-format
     (both-format _ _ _ _ _ _ (u16-format 1 1024 BadField (lit< tt))
     (both-format _ _ _ _ _ _ (bytes-format 32) (u8_text-format 0 72 (lit< tt)))))))
+
+-- ---- tags along a chain
+
+abbrev TagParts : Type 0
+TagParts = ℕ × (ℕ × (ℕ × List ℕ))
+
+abbrev AreTagParts : TagParts → Type 0
+AreTagParts t = IsWithin 0 15 t.0 × (IsStamp t.1.0 × (IsWithin 1 1024 t.1.1.0 × (length t.1.1.1 ≡ 32)))
+
+chain_tag-back : (y : Content) → IsChainTag y → (t : Headed TagParts) × (y ≡ chain_tag_from t) × IsHeaded AreTagParts t
+chain_tag-back (ChainTag (Replica r) instance client stamp n d) g = ((r, (instance, (client, (stamp, (n, d))))), refl, g)
+chain_tag-back (ChainTag (Client c) instance client stamp n d) g = absurd g.0
+chain_tag-back y g = absurd g
+
+pub chain_tag-format : IsFormat chain_tag_at spell_content IsChainTag
+unfolding chain_tag_at
+chain_tag-format = inject-format chain_tag_from _ _ _ spell_content IsChainTag (λ t. refl) (λ t h. h) chain_tag-back
+    (headed-format 4 _ _ AreTagParts (lit< tt)
+    (both-format _ _ _ _ _ _ (u16-format 0 15 BadField (lit< tt))
+    (both-format _ _ _ _ _ _ stamp-format
+    (both-format _ _ _ _ _ _ (u16-format 1 1024 BadField (lit< tt)) (bytes-format 32)))))
 
 -- ---- panics
 

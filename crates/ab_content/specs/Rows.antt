@@ -1,18 +1,13 @@
--- Readers of contents, one for each row of the grammar but tags along a chain, which stand in no message.
-use Rattle.std.specs.Prelude.{◌≡◌, ℕ, ◌<◌, ◌^◌, List, [], ◌++◌, length, All}
+-- Readers of contents, one for each row of the grammar.
+use Rattle.std.specs.Prelude.{ℕ, List}
 use Rattle.std.specs.Int.{w8, w16, w32}
-use Rattle.arrayvec.specs.ArrayVec.{ArrayVec}
-use Rattle.ab_num.specs.declared.party.Party.{Party}
 use Rattle.ab_num.specs.declared.party.Party.TheVariants.{Replica, Client}
 use Rattle.ab_hist.specs.declared.request.Request.{Request}
 use Rattle.ab_form.specs.declared.bad.Bad.TheVariants.{BadCode, BadField}
 use Rattle.ab_form.specs.Readers.{Reader, number_at, bytes_at, ranged_at, text_at, marked, made, after, both}
-use Rattle.ab_form.specs.Formats.{IsWithin, u8_bytes, u16_bytes, u32_bytes, u64_bytes, u8_text}
-use Rattle.ab_form.specs.Lists.{counted, u8_list, AreCounted}
+use Rattle.ab_form.specs.Lists.{counted}
 use Rattle.ab_content.specs.Parts.{replica_at, client_at, instance_at, stamp_at, request_at, any_request_at}
-use Rattle.ab_msg.specs.Fields.{spell_party, IsStamp, spell_request, IsRequest}
 use Rattle.ab_content.specs.Histories.{history_at}
-use Rattle.ab_msg.specs.Fields.{spell_history, IsWritten}
 use Rattle.ab_msg.specs.declared.content.Content.{Content}
 use Rattle.ab_msg.specs.declared.content.Content.TheVariants.{Req, Order, Resp, ChainTag, Panic, Abort, PrePrepare, Prepare, Commit, ViewChange, NewView}
 
@@ -44,6 +39,16 @@ unfoldable pub resp_at : Reader Content
 resp_at bytes =
     made resp_from (marked 3 BadCode (both replica_at (both instance_at (both (ranged_at w16 0 15 BadField)
     (both stamp_at (both (ranged_at w16 1 1024 BadField) (both (bytes_at 32) (text_at w8 0 72)))))))) bytes
+
+-- ---- tags along a chain, which stand in no message but are made and checked
+
+abbrev pub chain_tag_from : ℕ × (ℕ × (ℕ × (ℕ × (ℕ × List ℕ)))) → Content
+chain_tag_from t = ChainTag (Replica t.0) t.1.0 t.1.1.0 t.1.1.1.0 t.1.1.1.1.0 t.1.1.1.1.1
+
+unfoldable pub chain_tag_at : Reader Content
+chain_tag_at bytes =
+    made chain_tag_from (marked 4 BadCode (both replica_at (both instance_at (both (ranged_at w16 0 15 BadField)
+    (both stamp_at (both (ranged_at w16 1 1024 BadField) (bytes_at 32))))))) bytes
 
 -- ---- panics
 

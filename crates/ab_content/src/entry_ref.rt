@@ -35,7 +35,7 @@ impl<'a> Part<'a> for EntryRef<'a> {
         Ok((EntryRef { view, x }, rest))
     }
 
-    fn owned(&self, _alloc: Global) -> Result<(u32, [u8; 32]), OutOfMemory> {
+    fn owned(self, _alloc: Global) -> Result<(u32, [u8; 32]), OutOfMemory> {
         Ok((self.view, *self.x))
     }
 }

@@ -90,7 +90,7 @@ pub fn history_at(bytes: &[u8]) -> Result<(HistoryRef<'_>, &[u8]), Bad>
 fn push(alloc: Global, history: &mut History, m: RequestRef<'_>) -> Result<(), OutOfMemory>
     requires may { CanPush history.old (request m) }
     requires short { length m.command.now ≤ 128 }
-    ensures { OnOk result (history.new ≡ history.old ++ request m ∷ []) }
+    ensures { OnOk result (history.new ≡ history.old ++ request m.entry ∷ []) }
 {
     match history.push(alloc, m.own()) {
         Ok(()) => Ok(()),

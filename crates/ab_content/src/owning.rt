@@ -14,9 +14,9 @@ use ab_msg::{Content, ViewEntries};
 use ab_num::OutOfMemory;
 use std::alloc::Global;
 
-fn own_entries(
+fn own_entries<'a>(
     alloc: Global,
-    entries: ListRef<'_, EntryRef<'_>>,
+    entries: ListRef<'a, EntryRef<'a>>,
 ) -> Result<ViewEntries, OutOfMemory>
     ensures { IfOk result (λ v. v ≡ listed entry_at entries.entry.count entries.entry.bytes.now) }
 {
@@ -26,9 +26,9 @@ fn own_entries(
 
 impl<'a> ContentRef<'a> {
     /// The same statement, with parts of its own.
-    pub fn own(&self, alloc: Global) -> Result<Content, OutOfMemory>
-        requires { IsContent (content self.now) }
-        ensures { IfOk result (λ c. c ≡ content self.now) }
+    pub fn own(self, alloc: Global) -> Result<Content, OutOfMemory>
+        requires { IsContent (content self) }
+        ensures { IfOk result (λ c. c ≡ content self.entry) }
     {
         match self {
             ContentRef::Req {
@@ -36,8 +36,8 @@ impl<'a> ContentRef<'a> {
                 instance,
                 request,
             } => Ok(Content::Req {
-                maker: *maker,
-                instance: *instance,
+                maker,
+                instance,
                 request: request.own(),
             }),
             ContentRef::Order {
@@ -46,9 +46,9 @@ impl<'a> ContentRef<'a> {
                 n,
                 request,
             } => Ok(Content::Order {
-                maker: *maker,
-                instance: *instance,
-                n: *n,
+                maker,
+                instance,
+                n,
                 request: request.own(),
             }),
             ContentRef::Resp {
@@ -60,18 +60,15 @@ impl<'a> ContentRef<'a> {
                 d,
                 reply,
             } => Ok(Content::Resp {
-                maker: *maker,
-                instance: *instance,
-                client: *client,
-                stamp: *stamp,
-                n: *n,
-                d: **d,
+                maker,
+                instance,
+                client,
+                stamp,
+                n,
+                d: *d,
                 reply: array_of(reply),
             }),
-            ContentRef::Panic { maker, instance } => Ok(Content::Panic {
-                maker: *maker,
-                instance: *instance,
-            }),
+            ContentRef::Panic { maker, instance } => Ok(Content::Panic { maker, instance }),
             ContentRef::Abort {
                 maker,
                 instance,
@@ -79,8 +76,8 @@ impl<'a> ContentRef<'a> {
             } => {
                 let history = history.own(alloc)?;
                 Ok(Content::Abort {
-                    maker: *maker,
-                    instance: *instance,
+                    maker,
+                    instance,
                     history,
                 })
             }
@@ -91,11 +88,11 @@ impl<'a> ContentRef<'a> {
                 slot,
                 x,
             } => Ok(Content::PrePrepare {
-                maker: *maker,
-                instance: *instance,
-                view: *view,
-                slot: *slot,
-                x: **x,
+                maker,
+                instance,
+                view,
+                slot,
+                x: *x,
             }),
             ContentRef::Prepare {
                 maker,
@@ -104,11 +101,11 @@ impl<'a> ContentRef<'a> {
                 slot,
                 x,
             } => Ok(Content::Prepare {
-                maker: *maker,
-                instance: *instance,
-                view: *view,
-                slot: *slot,
-                x: **x,
+                maker,
+                instance,
+                view,
+                slot,
+                x: *x,
             }),
             ContentRef::Commit {
                 maker,
@@ -117,11 +114,11 @@ impl<'a> ContentRef<'a> {
                 slot,
                 x,
             } => Ok(Content::Commit {
-                maker: *maker,
-                instance: *instance,
-                view: *view,
-                slot: *slot,
-                x: **x,
+                maker,
+                instance,
+                view,
+                slot,
+                x: *x,
             }),
             ContentRef::ViewChange {
                 maker,
@@ -129,11 +126,11 @@ impl<'a> ContentRef<'a> {
                 view,
                 entries,
             } => {
-                let entries = own_entries(alloc, *entries)?;
+                let entries = own_entries(alloc, entries)?;
                 Ok(Content::ViewChange {
-                    maker: *maker,
-                    instance: *instance,
-                    view: *view,
+                    maker,
+                    instance,
+                    view,
                     entries,
                 })
             }
@@ -142,9 +139,9 @@ impl<'a> ContentRef<'a> {
                 instance,
                 view,
             } => Ok(Content::NewView {
-                maker: *maker,
-                instance: *instance,
-                view: *view,
+                maker,
+                instance,
+                view,
             }),
         }
     }

@@ -61,7 +61,7 @@ impl<'a> Part<'a> for RequestRef<'a> {
         request_at(0, 15, bytes)
     }
 
-    fn owned(&self, _alloc: Global) -> Result<Request, OutOfMemory> {
+    fn owned(self, _alloc: Global) -> Result<Request, OutOfMemory> {
         Ok(self.own())
     }
 }

@@ -52,7 +52,7 @@ impl<'a> Part<'a> for SignerRef<'a> {
         Ok((SignerRef { replica, sig }, rest))
     }
 
-    fn owned(&self, alloc: Global) -> Result<(u8, Sig), OutOfMemory> {
+    fn owned(self, alloc: Global) -> Result<(u8, Sig), OutOfMemory> {
         let sig = Vec::from_slice(alloc, self.sig)?;
         Ok((self.replica, Sig::of(sig)))
     }

@@ -32,7 +32,7 @@ pub trait Part<'a>: Copy {
         ensures kept { IfOk result (λ x. Kept x.0) };
 
     /// A copy, with parts of its own.
-    fn owned(&self, alloc: Global) -> Result<Self::Owned, OutOfMemory>
-        requires { Kept self.now }
-        ensures { IfOk result (λ x. shown x ≡ seen self.now) };
+    fn owned(self, alloc: Global) -> Result<Self::Owned, OutOfMemory>
+        requires { Kept self }
+        ensures { IfOk result (λ x. shown x ≡ seen self) };
 }
