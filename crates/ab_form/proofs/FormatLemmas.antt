@@ -1,12 +1,12 @@
 -- The law of a format, put together from those of its parts.
-use Rattle.std.proofs.Common.{◌≡◌, ◌≢◌, ℕ, zero, suc, ◌+◌, ◌<◌, ◌≤◌, Bool, true, false, cond, eqb, ltb, List, [], ◌∷◌, ◌++◌, length, take, drop, Result, Ok, Err, refl, sym, ap, subst, ◌∙◌, append_assoc, arith, inl, inr}
-use Rattle.std.proofs.lemmas.Bool.{cases_lt, ltb-false, le-ltb, lt-ltb, eqb-true, ne_eqb}
+use Rattle.std.proofs.Common.{◌≡◌, ◌≢◌, ℕ, zero, suc, Bool, true, false, cond, eqb, ltb, List, [], ◌∷◌, ◌++◌, length, take, drop, Result, Ok, Err, refl, sym, ap, subst, ◌∙◌, append_assoc, arith, inl, inr}
+use Rattle.std.proofs.lemmas.Bool.{cases_lt, le-ltb, lt-ltb, eqb-true, ne_eqb}
 use Rattle.std.proofs.lemmas.List.{take-append-le, drop-append-le, length-append, append-nil, nil_from_length}
 use Rattle.ab_form.specs.declared.bad.Bad.{Bad}
 use Rattle.ab_form.specs.declared.bad.Bad.TheVariants.{Short, BadCode, BadLength, BadField, Trailing}
 use Rattle.ab_form.specs.Readers.{◌>>=◌, Reader, checked, made, after, both, many, either, never, whole}
 use Rattle.ab_form.specs.Formats.{IsBytes, Takes, with_more, Stays, IsFormat, IsWhole, spell_each, EachFits}
-use Rattle.ab_form.proofs.StepLemmas.{done, fault, done_is, fault_is, done-fault, bind_ok, passed, behind}
+use Rattle.ab_form.proofs.StepLemmas.{fault, done_is, fault_is, done-fault, bind_ok, passed, behind}
 
 -- ---- what was found stays
 
@@ -94,6 +94,15 @@ format r s F takes again stays = record {
 
 Takes-then : (a x b y c : List ℕ) → Takes a x b → Takes b y c → Takes a (x ++ y) c
 Takes-then a x b y c p q = record { parts = p.parts ∙ ap (λ (t : List ℕ). x ++ t) q.parts ∙ sym (append_assoc x y c); rest_fits = q.rest_fits }
+
+-- the same spelling in another form
+pub respelled : {A : Type 0} (r : Reader A) (s s' : A → List ℕ) (F : A → Type 0) → ((x : A) → s x ≡ s' x) → IsFormat r s F → IsFormat r s' F
+respelled r s s' F same one = record {
+  takes = λ bytes rest x fits e. (let t = one.takes bytes rest x fits e in (subst (λ (text : List ℕ). Takes bytes text rest) (same x) t.0, t.1));
+  again = λ x rest h. ap r (ap (λ (text : List ℕ). text ++ rest) (sym (same x))) ∙ one.again x rest h;
+  short = λ x part back h e none. one.short x part back h (e ∙ sym (same x)) none;
+  stays = one.stays;
+}
 
 -- the same values under another name of what fits
 pub same-format : {A : Type 0} (r : Reader A) (s : A → List ℕ) (F G : A → Type 0)

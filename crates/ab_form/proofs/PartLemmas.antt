@@ -1,5 +1,5 @@
 -- The laws of the parts.
-use Rattle.std.proofs.Common.{◌≡◌, ◌≢◌, ℕ, zero, suc, ◌+◌, ◌^◌, ◌%◌, ◌<◌, ◌≤◌, Bool, true, false, cond, ltb, leb, ◌&&◌, List, [], ◌∷◌, ◌++◌, length, get_or, take, drop, Result, Ok, Err, refl, sym, ap, subst, ◌∙◌, append_assoc, arith, inl, inr, lit<, lit≤}
+use Rattle.std.proofs.Common.{◌≡◌, ℕ, ◌+◌, ◌^◌, ◌%◌, ◌<◌, ◌≤◌, true, false, ltb, leb, List, [], ◌∷◌, ◌++◌, length, get_or, take, drop, refl, sym, ap, subst, arith, inl, inr}
 use Rattle.std.specs.Int.{Width, w8, w16, w32, w64, byte_len, from_be_bytes, to_be_bytes}
 use Rattle.std.proofs.lemmas.Bool.{cases_lt, ltb-false, le-ltb, leb-true, le-leb, and_parts}
 use Rattle.std.proofs.lemmas.List.{take_at, drop_at, take-append-drop, length-append, length-take, get_or-drop, get_or-take, get_or_past}
@@ -7,7 +7,7 @@ use Rattle.std.proofs.lemmas.Nat.{be_bytes_2, be_bytes_4, be_bytes_8, from_be_by
 use Rattle.std.proofs.Math.Nat.{mod-eq_of_lt}
 use Rattle.ab_form.specs.declared.bad.Bad.{Bad}
 use Rattle.ab_form.specs.declared.bad.Bad.TheVariants.{Short, BadLength}
-use Rattle.ab_form.specs.Readers.{◌>>=◌, Reader, number_at, bytes_at, ranged_at, text_at, within, many, after, marked}
+use Rattle.ab_form.specs.Readers.{Reader, number_at, bytes_at, ranged_at, text_at, within, many, after, marked}
 use Rattle.ab_form.specs.Formats.{IsBytes, Takes, Stays, IsFormat, IsWithin, u8_bytes, u16_bytes, u32_bytes, u64_bytes, u8_text, u16_text, spell_each, EachFits}
 use Rattle.ab_form.proofs.StepLemmas.{refused}
 use Rattle.ab_form.proofs.FormatLemmas.{format, front-stays, checked-format, same-format, after-format, behind-format, many-stays, many-format, checked-stays}

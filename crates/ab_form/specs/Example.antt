@@ -1,10 +1,9 @@
 -- A format that is put together, to be copied: 1 to 9 entries behind their count, each a place and a text of
 -- 1 to 4 bytes, where the places ascend.
-use Rattle.std.specs.Prelude.{◌≡◌, ℕ, suc, List, ◌++◌, length, Result}
+use Rattle.std.specs.Prelude.{ℕ, suc, List, ◌++◌, length}
 use Rattle.std.specs.Int.{w8}
-use Rattle.ab_form.specs.declared.bad.Bad.{Bad}
 use Rattle.ab_form.specs.declared.bad.Bad.TheVariants.{BadLength, BadField}
-use Rattle.ab_form.specs.Readers.{Reader, ranged_at, text_at, after, both, many, whole}
+use Rattle.ab_form.specs.Readers.{Reader, ranged_at, text_at, after, both, many}
 use Rattle.ab_form.specs.Formats.{IsWithin, EachFits, u8_bytes, u8_text, spell_each}
 
 unfoldable pub entry_at : ℕ → Reader (ℕ × List ℕ)

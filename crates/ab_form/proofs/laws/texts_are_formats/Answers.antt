@@ -1,5 +1,4 @@
 use Rattle.ab_form.proofs.PartLemmas.{bytes-format, u8_text-format, u16_text-format}
-use Rattle.ab_form.proofs.LoopLemmas.{ends}
 use Rattle.ab_form.proofs.laws.texts_are_formats.Goals as goal
 
 pub returns : goal.returns
