@@ -98,7 +98,7 @@ fn sealed(alloc: Global, k: &KeyRing, msg: Msg) -> Result<Vec<u8>, Fail> {
         to: Party::Replica(0),
         msg,
     };
-    if !is_draft(&o.msg) || o.msg.content().maker() != k.me() {
+    if !is_draft(&o.msg) || !is_own(k.me(), &o.msg) {
         return Err(Fail::from("a draft of this party"));
     }
     Ok(seal(alloc, k, &o)?)
