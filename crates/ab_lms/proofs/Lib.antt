@@ -4,3 +4,4 @@ pub mod Writes
 pub mod Kept
 pub mod Way
 pub mod Signed
+pub mod Verified

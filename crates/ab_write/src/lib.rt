@@ -1,0 +1,13 @@
+//! Contents and messages as their bytes.
+#![tactic(auto)]
+
+mod contents;
+mod messages;
+mod parts;
+mod spelled;
+mod writing;
+
+pub use contents::put_content;
+pub use messages::put_message;
+pub use spelled::{Spelled, put_each};
+pub use writing::{content_bytes, write};
