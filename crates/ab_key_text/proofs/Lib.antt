@@ -1,0 +1,2 @@
+-- The lemmas that this crate's answers cite.
+pub mod PartLemmas

@@ -1,0 +1,17 @@
+//! The keys of one party of a cluster, their text, and the text that sets up a node.
+#![tactic(auto)]
+
+mod derive;
+mod fault;
+mod hex_bytes;
+mod keys;
+mod lines;
+mod parts;
+mod peers;
+mod reading;
+mod secret;
+mod setting;
+mod shared;
+
+pub use fault::{KeyFault, NodeFault};
+pub use keys::PartyKeys;
