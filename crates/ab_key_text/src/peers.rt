@@ -10,7 +10,8 @@ use std::alloc::Global;
 
 /// The replicas, ascending.
 pub(crate) fn replicas(alloc: Global, c: &Cluster) -> Result<Vec<Party>, OutOfMemory>
-    ensures { IfOk result (λ v. v.items ≡ replicas c.now.f) }
+    ensures replicas { IfOk result (λ v. v.items ≡ replicas c.now.f) }
+    ensures few { IfOk result (λ v. length v.items ≤ 7) }
 {
     Ok((0..c.replicas()).map(Party::Replica).collect(alloc)?)
 }
@@ -18,7 +19,8 @@ pub(crate) fn replicas(alloc: Global, c: &Cluster) -> Result<Vec<Party>, OutOfMe
 /// The parties that `me` exchanges tags with: replicas ascending, then clients ascending.
 #[tactic(auto, unfolding(ab_keys::specs::Rings::parties))]
 pub(crate) fn peers_in(alloc: Global, c: &Cluster, me: Party) -> Result<Vec<Party>, OutOfMemory>
-    ensures { IfOk result (λ v. v.items ≡ peers_in c.now.f c.now.clients me) }
+    ensures peers { IfOk result (λ v. v.items ≡ peers_in c.now.f c.now.clients me) }
+    ensures few { IfOk result (λ v. length v.items ≤ 23) }
 {
     let replicas = (0..c.replicas()).map(Party::Replica);
     let clients = (0..c.clients).map(Party::Client);

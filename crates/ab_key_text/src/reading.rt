@@ -15,6 +15,7 @@ use crate::secret::Secret;
 use crate::setting::{Setting, setting_of};
 use crate::shared::Shared;
 use ab_num::Party;
+use ab_text::next_line;
 use std::alloc::Global;
 
 /// What was read, the number of the next line, and what comes from it on.
@@ -103,4 +104,64 @@ fn publics_of<'a>(
         next,
         rest,
     })
+}
+
+/// The keys of a party, from line 8 on.
+#[tactic(auto, unfolding(crate::specs::Reading::keys_after))]
+fn keys_after(
+    alloc: Global,
+    setting: Setting,
+    text: &[u8],
+) -> Result<Read<'_, PartyKeys>, NodeFault>
+    ensures reads { Gives (λ p. record { value = p.value; next = p.next; rest = lines_of p.rest.now }) result (keys_after setting (lines_of text.now)) }
+    ensures few { IfOk result (λ p. p.next < 2 ^ 16) }
+    ensures shorter { IfOk result (λ p. length p.rest.now ≤ length text.now) }
+{
+    let replicas = replicas(alloc, setting.cluster())?;
+    let others = peers_in(alloc, setting.cluster(), setting.me())?;
+    let secret = secret_of(text, setting.me())?;
+    let shared = peers_of(alloc, secret.rest, &others, secret.next)?;
+    let publics = publics_of(alloc, shared.rest, &replicas, shared.next)?;
+    Ok(Read {
+        value: setting.with(secret.value, shared.value, publics.value),
+        next: publics.next,
+        rest: publics.rest,
+    })
+}
+
+/// The keys at the front of a text.
+#[tactic(auto, unfolding(crate::specs::Reading::keys_at))]
+pub(crate) fn keys_at(alloc: Global, text: &[u8]) -> Result<Read<'_, PartyKeys>, NodeFault>
+    ensures reads { Gives (λ p. record { value = p.value; next = p.next; rest = lines_of p.rest.now }) result (keys_at (lines_of text.now)) }
+    ensures few { IfOk result (λ p. p.next < 2 ^ 16) }
+    ensures shorter { IfOk result (λ p. length p.rest.now ≤ length text.now) }
+{
+    let (setting, rest) = setting_of(text)?;
+    keys_after(alloc, setting, rest)
+}
+
+/// The keys that a text spells, to its end.
+#[tactic(auto, unfolding(crate::specs::Reading::keys_in))]
+fn keys_in(alloc: Global, text: &[u8]) -> Result<PartyKeys, NodeFault>
+    ensures { Gives (λ k. k) result (keys_in (lines_of text.now)) }
+{
+    let keys = keys_at(alloc, text)?;
+    match next_line(keys.rest) {
+        None => Ok(keys.value),
+        Some(_) => Err(NodeFault::BadLine(keys.next)),
+    }
+}
+
+impl PartyKeys {
+    /// The keys that a key text spells. A bad line is the first that isn't as stated, or is missing.
+    pub fn read(alloc: Global, text: &[u8]) -> Result<PartyKeys, KeyFault>
+        ensures { MatchResult result
+            (λ k. keys_in (lines_of text.now) ≡ Ok k)
+            (λ e. IsKeyFault e (keys_in (lines_of text.now))) }
+    {
+        match keys_in(alloc, text) {
+            Ok(keys) => Ok(keys),
+            Err(fault) => Err(KeyFault::from(fault)),
+        }
+    }
 }

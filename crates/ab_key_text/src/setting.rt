@@ -5,10 +5,13 @@ ghost use Rattle.ab_num.specs.Bounds.{IsInBounds};
 ghost use Rattle.ab_keys.specs.Keys.{is_party};
 ghost use Rattle.ab_text.specs.Lines.{lines_of};
 ghost use Rattle.ab_key_text.specs.Lines.{Gives};
-ghost use Rattle.ab_key_text.specs.Reading.{setting_at};
+ghost use Rattle.ab_key_text.specs.Reading.{put_together, setting_at};
 
 use crate::fault::NodeFault;
+use crate::keys::PartyKeys;
 use crate::lines::{form_at, height_at, number_at, party_at, plan_at, service_at};
+use crate::secret::Secret;
+use crate::shared::Shared;
 use ab_keys::is_party;
 use ab_num::{Cluster, Height, Party, Plan, ServiceName};
 use std::marker::Model;
@@ -95,5 +98,31 @@ impl Setting {
         ensures { result ≡ self.now.me }
     {
         self.me
+    }
+
+    /// The keys of the party that is set up so.
+    pub(crate) fn with(
+        self,
+        secret: Option<Secret>,
+        peers: Vec<Shared>,
+        publics: Vec<[u8; 56]>,
+    ) -> PartyKeys
+        ensures { result ≡ put_together self secret peers.items publics.items }
+    {
+        let Setting {
+            me,
+            cluster,
+            service,
+            lms,
+        } = self;
+        PartyKeys {
+            cluster,
+            service,
+            lms,
+            me,
+            secret,
+            peers,
+            publics,
+        }
     }
 }
