@@ -1,2 +1,3 @@
 -- The lemmas that this crate's answers cite.
 pub mod PartLemmas
+pub mod CommandLemmas

@@ -17,9 +17,15 @@ pub record Node : Type 0 where
   pub keys : PartyKeys
   pub commands : List (List ℕ)
 
+abbrev pub node_of : PartyKeys → List (List ℕ) → Node
+node_of keys commands = record { keys = keys; commands = commands }
+
+abbrev pub is_printable : List ℕ → Bool
+is_printable text = list_all (λ b. nat_le 0x20 b && nat_le b 0x7e) text
+
 -- 1 to 128 bytes, each printable
 abbrev pub is_command : List ℕ → Bool
-is_command text = nat_le 1 (length text) && (nat_le (length text) 128 && list_all (λ b. nat_le 0x20 b && nat_le b 0x7e) text)
+is_command text = nat_le 1 (length text) && (nat_le (length text) 128 && is_printable text)
 
 abbrev pub checked_command : List ℕ → Option (List ℕ)
 checked_command text = if is_command text then Some text else None
@@ -43,4 +49,4 @@ commands_at node n (l ∷ ls) =
 unfoldable pub node_in : List (List ℕ) → Result Node NodeFault
 node_in ls = do
   keys ← keys_at ls
-  commands_at (record { keys = keys.value; commands = [] }) keys.next keys.rest
+  commands_at (node_of keys.value []) keys.next keys.rest

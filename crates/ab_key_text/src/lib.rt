@@ -6,6 +6,7 @@ mod fault;
 mod hex_bytes;
 mod keys;
 mod lines;
+mod node;
 mod parts;
 mod peers;
 mod reading;
@@ -15,3 +16,4 @@ mod shared;
 
 pub use fault::{KeyFault, NodeFault};
 pub use keys::PartyKeys;
+pub use node::{Commands, read_node};
