@@ -13,6 +13,7 @@ mod reading;
 mod secret;
 mod setting;
 mod shared;
+mod writing;
 
 pub use fault::{KeyFault, NodeFault};
 pub use keys::PartyKeys;
