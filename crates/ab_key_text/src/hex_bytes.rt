@@ -19,7 +19,7 @@ fn is_spelled(bytes: &[u8], text: &[u8]) -> bool
 
 /// The `N` bytes whose text this is.
 #[tactic(auto, unfolding(crate::specs::Hex::bytes_in))]
-pub(crate) fn bytes_in<const N: usize>(text: &[u8]) -> Option<[u8; N]>
+pub fn bytes_in<const N: usize>(text: &[u8]) -> Option<[u8; N]>
     requires { N ≤ 56 }
     ensures { result ≡ bytes_in N text.now }
 {

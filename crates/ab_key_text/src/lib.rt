@@ -16,5 +16,10 @@ mod shared;
 mod writing;
 
 pub use fault::{KeyFault, NodeFault};
+pub use hex_bytes::bytes_in;
 pub use keys::PartyKeys;
 pub use node::{Commands, read_node};
+pub use parts::party_in;
+
+#[cfg(test)]
+mod tests;

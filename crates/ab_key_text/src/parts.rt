@@ -49,7 +49,7 @@ pub(crate) fn number_in(line: &[u8], word: &[u8], low: u64, high: u64) -> Option
 }
 
 /// The party that a text names.
-fn party_in(text: &[u8]) -> Option<Party>
+pub fn party_in(text: &[u8]) -> Option<Party>
     ensures { result ≡ party_in text.now }
 {
     if let Some(r) = number_in(text, b"r", 0, 255) {
