@@ -45,7 +45,7 @@ pub(crate) fn is_same(a: Party, b: Party) -> bool
 }
 
 /// A party in three bytes: its kind and its number.
-fn party_bytes(p: Party) -> [u8; 3]
+pub fn party_bytes(p: Party) -> [u8; 3]
     ensures { result ≡ party_bytes p }
 {
     let (kind, number) = match p {
@@ -58,7 +58,7 @@ fn party_bytes(p: Party) -> [u8; 3]
 
 /// The key that a seed gives from `a` to `b`.
 #[tactic(auto, unfolding(crate::specs::Keys::key_of, crate::specs::Keys::key_text))]
-pub(crate) fn key_of(seed: &[u8; 32], a: Party, b: Party) -> [u8; 32]
+pub fn key_of(seed: &[u8; 32], a: Party, b: Party) -> [u8; 32]
     ensures { result ≡ key_of seed.now a b }
 {
     let mut hasher = Sha256::new();

@@ -7,7 +7,7 @@ mod laws;
 mod peer;
 mod ring;
 
-pub use keys::{exchanges, is_party};
+pub use keys::{exchanges, is_party, key_of, party_bytes};
 pub use laws::{derived_keys, derived_tags, keys_have_their_own_texts, rings_agree};
 pub use ring::KeyRing;
 

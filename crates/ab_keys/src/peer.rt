@@ -27,6 +27,17 @@ impl Model for Peer {
 }
 
 impl Peer {
+    /// A party with the key to it and the key from it.
+    pub(crate) fn new(party: Party, to: &[u8; 32], from: &[u8; 32]) -> Peer
+        ensures { result ≡ record { party = party; to = to.now; from = from.now } }
+    {
+        Peer {
+            party,
+            to: Key::new(to),
+            from: Key::new(from),
+        }
+    }
+
     /// What `me` keeps for another, by a seed.
     pub(crate) fn derive(seed: &[u8; 32], me: Party, other: Party) -> Peer
         ensures { result ≡ peer_of seed.now me other }

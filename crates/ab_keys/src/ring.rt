@@ -1,6 +1,6 @@
 //! The key ring of a party.
 
-ghost use Rattle.std.specs.Prelude.{◌≡◌, ◌↔◌, ◌∷◌, [], ◌++◌, IsTrue, IfOk, OnOk, Some};
+ghost use Rattle.std.specs.Prelude.{◌≡◌, ◌↔◌, ◌∷◌, [], ◌++◌, IsTrue, IfOk, OnOk, OnErr, Some};
 ghost use Rattle.std.specs.Option.{option_copied};
 ghost use Rattle.ab_keys.specs.Keys.{is_party};
 ghost use Rattle.ab_keys.specs.Rings.{peer_in, peers_of, ring_of, tag_from, tag_to};
@@ -74,6 +74,27 @@ impl KeyRing {
             me,
             peers,
         })
+    }
+
+    /// A ring without keys.
+    pub fn new(alloc: Global, c: &Cluster, me: Party) -> KeyRing
+        requires { IsTrue (is_party c.now.f c.now.clients me) }
+        ensures { result ≡ record { f = c.now.f; clients = c.now.clients; plan = c.now.plan; me = me; peers = [] } }
+    {
+        KeyRing {
+            cluster: *c,
+            me,
+            peers: Vec::new(alloc),
+        }
+    }
+
+    /// Adds the key to a party and the key from it. Those that were added first count.
+    pub fn add(&mut self, p: Party, to: &[u8; 32], from: &[u8; 32]) -> Result<(), OutOfMemory>
+        ensures ok { OnOk result (self.new ≡ record self.old { peers = self.old.peers ++ record { party = p; to = to.now; from = from.now } ∷ [] }) }
+        ensures err { OnErr result (self.new ≡ self.old) }
+    {
+        self.peers.push(Peer::new(p, to, from))?;
+        Ok(())
     }
 
     /// The cluster.

@@ -35,7 +35,7 @@ fn client_of(digits: &[u8]) -> Option<Party>
 }
 
 /// The party that a text names.
-pub(crate) fn party_of(text: &[u8]) -> Option<Party>
+pub fn party_of(text: &[u8]) -> Option<Party>
     ensures found { IfSome result (λ p. IsParty p × (text.now ≡ party_text p)) }
     ensures only { (p : TheParty) → IsParty p → text.now ≡ party_text p → result ≡ Some p }
 {

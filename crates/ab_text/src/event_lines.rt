@@ -24,7 +24,7 @@ fn is_command(text: &[u8]) -> bool
 }
 
 /// The command, if it is one.
-fn command_of(text: &[u8]) -> Option<ArrayVec<u8, 128>>
+pub fn command_of(text: &[u8]) -> Option<ArrayVec<u8, 128>>
     ensures found { IfSome result (λ v. (v.items ≡ text.now) × IsCommand text.now) }
     ensures only { IsCommand text.now → IsSomeAnd result (λ v. v.items ≡ text.now) }
 {

@@ -33,7 +33,7 @@ fn fixed<'a>(text: &'a [u8], form: &[u8], n: u32) -> Result<&'a [u8], TextFault>
 }
 
 /// The number after a word.
-fn word_number(line: &[u8], word: &[u8]) -> Option<u64>
+pub fn word_number(line: &[u8], word: &[u8]) -> Option<u64>
     ensures { result ≡ number_after word.now line.now }
 {
     match after(line, word) {
@@ -72,7 +72,7 @@ fn numbered<'a>(
 
 /// The plan that a line names.
 #[tactic(auto, unfolding(crate::specs::Heads::spelled_in))]
-fn plan_in(line: &[u8]) -> Option<Plan>
+pub fn plan_in(line: &[u8]) -> Option<Plan>
     ensures { result ≡ spelled_in plan_line plans line.now }
 {
     if line == b"plan azyzzyva".as_slice() {
@@ -98,7 +98,7 @@ fn plan_in(line: &[u8]) -> Option<Plan>
 
 /// The service that a line names.
 #[tactic(auto, unfolding(crate::specs::Heads::spelled_in))]
-fn service_in(line: &[u8]) -> Option<ServiceName>
+pub fn service_in(line: &[u8]) -> Option<ServiceName>
     ensures { result ≡ spelled_in service_line services line.now }
 {
     if line == b"service echo".as_slice() {
@@ -112,7 +112,7 @@ fn service_in(line: &[u8]) -> Option<ServiceName>
 
 /// The height that a line names.
 #[tactic(auto, unfolding(crate::specs::Heads::spelled_in))]
-fn height_in(line: &[u8]) -> Option<Height>
+pub fn height_in(line: &[u8]) -> Option<Height>
     ensures { result ≡ spelled_in lms_line heights line.now }
 {
     if line == b"lms 5".as_slice() {

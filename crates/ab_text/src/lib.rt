@@ -19,14 +19,20 @@ mod report;
 mod schedule;
 mod setting;
 
+pub use cores::party_of;
 pub use event::{Core, Event};
+pub use event_lines::command_of;
 pub use fault::TextFault;
+pub use head::{height_in, plan_in, service_in, word_number};
 pub use items::Items;
 pub use line::{Breach, Cause, Line, Premise};
+pub use lines::next_line;
+pub use numbers::number;
+pub use parts::{after, split_first};
 pub use reading::{
     fault_is_first, one_reading, read_is_in_form, read_is_spelled, read_schedule, spelled_is_read,
 };
-pub use report::{write_end, write_log, write_premise, write_seen};
+pub use report::{party_string, write_end, write_log, write_premise, write_seen};
 pub use schedule::{Head, Schedule};
 
 #[cfg(test)]

@@ -18,7 +18,8 @@ fn add(out: &mut Vec<u8>, text: &[u8]) -> Result<(), OutOfMemory>
     Ok(())
 }
 
-fn party_string(alloc: Global, party: Party) -> Result<String, AllocError>
+/// The text of a party.
+pub fn party_string(alloc: Global, party: Party) -> Result<String, AllocError>
     ensures { IfOk result (λ s. string_bytes s ≡ party_text party) }
 {
     match party {

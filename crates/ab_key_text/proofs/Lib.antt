@@ -1,0 +1,4 @@
+-- The lemmas that this crate's answers cite.
+pub mod PartLemmas
+pub mod CommandLemmas
+pub mod WritingLemmas

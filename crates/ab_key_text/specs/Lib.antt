@@ -1,0 +1,9 @@
+-- The definitions that the contracts of this crate cite.
+pub mod Derived
+pub mod Faults
+pub mod Hex
+pub mod Keys
+pub mod Spelling
+pub mod Lines
+pub mod Reading
+pub mod Nodes

@@ -1,0 +1,52 @@
+-- The text that sets up a node: the keys of its party, then a client's commands, then the end.
+use Rattle.std.specs.Prelude.{ℕ, ◌+◌, List, [], ◌∷◌, ◌++◌, Bool, true, false, Option, None, Some, Result, Ok, Err, codes, length, ◌&&◌, nat_le, if◌then◌else◌}
+use Rattle.std.specs.Str.{bytes_eq}
+use Rattle.std.specs.List.{list_all}
+use Rattle.std.specs.Option.{option_and_then}
+use Rattle.ab_num.specs.declared.party.Party.{Party}
+use Rattle.ab_num.specs.declared.party.Party.TheVariants.{Replica, Client}
+use Rattle.ab_text.specs.Heads.{stripped}
+use Rattle.ab_key_text.specs.declared.fault.NodeFault.{NodeFault}
+use Rattle.ab_key_text.specs.declared.fault.NodeFault.TheVariants.{BadLine, NoEnd}
+use Rattle.ab_key_text.specs.Keys.{PartyKeys}
+use Rattle.ab_key_text.specs.Lines.{◌>>=◌, found_at}
+use Rattle.ab_key_text.specs.Reading.{keys_at, ended}
+
+-- the keys of a node's party, and the commands that it makes
+pub record Node : Type 0 where
+  pub keys : PartyKeys
+  pub commands : List (List ℕ)
+
+abbrev pub node_of : PartyKeys → List (List ℕ) → Node
+node_of keys commands = record { keys = keys; commands = commands }
+
+abbrev pub is_printable : List ℕ → Bool
+is_printable text = list_all (λ b. nat_le 0x20 b && nat_le b 0x7e) text
+
+-- 1 to 128 bytes, each printable
+abbrev pub is_command : List ℕ → Bool
+is_command text = nat_le 1 (length text) && (nat_le (length text) 128 && is_printable text)
+
+abbrev pub checked_command : List ℕ → Option (List ℕ)
+checked_command text = if is_command text then Some text else None
+
+-- a command of a client; a replica makes none
+abbrev pub command_in : Party → List ℕ → Option (List ℕ)
+command_in (Replica r) l = None
+command_in (Client c) l = option_and_then checked_command (stripped (codes "do ") l)
+
+abbrev pub with_command : Node → List ℕ → Node
+with_command node command = record node { commands = node.commands ++ command ∷ [] }
+
+-- line n is the end or a command
+abbrev pub commands_at : Node → ℕ → List (List ℕ) → Result Node NodeFault
+commands_at node n [] = Err (NoEnd n)
+commands_at node n (l ∷ ls) =
+    if bytes_eq l (codes "end") then ended node (n + 1) ls
+    else found_at n ls (command_in node.keys.me l) >>= λ x. commands_at (with_command node x.0) (n + 1) ls
+
+-- what the lines of a node's text give
+unfoldable pub node_in : List (List ℕ) → Result Node NodeFault
+node_in ls = do
+  keys ← keys_at ls
+  commands_at (node_of keys.value []) keys.next keys.rest

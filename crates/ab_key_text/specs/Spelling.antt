@@ -1,0 +1,42 @@
+-- The lines of a key text.
+use Rattle.std.specs.Prelude.{ℕ, ◌+◌, List, [], ◌∷◌, ◌++◌, Option, None, Some, codes, decimal, flat_map}
+use Rattle.ab_num.specs.declared.party.Party.{Party}
+use Rattle.ab_num.specs.declared.party.Party.TheVariants.{Replica}
+use Rattle.hex.specs.Hex.{encode_lower}
+use Rattle.ab_keys.specs.Rings.{Peer}
+use Rattle.ab_text.specs.Cores.{party_text}
+use Rattle.ab_text.specs.Heads.{plan_line, service_line, lms_line}
+use Rattle.ab_key_text.specs.Keys.{Secret, PartyKeys}
+
+-- a word, a party and a key: `out r1 59f2..`
+abbrev pub key_line : List ℕ → Party → List ℕ → List ℕ
+key_line word p key = (word ++ party_text p ++ codes " ") ++ encode_lower key
+
+abbrev pub secret_line : Secret → List ℕ
+secret_line s = codes "secret " ++ (encode_lower s.id ++ 32 ∷ encode_lower s.seed)
+
+abbrev pub secret_lines : Option Secret → List (List ℕ)
+secret_lines None = []
+secret_lines (Some s) = secret_line s ∷ []
+
+-- the key to a peer, and the key from it
+abbrev pub peer_lines : Peer → List (List ℕ)
+peer_lines x = key_line (codes "out ") x.party x.to ∷ key_line (codes "in ") x.party x.from ∷ []
+
+-- from replica r on
+abbrev pub public_lines : ℕ → List (List ℕ) → List (List ℕ)
+public_lines r [] = []
+public_lines r (key ∷ keys) = key_line (codes "public ") (Replica r) key ∷ public_lines (r + 1) keys
+
+abbrev pub cluster_lines : PartyKeys → List (List ℕ)
+cluster_lines k = codes "keys 1" ∷ (codes "party " ++ party_text k.me) ∷ (codes "f " ++ decimal k.f) ∷ (codes "clients " ++ decimal k.clients) ∷ []
+
+abbrev pub name_lines : PartyKeys → List (List ℕ)
+name_lines k = plan_line k.plan ∷ service_line k.service ∷ lms_line k.lms ∷ []
+
+abbrev pub key_lines : PartyKeys → List (List ℕ)
+key_lines k = cluster_lines k ++ (name_lines k ++ (secret_lines k.secret ++ (flat_map peer_lines k.peers ++ public_lines 0 k.publics)))
+
+-- each line ends with a line feed
+abbrev pub text_of : List (List ℕ) → List ℕ
+text_of ls = flat_map (λ l. l ++ 10 ∷ []) ls

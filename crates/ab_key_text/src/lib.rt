@@ -1,0 +1,25 @@
+//! The keys of one party of a cluster, their text, and the text that sets up a node.
+#![tactic(auto)]
+
+mod derive;
+mod fault;
+mod hex_bytes;
+mod keys;
+mod lines;
+mod node;
+mod parts;
+mod peers;
+mod reading;
+mod secret;
+mod setting;
+mod shared;
+mod writing;
+
+pub use fault::{KeyFault, NodeFault};
+pub use hex_bytes::bytes_in;
+pub use keys::PartyKeys;
+pub use node::{Commands, read_node};
+pub use parts::party_in;
+
+#[cfg(test)]
+mod tests;

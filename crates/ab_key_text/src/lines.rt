@@ -1,0 +1,158 @@
+//! One line after the other.
+
+ghost use Rattle.std.specs.Prelude.{◌≡◌, ◌≤◌, ◌+◌, IfOk, codes, length};
+ghost use Rattle.std.specs.Option.{option_and_then};
+ghost use Rattle.ab_text.specs.Heads.{heights, lms_line, plan_line, plans, service_line, services, spelled_in, stripped};
+ghost use Rattle.ab_text.specs.Lines.{lines_of};
+ghost use Rattle.ab_key_text.specs.Lines.{Gives, form_in, key_in, line_at, number_in, party_in};
+ghost use Rattle.ab_key_text.specs.Reading.{secret_in};
+
+use crate::fault::NodeFault;
+use crate::parts::{key_in, named_party, number_in, secret_in};
+use crate::secret::Secret;
+use ab_num::{Height, Party, Plan, ServiceName};
+use ab_text::{height_in, next_line, plan_in, service_in};
+
+/// What comes after line `n`, which has this form.
+pub(crate) fn form_at<'a>(text: &'a [u8], form: &[u8], n: u32) -> Result<&'a [u8], NodeFault>
+    ensures reads { Gives (λ rest. (tt, lines_of rest.now)) result (line_at (form_in form.now) n (lines_of text.now)) }
+    ensures shorter { IfOk result (λ rest. length rest.now ≤ length text.now) }
+{
+    match next_line(text) {
+        None => Err(NodeFault::NoEnd(n)),
+        Some((line, rest)) => {
+            if line == form {
+                Ok(rest)
+            } else {
+                Err(NodeFault::BadLine(n))
+            }
+        }
+    }
+}
+
+/// The number of line `n`, after its word, and what comes after that line.
+pub(crate) fn number_at<'a>(
+    text: &'a [u8],
+    word: &[u8],
+    low: u64,
+    high: u64,
+    n: u32,
+) -> Result<(u64, &'a [u8]), NodeFault>
+    ensures reads { Gives (λ p. (p.0, lines_of p.1.now)) result (line_at (number_in word.now low high) n (lines_of text.now)) }
+    ensures low { IfOk result (λ p. low ≤ p.0) }
+    ensures high { IfOk result (λ p. p.0 ≤ high) }
+    ensures shorter { IfOk result (λ p. length p.1.now ≤ length text.now) }
+{
+    match next_line(text) {
+        None => Err(NodeFault::NoEnd(n)),
+        Some((line, rest)) => match number_in(line, word, low, high) {
+            None => Err(NodeFault::BadLine(n)),
+            Some(number) => Ok((number, rest)),
+        },
+    }
+}
+
+/// The party of line `n`, and what comes after that line.
+pub(crate) fn party_at<'a>(
+    text: &'a [u8],
+    n: u32,
+) -> Result<(Party, &'a [u8]), NodeFault>
+    ensures reads { Gives (λ p. (p.0, lines_of p.1.now)) result (line_at (λ l. option_and_then party_in (stripped (codes "party ") l)) n (lines_of text.now)) }
+    ensures shorter { IfOk result (λ p. length p.1.now ≤ length text.now) }
+{
+    match next_line(text) {
+        None => Err(NodeFault::NoEnd(n)),
+        Some((line, rest)) => match named_party(line) {
+            None => Err(NodeFault::BadLine(n)),
+            Some(found) => Ok((found, rest)),
+        },
+    }
+}
+
+/// The plan of line `n`, and what comes after that line.
+pub(crate) fn plan_at<'a>(
+    text: &'a [u8],
+    n: u32,
+) -> Result<(Plan, &'a [u8]), NodeFault>
+    ensures reads { Gives (λ p. (p.0, lines_of p.1.now)) result (line_at (spelled_in plan_line plans) n (lines_of text.now)) }
+    ensures shorter { IfOk result (λ p. length p.1.now ≤ length text.now) }
+{
+    match next_line(text) {
+        None => Err(NodeFault::NoEnd(n)),
+        Some((line, rest)) => match plan_in(line) {
+            None => Err(NodeFault::BadLine(n)),
+            Some(found) => Ok((found, rest)),
+        },
+    }
+}
+
+/// The service of line `n`, and what comes after that line.
+pub(crate) fn service_at<'a>(
+    text: &'a [u8],
+    n: u32,
+) -> Result<(ServiceName, &'a [u8]), NodeFault>
+    ensures reads { Gives (λ p. (p.0, lines_of p.1.now)) result (line_at (spelled_in service_line services) n (lines_of text.now)) }
+    ensures shorter { IfOk result (λ p. length p.1.now ≤ length text.now) }
+{
+    match next_line(text) {
+        None => Err(NodeFault::NoEnd(n)),
+        Some((line, rest)) => match service_in(line) {
+            None => Err(NodeFault::BadLine(n)),
+            Some(found) => Ok((found, rest)),
+        },
+    }
+}
+
+/// The height of line `n`, and what comes after that line.
+pub(crate) fn height_at<'a>(
+    text: &'a [u8],
+    n: u32,
+) -> Result<(Height, &'a [u8]), NodeFault>
+    ensures reads { Gives (λ p. (p.0, lines_of p.1.now)) result (line_at (spelled_in lms_line heights) n (lines_of text.now)) }
+    ensures shorter { IfOk result (λ p. length p.1.now ≤ length text.now) }
+{
+    match next_line(text) {
+        None => Err(NodeFault::NoEnd(n)),
+        Some((line, rest)) => match height_in(line) {
+            None => Err(NodeFault::BadLine(n)),
+            Some(found) => Ok((found, rest)),
+        },
+    }
+}
+
+/// The secret of line `n`, and what comes after that line.
+pub(crate) fn secret_line_at<'a>(
+    text: &'a [u8],
+    n: u32,
+) -> Result<(Secret, &'a [u8]), NodeFault>
+    ensures reads { Gives (λ p. (p.0, lines_of p.1.now)) result (line_at secret_in n (lines_of text.now)) }
+    ensures shorter { IfOk result (λ p. length p.1.now ≤ length text.now) }
+{
+    match next_line(text) {
+        None => Err(NodeFault::NoEnd(n)),
+        Some((line, rest)) => match secret_in(line) {
+            None => Err(NodeFault::BadLine(n)),
+            Some(found) => Ok((found, rest)),
+        },
+    }
+}
+
+/// The key of `N` bytes in line `n`, after a word and a party, and what comes after that line.
+pub(crate) fn key_at<'a, const N: usize>(
+    text: &'a [u8],
+    word: &[u8],
+    p: Party,
+    n: u32,
+) -> Result<([u8; N], &'a [u8]), NodeFault>
+    requires { N ≤ 56 }
+    ensures reads { Gives (λ p. (p.0, lines_of p.1.now)) result (line_at (key_in word.now p N) n (lines_of text.now)) }
+    ensures shorter { IfOk result (λ p. length p.1.now ≤ length text.now) }
+{
+    match next_line(text) {
+        None => Err(NodeFault::NoEnd(n)),
+        Some((line, rest)) => match key_in(line, word, p) {
+            None => Err(NodeFault::BadLine(n)),
+            Some(found) => Ok((found, rest)),
+        },
+    }
+}

@@ -1,0 +1,172 @@
+//! The text of a party's keys.
+
+ghost use Rattle.std.specs.Prelude.{◌≡◌, ◌+◌, ◌++◌, ◌∷◌, [], IfOk, OnOk, List, codes, decimal, flat_map, string_bytes};
+ghost use Rattle.ab_num.specs.declared.party.Party.TheVariants.{Replica};
+ghost use Rattle.hex.specs.Hex.{encode_lower};
+ghost use Rattle.ab_text.specs.Cores.{party_text};
+ghost use Rattle.ab_text.specs.Heads.{lms_line, plan_line, service_line};
+ghost use Rattle.ab_text.specs.Reports.{◌then◌};
+ghost use Rattle.ab_key_text.specs.Spelling.{cluster_lines, key_line, key_lines, name_lines, peer_lines, public_lines, secret_line, secret_lines, text_of};
+
+use crate::keys::PartyKeys;
+use crate::secret::Secret;
+use crate::shared::Shared;
+use ab_num::{Height, OutOfMemory, Party, Plan, ServiceName};
+use ab_text::party_string;
+use std::alloc::{AllocError, Global};
+
+fn plan_text(plan: Plan) -> &'static str
+    ensures { result.now ≡ plan_line plan }
+{
+    match plan {
+        Plan::AZyzzyva => "plan azyzzyva",
+        Plan::Aliph => "plan aliph",
+        Plan::Quorum => "plan quorum",
+        Plan::ZLight => "plan zlight",
+        Plan::Chain => "plan chain",
+        Plan::Backup => "plan backup",
+    }
+}
+
+fn service_text(service: ServiceName) -> &'static str
+    ensures { result.now ≡ service_line service }
+{
+    match service {
+        ServiceName::Echo => "service echo",
+        ServiceName::Kv => "service kv",
+    }
+}
+
+fn lms_text(lms: Height) -> &'static str
+    ensures { result.now ≡ lms_line lms }
+{
+    match lms {
+        Height::Five => "lms 5",
+        Height::Ten => "lms 10",
+    }
+}
+
+/// A line of a word, a party and a key.
+fn key_string(alloc: Global, word: &str, p: Party, key: &[u8]) -> Result<String, AllocError>
+    ensures { IfOk result (λ s. string_bytes s ≡ key_line word.now p key.now) }
+{
+    let party = party_string(alloc, p)?;
+    let digits = hex::encode(alloc, key)?;
+    format!(in alloc; "{word}{party} {digits}")
+}
+
+/// A line of a word, replica `r` and a key.
+fn public_string(
+    alloc: Global,
+    word: &str,
+    r: usize,
+    key: &[u8; 56],
+) -> Result<String, AllocError>
+    ensures { IfOk result (λ s. string_bytes s ≡ key_line word.now (Replica r) key.now) }
+{
+    let digits = hex::encode(alloc, key)?;
+    format!(in alloc; "{word}r{r} {digits}")
+}
+
+/// The line of a secret.
+fn secret_string(alloc: Global, secret: &Secret) -> Result<String, AllocError>
+    ensures { IfOk result (λ s. string_bytes s ≡ secret_line secret.now) }
+{
+    let id = hex::encode(alloc, &secret.id())?;
+    let seed = hex::encode(alloc, &secret.seed())?;
+    format!(in alloc; "secret {id} {seed}")
+}
+
+/// Adds a line.
+fn add_line(out: &mut Vec<u8>, line: &str) -> Result<(), OutOfMemory>
+    ensures { OnOk result (out.new.items ≡ out.old.items ++ text_of (line.now ∷ [])) }
+{
+    out.extend_from_slice(line.as_bytes())?;
+    out.push(b'\n')?;
+    Ok(())
+}
+
+/// Adds the lines of a peer.
+fn add_peer(out: &mut Vec<u8>, alloc: Global, peer: &Shared) -> Result<(), OutOfMemory>
+    ensures { OnOk result (out.new.items ≡ out.old.items ++ text_of (peer_lines peer.now)) }
+{
+    let to = key_string(alloc, "out ", peer.party(), peer.to())?;
+    let from = key_string(alloc, "in ", peer.party(), peer.from())?;
+    add_line(out, to.as_str())?;
+    add_line(out, from.as_str())
+}
+
+impl PartyKeys {
+    /// Adds the first four lines.
+    fn add_cluster(&self, out: &mut Vec<u8>, alloc: Global) -> Result<(), OutOfMemory>
+        ensures { OnOk result (out.new.items ≡ out.old.items ++ text_of (cluster_lines self.now)) }
+    {
+        let me = party_string(alloc, self.me)?;
+        let f = self.cluster.f;
+        let clients = self.cluster.clients;
+        let party = format!(in alloc; "party {me}")?;
+        let faulty = format!(in alloc; "f {f}")?;
+        let count = format!(in alloc; "clients {clients}")?;
+        add_line(out, "keys 1")?;
+        add_line(out, party.as_str())?;
+        add_line(out, faulty.as_str())?;
+        add_line(out, count.as_str())?;
+        Ok(())
+    }
+
+    /// Adds the next three.
+    fn add_names(&self, out: &mut Vec<u8>) -> Result<(), OutOfMemory>
+        ensures { OnOk result (out.new.items ≡ out.old.items ++ text_of (name_lines self.now)) }
+    {
+        add_line(out, plan_text(self.cluster.plan))?;
+        add_line(out, service_text(self.service))?;
+        add_line(out, lms_text(self.lms))
+    }
+
+    /// Adds the line of a replica's secret.
+    fn add_secret(&self, out: &mut Vec<u8>, alloc: Global) -> Result<(), OutOfMemory>
+        ensures { OnOk result (out.new.items ≡ out.old.items ++ text_of (secret_lines self.now.secret)) }
+    {
+        match &self.secret {
+            None => Ok(()),
+            Some(secret) => {
+                let line = secret_string(alloc, secret)?;
+                add_line(out, line.as_str())
+            }
+        }
+    }
+
+    /// Adds the lines of the peers.
+    fn add_peers(&self, out: &mut Vec<u8>, alloc: Global) -> Result<(), OutOfMemory>
+        ensures { OnOk result (out.new.items ≡ out.old.items ++ text_of (flat_map peer_lines self.now.peers)) }
+    {
+        for peer in &self.peers {
+            add_peer(out, alloc, peer)?;
+        }
+        Ok(())
+    }
+
+    /// Adds the lines of the public keys.
+    fn add_publics(&self, out: &mut Vec<u8>, alloc: Global) -> Result<(), OutOfMemory>
+        ensures { OnOk result (out.new.items ≡ out.old.items ++ text_of (public_lines 0 self.now.publics)) }
+    {
+        for (r, key) in self.publics.iter().enumerate() {
+            let line = public_string(alloc, "public ", r, key)?;
+            add_line(out, line.as_str())?;
+        }
+        Ok(())
+    }
+
+    /// The key text.
+    pub fn text(&self, alloc: Global) -> Result<Vec<u8>, OutOfMemory>
+        ensures { IfOk result (λ v. v.items ≡ text_of (key_lines self.now)) }
+    {
+        let mut out = Vec::new(alloc);
+        self.add_cluster(&mut out, alloc)?;
+        self.add_names(&mut out)?;
+        self.add_secret(&mut out, alloc)?;
+        self.add_peers(&mut out, alloc)?;
+        self.add_publics(&mut out, alloc)?;
+        Ok(out)
+    }
+}
