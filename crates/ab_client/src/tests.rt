@@ -1,15 +1,14 @@
 //! A client by itself: what it refuses, what it sends, and when it commits.
 
 use super::*;
-use ab_abs::{Marks, Seen};
 use ab_hist::array_of;
 use ab_msg::{Content, Msg, NO_TAG, is_message, read, write};
 use ab_num::{Cluster, OutOfMemory, Party, Plan};
 use std::alloc::Global;
 
-/// The bytes of a replica's answer to request 1 of client 0, with this number.
-fn answer(alloc: Global, by: u8, n: u16) -> Result<Vec<u8>, OutOfMemory> {
-    let m = Msg::Resp {
+/// A replica's answer to request 1 of client 0, with this number.
+fn answer(by: u8, n: u16) -> Msg {
+    Msg::Resp {
         content: Content::Resp {
             maker: Party::Replica(by),
             instance: 1,
@@ -20,34 +19,36 @@ fn answer(alloc: Global, by: u8, n: u16) -> Result<Vec<u8>, OutOfMemory> {
             reply: array_of(b"ok"),
         },
         tag: NO_TAG,
-    };
-    if is_message(&m) {
-        write(alloc, &m)
+    }
+}
+
+/// The bytes of a message, none where it is not of the grammar.
+fn written(alloc: Global, m: &Msg) -> Result<Vec<u8>, OutOfMemory> {
+    if is_message(m) {
+        write(alloc, m)
     } else {
         Ok(Vec::new(alloc))
     }
 }
 
-/// What is observed as an answer comes to a client, none where it can't be read.
-fn heard(alloc: Global, client: &mut Client, by: u8, n: u16) -> Result<Option<Marks>, OutOfMemory> {
-    let bytes = answer(alloc, by, n)?;
+/// The bytes of such an answer.
+fn answered(alloc: Global, by: u8, n: u16) -> Result<Vec<u8>, OutOfMemory> {
+    let m = answer(by, n);
+    written(alloc, &m)
+}
+
+/// How much is observed as an answer comes to a client.
+fn heard(alloc: Global, client: &mut Client, by: u8, n: u16) -> Result<usize, OutOfMemory> {
+    let bytes = answered(alloc, by, n)?;
     match read(&bytes) {
-        Ok(m) => Ok(Some(client.on(alloc, &m))),
-        Err(_) => Ok(None),
+        Ok(m) => Ok(client.on(alloc, &m).len()),
+        Err(_) => Ok(0),
     }
 }
 
-/// How much is observed.
-fn counted(marks: Option<Marks>) -> Option<usize> {
-    Some(marks?.len())
-}
-
-/// The number of a commit, if that is all that was seen.
-fn committed(seen: &[Seen]) -> Option<u16> {
-    match seen {
-        [Seen::Committed { n, .. }] => Some(*n),
-        _ => None,
-    }
+/// Whether the answer of a replica, with this number, commits.
+fn commits(alloc: Global, client: &mut Client, by: u8, n: u16) -> bool {
+    matches!(heard(alloc, client, by, n), Ok(1))
 }
 
 /// To how many replicas a client's first request goes.
@@ -63,18 +64,9 @@ fn asked(alloc: Global, plan: Plan) -> Option<usize> {
 #[test]
 fn the_kind_says_how_many_are_asked(rt: HostRuntime) {
     let alloc = rt.alloc();
-    clients_act_by_their_cluster();
     assert!(rt; asked(alloc, Plan::Backup) == Some(4));
     assert!(rt; asked(alloc, Plan::ZLight) == Some(1));
     assert!(rt; asked(alloc, Plan::Chain) == Some(1));
-}
-
-/// Whether an answer of this replica commits.
-fn commits(alloc: Global, client: &mut Client, by: u8) -> bool {
-    match heard(alloc, client, by, 7) {
-        Ok(marks) => counted(marks) == Some(1),
-        Err(_) => false,
-    }
 }
 
 /// Whether the second of two equal answers commits a client's first request.
@@ -82,8 +74,8 @@ fn two_commit(alloc: Global, plan: Plan) -> Option<bool> {
     let c = Cluster::new(1, 2, plan)?;
     let mut client = Client::new(&c, 0);
     let _asked = asks(alloc, &mut client, b"x");
-    let _first = commits(alloc, &mut client, 0);
-    Some(commits(alloc, &mut client, 1))
+    let _first = commits(alloc, &mut client, 0, 7);
+    Some(commits(alloc, &mut client, 1, 7))
 }
 
 #[test]
@@ -127,21 +119,20 @@ fn commands_are_refused(rt: HostRuntime) {
     assert!(rt; refuses(rt.alloc()) == Some(true));
 }
 
-/// What the number is that the fourth answer commits, where the third comes twice.
-fn fourth(alloc: Global, n: u16) -> Option<Option<u16>> {
+/// Whether the answer of the fourth replica commits and no earlier one does, the third's second one
+/// among them.
+fn fourth_commits(alloc: Global, n: u16) -> Option<bool> {
     let mut client = quorum_client()?;
     let _asked = asks(alloc, &mut client, b"x");
-    for by in [0, 1, 2, 2] {
-        if commits(alloc, &mut client, by) {
-            return None;
-        }
-    }
-    let marks = heard(alloc, &mut client, 3, n).ok()??;
-    Some(committed(marks.as_slice()))
+    let first = commits(alloc, &mut client, 0, 7);
+    let second = commits(alloc, &mut client, 1, 7);
+    let third = commits(alloc, &mut client, 2, 7);
+    let again = commits(alloc, &mut client, 2, 7);
+    Some(!(first || second || third || again) && commits(alloc, &mut client, 3, n))
 }
 
 #[test]
 fn equal_votes_of_all_commit(rt: HostRuntime) {
-    assert!(rt; fourth(rt.alloc(), 7) == Some(Some(7)));
-    assert!(rt; fourth(rt.alloc(), 8) == Some(None));
+    assert!(rt; fourth_commits(rt.alloc(), 7) == Some(true));
+    assert!(rt; fourth_commits(rt.alloc(), 8) == Some(false));
 }
