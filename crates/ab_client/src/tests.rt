@@ -1,16 +1,14 @@
 //! A client by itself: what it refuses, what it sends, and when it commits.
 
 use super::*;
-use ab_abs::{Marks, Seen};
 use ab_hist::array_of;
 use ab_msg::{Content, Msg, NO_TAG, is_message, read, write};
 use ab_num::{Cluster, OutOfMemory, Party, Plan};
 use std::alloc::Global;
-use std::test::Fail;
 
-/// The bytes of a replica's answer to request 1 of client 0, with this number.
-fn answer(alloc: Global, by: u8, n: u16) -> Result<Vec<u8>, OutOfMemory> {
-    let m = Msg::Resp {
+/// A replica's answer to request 1 of client 0, with this number.
+fn answer(by: u8, n: u16) -> Msg {
+    Msg::Resp {
         content: Content::Resp {
             maker: Party::Replica(by),
             instance: 1,
@@ -21,140 +19,120 @@ fn answer(alloc: Global, by: u8, n: u16) -> Result<Vec<u8>, OutOfMemory> {
             reply: array_of(b"ok"),
         },
         tag: NO_TAG,
-    };
-    if is_message(&m) {
-        write(alloc, &m)
+    }
+}
+
+/// The bytes of a message, none where it is not of the grammar.
+fn written(alloc: Global, m: &Msg) -> Result<Vec<u8>, OutOfMemory> {
+    if is_message(m) {
+        write(alloc, m)
     } else {
         Ok(Vec::new(alloc))
     }
 }
 
-/// What is observed as an answer comes to a client, none where it can't be read.
-fn heard(alloc: Global, client: &mut Client, by: u8, n: u16) -> Result<Option<Marks>, OutOfMemory> {
-    let bytes = answer(alloc, by, n)?;
+/// The bytes of such an answer.
+fn answered(alloc: Global, by: u8, n: u16) -> Result<Vec<u8>, OutOfMemory> {
+    let m = answer(by, n);
+    written(alloc, &m)
+}
+
+/// How much is observed as an answer comes to a client.
+fn heard(alloc: Global, client: &mut Client, by: u8, n: u16) -> Result<usize, OutOfMemory> {
+    let bytes = answered(alloc, by, n)?;
     match read(&bytes) {
-        Ok(m) => Ok(Some(client.on(alloc, &m))),
-        Err(_) => Ok(None),
+        Ok(m) => Ok(client.on(alloc, &m).len()),
+        Err(_) => Ok(0),
     }
 }
 
-/// How much is observed.
-fn counted(marks: Option<Marks>) -> Option<usize> {
-    Some(marks?.len())
+/// Whether the answer of a replica, with this number, commits.
+fn commits(alloc: Global, client: &mut Client, by: u8, n: u16) -> bool {
+    matches!(heard(alloc, client, by, n), Ok(1))
 }
 
-/// The number of a commit, if that is all that was seen.
-fn committed(seen: &[Seen]) -> Option<u16> {
-    match seen {
-        [Seen::Committed { n, .. }] => Some(*n),
-        _ => None,
-    }
-}
-
-/// To whom a client's first request goes.
-fn asked(alloc: Global, plan: Plan) -> Option<Vec<Party>> {
+/// To how many replicas a client's first request goes.
+fn asked(alloc: Global, plan: Plan) -> Option<usize> {
     let c = Cluster::new(1, 2, plan)?;
     let mut client = Client::new(&c, 1);
-    let (outs, _) = client.invoke(alloc, b"x").ok()?;
-    outs.as_slice().iter().map(|o| o.to).collect(alloc).ok()
+    match asks(alloc, &mut client, b"x") {
+        Ok((outs, _)) => Some(outs),
+        Err(_) => None,
+    }
 }
 
 #[test]
-fn the_kind_says_who_is_asked(rt: HostRuntime) -> Result<(), Fail> {
+fn the_kind_says_how_many_are_asked(rt: HostRuntime) {
     let alloc = rt.alloc();
-    let first = [Party::Replica(0)];
-    let all = [0, 1, 2, 3].map(Party::Replica);
-    for plan in [Plan::Quorum, Plan::Backup, Plan::Aliph] {
-        let to = asked(alloc, plan).ok_or("asked")?;
-        assert_eq!(rt; to.as_slice(), all.as_slice());
-    }
-    for plan in [Plan::ZLight, Plan::Chain, Plan::AZyzzyva] {
-        let to = asked(alloc, plan).ok_or("asked")?;
-        assert_eq!(rt; to.as_slice(), first.as_slice());
-    }
-    Ok(())
+    assert!(rt; asked(alloc, Plan::Backup) == Some(4));
+    assert!(rt; asked(alloc, Plan::ZLight) == Some(1));
+    assert!(rt; asked(alloc, Plan::Chain) == Some(1));
 }
 
-/// Which of the answers of replicas 0 to 3 commits, if one does.
-fn commits_at(alloc: Global, plan: Plan) -> Result<Option<u8>, OutOfMemory> {
-    let Some(c) = Cluster::new(1, 2, plan) else {
-        return Ok(None);
-    };
+/// Whether the second of two equal answers commits a client's first request.
+fn two_commit(alloc: Global, plan: Plan) -> Option<bool> {
+    let c = Cluster::new(1, 2, plan)?;
     let mut client = Client::new(&c, 0);
-    if client.invoke(alloc, b"x").is_err() {
-        return Ok(None);
-    }
-    for by in 0..4u8 {
-        if counted(heard(alloc, &mut client, by, 7)?) == Some(1) {
-            return Ok(Some(by));
-        }
-    }
-    Ok(None)
+    let _asked = asks(alloc, &mut client, b"x");
+    let _first = commits(alloc, &mut client, 0, 7);
+    Some(commits(alloc, &mut client, 1, 7))
 }
 
 #[test]
-fn the_kind_says_when_it_commits(rt: HostRuntime) -> Result<(), Fail> {
+fn the_kind_says_when_it_commits(rt: HostRuntime) {
     let alloc = rt.alloc();
-    clients_act_by_their_cluster();
-    assert_eq!(rt; commits_at(alloc, Plan::ZLight)?, Some(3));
-    assert_eq!(rt; commits_at(alloc, Plan::Backup)?, Some(1));
-    assert_eq!(rt; commits_at(alloc, Plan::Chain)?, None);
-    Ok(())
+    assert!(rt; two_commit(alloc, Plan::Backup) == Some(true));
+    assert!(rt; two_commit(alloc, Plan::ZLight) == Some(false));
+    assert!(rt; two_commit(alloc, Plan::Chain) == Some(false));
 }
 
-#[test]
-fn commands_are_refused(rt: HostRuntime) -> Result<(), Fail> {
-    let alloc = rt.alloc();
-    let Some(c) = Cluster::new(1, 2, Plan::Quorum) else {
-        return Err(Fail::from("in bounds"));
-    };
-    let mut client = Client::new(&c, 0);
-    assert_eq!(rt; client.invoke(alloc, &[]).err(), Some(InvokeFault::Empty));
-    assert_eq!(rt;
-        client.invoke(alloc, &[b'x'; 129]).err(),
-        Some(InvokeFault::TooLong)
-    );
-    assert_eq!(rt; client.open(), false);
-    let (outs, marks) = client.invoke(alloc, &[b'x'; 128]).ok().ok_or("memory")?;
-    assert_eq!(rt; outs.len(), 4);
-    assert_eq!(rt; marks.len(), 1);
-    assert_eq!(rt; client.invoke(alloc, b"x").err(), Some(InvokeFault::Busy));
-    assert_eq!(rt; client.stamp(), 1);
-    assert_eq!(rt; client.instance(), 1);
-    Ok(())
-}
-
-#[test]
-fn all_votes_commit(rt: HostRuntime) -> Result<(), Fail> {
-    let alloc = rt.alloc();
-    let Some(c) = Cluster::new(1, 2, Plan::Quorum) else {
-        return Err(Fail::from("in bounds"));
-    };
-    let mut client = Client::new(&c, 0);
-    client.invoke(alloc, b"x").ok().ok_or("memory")?;
-    for by in 0..3u8 {
-        assert_eq!(rt; counted(heard(alloc, &mut client, by, 7)?), Some(0));
+/// How much a client sends and observes as it takes a command, or why it takes none.
+fn asks(alloc: Global, client: &mut Client, command: &[u8]) -> Result<(usize, usize), InvokeFault> {
+    if client.stamp() > 9 {
+        return Err(InvokeFault::OutOfMemory);
     }
-    // A second vote of a replica doesn't count.
-    assert_eq!(rt; counted(heard(alloc, &mut client, 2, 7)?), Some(0));
-    let marks = heard(alloc, &mut client, 3, 7)?.ok_or("read")?;
-    assert_eq!(rt; committed(marks.as_slice()), Some(7));
-    assert_eq!(rt; client.open(), false);
-    Ok(())
+    match client.invoke(alloc, command) {
+        Ok((outs, marks)) => Ok((outs.len(), marks.len())),
+        Err(fault) => Err(fault),
+    }
+}
+
+/// The first client of four replicas, in instances of Quorum.
+fn quorum_client() -> Option<Client> {
+    let c = Cluster::new(1, 2, Plan::Quorum)?;
+    Some(Client::new(&c, 0))
+}
+
+/// Whether commands are refused for their lengths, and while a request is open.
+fn refuses(alloc: Global) -> Option<bool> {
+    let mut client = quorum_client()?;
+    let empty = asks(alloc, &mut client, &[]) == Err(InvokeFault::Empty);
+    let long = asks(alloc, &mut client, &[b'x'; 129]) == Err(InvokeFault::TooLong);
+    let taken = asks(alloc, &mut client, &[b'x'; 128]) == Ok((4, 1));
+    let busy = asks(alloc, &mut client, b"x") == Err(InvokeFault::Busy);
+    let stands = client.open() && client.stamp() == 1 && client.instance() == 1;
+    Some(empty && long && taken && busy && stands)
 }
 
 #[test]
-fn votes_that_differ_do_not(rt: HostRuntime) -> Result<(), Fail> {
-    let alloc = rt.alloc();
-    let Some(c) = Cluster::new(1, 2, Plan::Quorum) else {
-        return Err(Fail::from("in bounds"));
-    };
-    let mut client = Client::new(&c, 0);
-    client.invoke(alloc, b"x").ok().ok_or("memory")?;
-    for by in 0..4u8 {
-        let n = if by == 3 { 8 } else { 7 };
-        assert_eq!(rt; counted(heard(alloc, &mut client, by, n)?), Some(0));
-    }
-    assert_eq!(rt; client.open(), true);
-    Ok(())
+fn commands_are_refused(rt: HostRuntime) {
+    assert!(rt; refuses(rt.alloc()) == Some(true));
+}
+
+/// Whether the answer of the fourth replica commits and no earlier one does, the third's second one
+/// among them.
+fn fourth_commits(alloc: Global, n: u16) -> Option<bool> {
+    let mut client = quorum_client()?;
+    let _asked = asks(alloc, &mut client, b"x");
+    let first = commits(alloc, &mut client, 0, 7);
+    let second = commits(alloc, &mut client, 1, 7);
+    let third = commits(alloc, &mut client, 2, 7);
+    let again = commits(alloc, &mut client, 2, 7);
+    Some(!(first || second || third || again) && commits(alloc, &mut client, 3, n))
+}
+
+#[test]
+fn equal_votes_of_all_commit(rt: HostRuntime) {
+    assert!(rt; fourth_commits(rt.alloc(), 7) == Some(true));
+    assert!(rt; fourth_commits(rt.alloc(), 8) == Some(false));
 }
