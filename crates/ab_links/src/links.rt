@@ -13,7 +13,7 @@ use std::marker::Model;
 /// The links of histories, one for each digest, so that two beginnings of histories with one digest
 /// are found without comparing histories.
 #[derive(Drop)]
-pub struct Links {
+pub(crate) struct Links {
     origins: IndexMap<[u8; 32], Origin>,
 }
 
@@ -30,7 +30,7 @@ impl Model for Links {
 
 impl Links {
     /// No links.
-    pub fn new(alloc: Global) -> Links
+    pub(crate) fn new(alloc: Global) -> Links
         ensures { result ≡ [] }
     {
         Links {
@@ -40,7 +40,7 @@ impl Links {
 
     /// Keeps the links of the entries behind the first `from`, and answers whether one of them shows
     /// two beginnings of histories with one digest.
-    pub fn add(&mut self, history: &History, from: usize) -> Result<bool, OutOfMemory>
+    pub(crate) fn add(&mut self, history: &History, from: usize) -> Result<bool, OutOfMemory>
         requires { from ≤ length history.now }
         ensures answer { IfOk result (λ found. found ≡ any_collides self.old (drop from (links_of history.now))) }
         ensures ok { OnOk result (self.new ≡ keep_links self.old (drop from (links_of history.now))) }
