@@ -1,1 +1,2 @@
-pub mod ToAll
+-- Lemmas of this crate.
+pub mod Targets

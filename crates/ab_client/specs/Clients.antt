@@ -1,21 +1,29 @@
 -- What a contract sees of a client.
-use Rattle.std.specs.Prelude.{◌≡◌, ◌≢◌, ℕ, ◌<◌, ◌≤◌, Bool, true, false, Option, List}
+use Rattle.std.specs.Prelude.{◌≡◌, ◌≢◌, ℕ, ◌<◌, ◌≤◌, Bool, true, false, List, []}
+use Rattle.std.specs.List.{Contains}
+use Rattle.ab_num.specs.declared.cluster.Cluster.{Cluster}
+use Rattle.ab_num.specs.declared.party.Party.TheVariants.{Client}
 use Rattle.ab_hist.specs.declared.request.Request.{Request}
+use Rattle.ab_msg.specs.declared.content.Content.{Content}
+use Rattle.ab_msg.specs.declared.content.Content.TheVariants.{Req}
 use Rattle.ab_msg.specs.declared.message.Msg.{Msg}
+use Rattle.ab_msg.specs.declared.message.Msg.TheVariants as msg
 use Rattle.ab_msg.specs.declared.message.Out.{Out}
+use Rattle.ab_msg.specs.Claims.{fresh, maker_of}
+use Rattle.ab_msg.specs.Grammar.{IsDraft}
 use Rattle.ab_abs.specs.declared.seen.Seen.{Seen}
-use Rattle.ab_abs.specs.Messages.{Certificate, heard}
 use Rattle.ab_run.specs.declared.phase.Phase.{Phase}
 use Rattle.ab_run.specs.declared.phase.Phase.TheVariants.{Idle, Waiting, Panicking}
+use Rattle.ab_run.specs.Setups.{Setup}
 use Rattle.ab_run.specs.Clients.{Cli}
-use Rattle.ab_run.specs.Local.{Cue, cue_command, cue_message, cli_after, cli_sends, cli_marks}
+use Rattle.ab_run.specs.Local.{Cue, cue_command, cli_after, cli_sends, cli_marks}
 use Rattle.ab_client.specs.declared.client.InvokeFault.{InvokeFault}
 use Rattle.ab_client.specs.declared.client.InvokeFault.TheVariants.{Busy, TooLong, Empty, OutOfMemory}
 
--- its number, how many replicas may be faulty, and where it is
+-- its number, its cluster, and where it is
 pub record Seat : Type 0 where
   pub me : ℕ
-  pub f : ℕ
+  pub cluster : Cluster
   pub cli : Cli
 
 abbrev pub is_waiting : Phase → Bool
@@ -23,24 +31,32 @@ is_waiting Idle = false
 is_waiting Waiting = true
 is_waiting Panicking = false
 
--- what comes to a client with a command, and with a message
+-- what comes to a client with a command
 abbrev pub told : List ℕ → Cue
 told command = cue_command (record { items = command })
 
-abbrev pub got : Msg → Cue
-got msg = cue_message (heard msg)
+-- a cluster in which nobody is faulty and nothing is signed: what a client does depends on neither
+abbrev pub alone : Cluster → Setup
+alone c = record { cluster = c; faulty = []; signatures = 0; sig = λ r s n. [] }
 
-module _ (valid : Certificate → Option (List Request)) where
-  -- where a client is after what comes to it, what it sends, and what is seen of it, where valid gives the history of a
-  -- valid certificate
-  abbrev pub after : Seat → Cue → Seat
-  after s cue = record s { cli = cli_after s.f valid s.me s.cli cue }
+-- where a client is after what comes to it, what it sends, and what is seen of it
+abbrev pub after : Seat → Cue → Seat
+after s cue = record s { cli = cli_after (alone s.cluster) s.me s.cli cue }
 
-  abbrev pub sends : Seat → Cue → List Out
-  sends s cue = cli_sends s.f valid s.me s.cli cue
+abbrev pub sends : Seat → Cue → List Out
+sends s cue = cli_sends (alone s.cluster) s.me s.cli cue
 
-  abbrev pub marks : Seat → Cue → List Seen
-  marks s cue = cli_marks s.f valid s.me s.cli cue
+abbrev pub marks : Seat → Cue → List Seen
+marks s cue = cli_marks (alone s.cluster) s.me s.cli cue
+
+-- a client's request in an instance, before it has tags
+abbrev pub request_msg : ℕ → Request → Msg
+request_msg i m = msg.Req (Req (Client m.client) i m) (record { items = [] })
+
+-- it gets bytes as it is sealed, and whatever in it needs the tags of client c, where f replicas may be faulty, the client states
+pub record IsDraftOf (f c : ℕ) (o : Out) : Type 0 where
+  pub draft : IsDraft o.msg
+  pub own : (s : Content) → Contains (fresh f (Client c) o.msg) s → maker_of s ≡ Client c
 
 -- when a command is refused: a request is open, or the command is too long or empty
 abbrev pub InvokeCause : InvokeFault → Phase → ℕ → Type 0

@@ -1,20 +1,20 @@
 //! One client.
 
-ghost use Rattle.std.specs.Prelude.{◌≡◌, ◌≢◌, ℕ, ◌+◌, ◌*◌, ◌^◌, ◌<◌, ◌≤◌, ◌∷◌, ◌&&◌, ◌==◌, [], List, All, Option, Bool, length, IsTrue, IfOk, IfErr, OnOk, OnErr, None, Some, ◌↔◌, ◌⊎◌};
+ghost use Rattle.std.specs.Prelude.{◌≡◌, ◌≢◌, ℕ, ◌+◌, ◌^◌, ◌<◌, ◌≤◌, ◌∷◌, ◌&&◌, ◌==◌, [], List, All, length, IsTrue, IfOk, IfErr, OnOk, OnErr, None, Some, ◌↔◌, ◌⊎◌};
+ghost use Rattle.ab_num.specs.Places.{kind_of};
 ghost use Rattle.ab_hist.specs.declared.request.Request.{Request as TheRequest};
-ghost use Rattle.ab_msg.specs.Claims.{content_of, maker_of};
-ghost use Rattle.ab_msg.specs.Grammar.{IsDraft};
 ghost use Rattle.ab_msg.specs.Views.{IsReceived, message};
 ghost use Rattle.ab_abs.specs.declared.ballot.Ballot.{Ballot as TheBallot};
-ghost use Rattle.ab_abs.specs.Messages.{Certificate};
-ghost use Rattle.ab_run.specs.Clients.{counting, to_all, request_msg};
+ghost use Rattle.ab_run.specs.Clients.{counting, counts_responses};
 ghost use Rattle.ab_run.specs.Runs.{first_cli};
-ghost use Rattle.ab_run.specs.Local.{after_moves, marks_in_moves, sent_in_moves};
-ghost use Rattle.ab_client.specs.Clients.{is_waiting, Seat, told, got, after, sends, marks, InvokeCause};
+ghost use Rattle.ab_run.specs.Local.{cue_message, after_moves, marks_in_moves, sent_in_moves};
+ghost use Rattle.ab_client.specs.Clients.{is_waiting, Seat, alone, told, after, sends, marks, IsDraftOf, InvokeCause};
 
-use ab_abs::{Ballot, Marks, ReplyRule, Seen, Votes};
+use crate::rules::{counts_responses, reply_rule};
+use crate::sending::requests;
+use ab_abs::{Ballot, Marks, Seen, Votes};
 use ab_hist::{Request, array_of, copy_reply};
-use ab_msg::{Content, ContentRef, Msg, MsgRef, Out, Outs, Tags};
+use ab_msg::{ContentRef, MsgRef, Outs};
 use ab_num::{Cluster, OutOfMemory, Party};
 use ab_run::Phase;
 use arrayvec::ArrayVec;
@@ -47,8 +47,8 @@ impl From<OutOfMemory> for InvokeFault {
 /// A client in its present instance, with its last request and the votes for it.
 #[derive(Drop)]
 pub struct Client {
+    cluster: Cluster,
     me: u16,
-    f: u8,
     instance: u32,
     phase: Phase,
     stamp: u64,
@@ -58,50 +58,19 @@ pub struct Client {
 
 impl Model for Client {
     ghost use Rattle.std.specs.Prelude.{◌≡◌, ◌≤◌, ◌+◌, ◌*◌, None, []};
-    ghost use Rattle.ab_abs.specs.declared.protocol.ReplyRule.TheVariants.{All};
+    ghost use Rattle.ab_num.specs.Places.{kind_of};
+    ghost use Rattle.ab_abs.specs.Kinds.{rule_of};
     ghost use Rattle.ab_client.specs.Clients.{Seat};
 
     ghost Value = { Seat };
 
     ghost view = { λ c. record {
       me = c.me;
-      f = c.f;
-      cli = record { at = c.instance; entry = None; phase = c.phase; stamp = c.stamp; last = c.last; votes = c.votes.ballots; kept = [] };
+      cluster = c.cluster;
+      cli = record { at = c.instance; cert = None; phase = c.phase; stamp = c.stamp; last = c.last; votes = c.votes.ballots; kept = [] };
     } };
 
-    ghost invariant = { λ c. (1 ≤ c.instance) × (c.f ≤ 2) × (c.votes.rule ≡ All) × (c.votes.replicas ≡ 3 * c.f + 1) };
-}
-
-/// The request of a client in an instance, to the first replicas.
-fn requests(
-    alloc: Global,
-    replicas: u8,
-    instance: u32,
-    request: &Request,
-) -> Result<Outs, OutOfMemory>
-    ensures outs { IfOk result (λ outs. outs ≡ to_all replicas (request_msg instance request.now.client request.now)) }
-    ensures drafts { IsDraft (request_msg instance request.now.client request.now) → IfOk result (λ outs. All (λ o. IsDraft o.msg × (maker_of (content_of o.msg) ≡ Party.Client request.now.client)) outs) }
-{
-    let mut outs = Outs::new(alloc);
-    for r in 0..replicas {
-        let content = Content::Req {
-            maker: Party::Client(request.client),
-            instance,
-            request: request.copy(),
-        };
-        let msg = Msg::Req {
-            content,
-            tags: Tags::new(),
-        };
-        outs.push(
-            alloc,
-            Out {
-                to: Party::Replica(r),
-                msg,
-            },
-        )?;
-    }
-    Ok(outs)
+    ghost invariant = { λ c. (1 ≤ c.instance) × (c.votes.rule ≡ rule_of (kind_of c.cluster.plan c.instance) c.cluster.f) × (c.votes.replicas ≡ 3 * c.cluster.f + 1) };
 }
 
 /// A command of 1 to 128 bytes.
@@ -122,16 +91,16 @@ fn command_of(command: &[u8]) -> Result<ArrayVec<u8, 128>, InvokeFault>
 impl Client {
     /// Client `me` before its first request, in instance 1.
     pub fn new(cluster: &Cluster, me: u16) -> Client
-        ensures { result ≡ record { me = me; f = cluster.now.f; cli = first_cli } }
+        ensures { result ≡ record { me = me; cluster = cluster.now; cli = first_cli } }
     {
         Client {
+            cluster: *cluster,
             me,
-            f: cluster.f,
             instance: 1,
             phase: Phase::Idle,
             stamp: 0,
             last: None,
-            votes: Votes::new(ReplyRule::All, cluster.replicas()),
+            votes: Votes::new(reply_rule(cluster, 1), cluster.replicas()),
         }
     }
 
@@ -156,13 +125,14 @@ impl Client {
         self.phase != Phase::Idle
     }
 
-    /// Sends a request with this command and the next stamp to all replicas.
+    /// Sends a request with this command and the next stamp to the replicas that take it in the
+    /// present instance.
     pub fn invoke(&mut self, alloc: Global, command: &[u8]) -> Result<(Outs, Marks), InvokeFault>
         requires { self.old.cli.stamp < 2 ^ 63 }
-        ensures client { (valid : Certificate → Option (List TheRequest)) → OnOk result (self.new ≡ after valid self.old (told command.now)) }
-        ensures outs { (valid : Certificate → Option (List TheRequest)) → IfOk result (λ r. r.0 ≡ sends valid self.old (told command.now)) }
-        ensures marks { (valid : Certificate → Option (List TheRequest)) → IfOk result (λ r. r.1.items ≡ marks valid self.old (told command.now)) }
-        ensures drafts { self.old.me ≤ 15 → IfOk result (λ r. All (λ o. IsDraft o.msg × (maker_of (content_of o.msg) ≡ Party.Client self.old.me)) r.0) }
+        ensures client { OnOk result (self.new ≡ after self.old (told command.now)) }
+        ensures outs { IfOk result (λ r. r.0 ≡ sends self.old (told command.now)) }
+        ensures marks { IfOk result (λ r. r.1.items ≡ marks self.old (told command.now)) }
+        ensures drafts { self.old.me ≤ 15 → IfOk result (λ r. All (IsDraftOf self.old.cluster.f self.old.me) r.0) }
         ensures stamp { OnOk result (self.new.cli.stamp ≡ self.old.cli.stamp + 1) }
         ensures idle { OnOk result (self.old.cli.phase ≡ Phase.Idle) }
         ensures cause { IfErr result (λ e. InvokeCause e self.old.cli.phase (length command.now)) }
@@ -176,7 +146,7 @@ impl Client {
             stamp: self.stamp + 1,
             command: command_of(command)?,
         };
-        let outs = requests(alloc, 3 * self.f + 1, self.instance, &request)?;
+        let outs = requests(alloc, &self.cluster, self.instance, &request)?;
         let mut marks = Marks::new_in(alloc);
         marks.push(Seen::Invoked {
             i: self.instance,
@@ -192,9 +162,11 @@ impl Client {
 
     /// Whether a response in this instance to this client and stamp counts.
     fn awaits(&self, instance: u32, client: u16, stamp: u64) -> bool
-        ensures { result ≡ (is_waiting self.now.cli.phase && ((instance == self.now.cli.at) && ((client == self.now.me) && (stamp == self.now.cli.stamp)))) }
+        ensures { result ≡ ((is_waiting self.now.cli.phase && counts_responses (kind_of self.now.cluster.plan self.now.cli.at))
+            && ((instance == self.now.cli.at) && ((client == self.now.me) && (stamp == self.now.cli.stamp)))) }
     {
         self.phase == Phase::Waiting
+            && counts_responses(self.cluster.kind(self.instance))
             && instance == self.instance
             && client == self.me
             && stamp == self.stamp
@@ -223,17 +195,17 @@ impl Client {
         marks
     }
 
-    /// Counts the vote of a replica for the open request `m`, and commits where the votes of all
-    /// replicas are equal.
+    /// Counts the vote of a replica for the open request `m`, and commits where the votes are then
+    /// enough for what it says.
     fn count(&mut self, alloc: Global, ballot: Ballot) -> Marks
         requires open { self.old.cli.phase ≡ Phase.Waiting }
-        ensures client { (m : TheRequest) → self.old.cli.last ≡ Some m → self.new ≡ record self.old { cli = after_moves self.old.cli (counting self.old.f self.old.cli m ballot) } }
-        ensures marks { (m : TheRequest) → self.old.cli.last ≡ Some m → result.items ≡ marks_in_moves self.old.me self.old.cli (counting self.old.f self.old.cli m ballot) }
-        ensures outs { (m : TheRequest) → self.old.cli.last ≡ Some m → sent_in_moves self.old.f self.old.me self.old.cli (counting self.old.f self.old.cli m ballot) ≡ [] }
+        ensures client { (m : TheRequest) → self.old.cli.last ≡ Some m → self.new ≡ record self.old { cli = after_moves self.old.cli (counting (alone self.old.cluster) self.old.me self.old.cli m ballot) } }
+        ensures marks { (m : TheRequest) → self.old.cli.last ≡ Some m → result.items ≡ marks_in_moves self.old.me self.old.cli (counting (alone self.old.cluster) self.old.me self.old.cli m ballot) }
+        ensures outs { (m : TheRequest) → self.old.cli.last ≡ Some m → sent_in_moves (alone self.old.cluster) self.old.me self.old.cli (counting (alone self.old.cluster) self.old.me self.old.cli m ballot) ≡ [] }
         ensures stamp { self.new.cli.stamp ≡ self.old.cli.stamp }
         ensures none { self.old.cli.last ≡ None → (self.new ≡ self.old) × (result.items ≡ []) }
     {
-        if self.last.is_none() || ballot.by >= 3 * self.f + 1 {
+        if self.last.is_none() || ballot.by >= self.cluster.replicas() {
             return Marks::new_in(alloc);
         }
         if !self.votes.add(ballot) {
@@ -244,14 +216,14 @@ impl Client {
         marks
     }
 
-    /// Takes a message that was read from bytes. A response to the open request is counted; the
-    /// client commits where the votes of all replicas are equal. Nothing is allocated, and nothing
-    /// else changes it.
+    /// Takes a message that was read from bytes. In a kind whose clients commit by responses a
+    /// response to the open request is counted, and the one that makes the votes enough commits at
+    /// once. Nothing is allocated, and nothing else changes it.
     pub fn on(&mut self, alloc: Global, msg: &MsgRef<'_>) -> Marks
         requires received { IsReceived msg.now }
-        ensures client { (valid : Certificate → Option (List TheRequest)) → self.new ≡ after valid self.old (got (message msg.now)) }
-        ensures marks { (valid : Certificate → Option (List TheRequest)) → result.items ≡ marks valid self.old (got (message msg.now)) }
-        ensures outs { (valid : Certificate → Option (List TheRequest)) → sends valid self.old (got (message msg.now)) ≡ [] }
+        ensures client { self.new ≡ after self.old (cue_message (message msg.now)) }
+        ensures marks { result.items ≡ marks self.old (cue_message (message msg.now)) }
+        ensures outs { sends self.old (cue_message (message msg.now)) ≡ [] }
         ensures stamp { self.new.cli.stamp ≡ self.old.cli.stamp }
     {
         match msg {

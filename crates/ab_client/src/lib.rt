@@ -2,8 +2,12 @@
 #![tactic(auto)]
 
 mod client;
+mod laws;
+mod rules;
+mod sending;
 
 pub use client::{Client, InvokeFault};
+pub use laws::clients_act_by_their_cluster;
 
 #[cfg(test)]
 mod tests;

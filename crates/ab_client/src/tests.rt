@@ -51,6 +51,57 @@ fn committed(seen: &[Seen]) -> Option<u16> {
     }
 }
 
+/// To whom a client's first request goes.
+fn asked(alloc: Global, plan: Plan) -> Option<Vec<Party>> {
+    let c = Cluster::new(1, 2, plan)?;
+    let mut client = Client::new(&c, 1);
+    let (outs, _) = client.invoke(alloc, b"x").ok()?;
+    outs.as_slice().iter().map(|o| o.to).collect(alloc).ok()
+}
+
+#[test]
+fn the_kind_says_who_is_asked(rt: HostRuntime) -> Result<(), Fail> {
+    let alloc = rt.alloc();
+    let first = [Party::Replica(0)];
+    let all = [0, 1, 2, 3].map(Party::Replica);
+    for plan in [Plan::Quorum, Plan::Backup, Plan::Aliph] {
+        let to = asked(alloc, plan).ok_or("asked")?;
+        assert_eq!(rt; to.as_slice(), all.as_slice());
+    }
+    for plan in [Plan::ZLight, Plan::Chain, Plan::AZyzzyva] {
+        let to = asked(alloc, plan).ok_or("asked")?;
+        assert_eq!(rt; to.as_slice(), first.as_slice());
+    }
+    Ok(())
+}
+
+/// Which of the answers of replicas 0 to 3 commits, if one does.
+fn commits_at(alloc: Global, plan: Plan) -> Result<Option<u8>, OutOfMemory> {
+    let Some(c) = Cluster::new(1, 2, plan) else {
+        return Ok(None);
+    };
+    let mut client = Client::new(&c, 0);
+    if client.invoke(alloc, b"x").is_err() {
+        return Ok(None);
+    }
+    for by in 0..4u8 {
+        if counted(heard(alloc, &mut client, by, 7)?) == Some(1) {
+            return Ok(Some(by));
+        }
+    }
+    Ok(None)
+}
+
+#[test]
+fn the_kind_says_when_it_commits(rt: HostRuntime) -> Result<(), Fail> {
+    let alloc = rt.alloc();
+    clients_act_by_their_cluster();
+    assert_eq!(rt; commits_at(alloc, Plan::ZLight)?, Some(3));
+    assert_eq!(rt; commits_at(alloc, Plan::Backup)?, Some(1));
+    assert_eq!(rt; commits_at(alloc, Plan::Chain)?, None);
+    Ok(())
+}
+
 #[test]
 fn commands_are_refused(rt: HostRuntime) -> Result<(), Fail> {
     let alloc = rt.alloc();

@@ -103,6 +103,7 @@ tags_made-fit ring instance text some few =
 pub tagged-message : (ring : Ring) (m : Msg) → IsInBounds ring.f ring.clients → IsDraft m → IsMessage (tagged ring m)
 tagged-message ring (msg.Req content tags) bounds h = (h, tags_made-fit ring (instance_of content) (spell_content content) bounds.some_faulty bounds.few_faulty)
 tagged-message ring (msg.Resp content tag) bounds h = (h, length-answer_tag ring content (spell_content content))
+tagged-message ring _ bounds h = absurd h
 
 -- ---- messages are short
 
@@ -117,3 +118,4 @@ length-content_of_resp other h = absurd h
 pub length-message : (m : Msg) → IsMessage m → length (spell_message m) ≤ 4194304
 length-message (msg.Req content tags) h = omega (arith, length-req_message content tags h.1, length-content_of_req content h.0, h.1.0.1)
 length-message (msg.Resp content tag) h = omega (arith, length-resp_message content tag h.1, length-content_of_resp content h.0)
+length-message _ h = absurd h

@@ -1,6 +1,8 @@
 -- What ties sealing and opening.
 use Rattle.std.proofs.Common.{◌≡◌, ◌≤◌, ◌<◌, ℕ, zero, suc, Bool, true, false, not, ◌&&◌, cond, eqb, IsTrue, List, [], ◌∷◌, ◌++◌, map, length, replicate, unwrap_or, get_or, Option, Some, None, Result, Ok, Err, refl, sym, ap, ◌∙◌, arith, All}
-use Rattle.std.specs.List.{AllByRecursion, Contains, list_all}
+use Rattle.std.specs.List.{Contains, flat_map}
+use Rattle.ab_hist.specs.declared.request.Request.{Request}
+use Rattle.ab_hist.specs.Histories.{IsHistory}
 use Rattle.std.specs.Option.{option_map}
 use Rattle.std.proofs.lemmas.Bool.{false≢true, and_parts, and_right}
 use Rattle.std.proofs.lemmas.Bool.Decides.{Decides-eqb}
@@ -22,15 +24,16 @@ use Rattle.ab_msg.specs.declared.content.Content.TheVariants.{Req, Resp}
 use Rattle.ab_msg.specs.declared.message.Msg.{Msg}
 use Rattle.ab_msg.specs.declared.message.Msg.TheVariants as msg
 use Rattle.ab_msg.specs.declared.message.Out.{Out}
-use Rattle.ab_msg.specs.Claims.{maker_of, instance_of, content_of, claims_of}
+use Rattle.ab_msg.specs.Claims.{maker_of, instance_of, claims, fresh}
+use Rattle.ab_msg.specs.Carried.{goes_to_client, stated_history}
 use Rattle.ab_msg.specs.Grammar.{IsDraft, req_at, resp_at, IsReq, IsResp, IsContent, IsMessage, spell_content, spell_message}
 use Rattle.ab_msg.specs.Views.{tag_in}
 use Rattle.ab_msg.proofs.GrammarLemmas.{message-law, req-format, resp-format}
 use Rattle.ab_msg.proofs.SizeLemmas.{content-from_req, content-from_resp}
 use Rattle.ab_seal.specs.Receivers.{receivers}
-use Rattle.ab_seal.specs.Checks.{Check, checks_of, claims}
-use Rattle.ab_seal.specs.Opening.{is_answer_to, goes_to, parties_of, is_tag, takes, is_right, IsRight, checks, opening}
-use Rattle.ab_seal.specs.Sealing.{IsReceiver, tag_made, answer_tag, tagged, sealed}
+use Rattle.ab_seal.specs.Checks.{Check, checks_of}
+use Rattle.ab_seal.specs.Opening.{is_tag, takes, is_right, IsRight, checks, opening}
+use Rattle.ab_seal.specs.Sealing.{IsOwn, IsReceiver, tag_made, answer_tag, tagged, sealed}
 use Rattle.ab_seal.proofs.DraftLemmas.{tagged-message, length-message}
 use Rattle.ab_seal.proofs.OpenLemmas.{opens, same_tag, opened, opened_right}
 
@@ -51,17 +54,10 @@ tag_in-each t [] r h = absurd (omega (arith, h.1))
 tag_in-each t (x ∷ rs) r h = tag_in-first t x r rs (tag_in r (map (λ n. (n, t n)) rs)) (eqb x r) refl h.0 h.1 h.2 (tag_in-each t rs r)
 
 -- with tags a message is taken as without
-taken_request : (to : Ring) (content : Content) (tags made : ArrayVec (ℕ × List ℕ)) (p : Party) → goes_to p (msg.Req content made) ≡ goes_to p (msg.Req content tags)
-taken_request to content tags made (Replica r) = refl
-taken_request to content tags made (Client c) = refl
-
-taken_answer : (to : Ring) (content : Content) (tag made : List ℕ) (p : Party) → goes_to p (msg.Resp content made) ≡ goes_to p (msg.Resp content tag)
-taken_answer to content tag made (Replica r) = refl
-taken_answer to content tag made (Client c) = refl
-
 taken_tagged : (to from : Ring) (m : Msg) → takes to (tagged from m) ≡ takes to m
-taken_tagged to from (msg.Req content tags) = ap (λ b. b && list_all (is_party to.f to.clients) (parties_of content)) (taken_request to content tags _ to.me)
-taken_tagged to from (msg.Resp content tag) = ap (λ b. b && list_all (is_party to.f to.clients) (parties_of content)) (taken_answer to content tag _ to.me)
+taken_tagged to from (msg.Req content tags) = refl
+taken_tagged to from (msg.Resp content tag) = refl
+taken_tagged to from _ = refl
 
 -- the tag that a makes for b is there, and is the one that b wants from a
 agreed : (f clients : ℕ) (plan : Plan) (seed text : List ℕ) (a b : Party) → IsTrue (is_party f clients a) → IsTrue (is_party f clients b) → IsTrue (exchanges a b)
@@ -79,35 +75,46 @@ replica_exchanges (Resp (Replica r) instance client stamp n d reply) a c h made 
 replica_exchanges (Resp (Client x) instance client stamp n d reply) a c h made = absurd h.0
 replica_exchanges other a c h made = absurd h
 
-answer_made : (ring : Ring) (c : ℕ) (content : Content) (text : List ℕ) → is_answer_to c content ≡ true → answer_tag ring content text ≡ tag_made ring (Client c) text
+answer_made : (ring : Ring) (c : ℕ) (content : Content) (text : List ℕ) → goes_to_client content (Client c) ≡ true → answer_tag ring content text ≡ tag_made ring (Client c) text
 answer_made ring c (Resp maker instance client stamp n d reply) text e = ap (λ k. tag_made ring (Client k) text) ((Decides-eqb client c).0 e)
 answer_made ring c other text e = absurd (false≢true e)
 
+not_to_replica : (s : Content) (r : ℕ) → goes_to_client s (Replica r) ≡ false
+not_to_replica (Resp maker instance client stamp n d reply) r = refl
+not_to_replica _ r = refl
+
+only : (s : Content) → Contains (s ∷ []) s
+only s = (0, omega arith, refl)
+
 -- the tag for b that a makes of a message is right
 made_right : (f clients : ℕ) (plan : Plan) (seed : List ℕ) (a b : Party) (m : Msg) → IsTrue (is_party f clients a) → IsTrue (is_party f clients b)
-    → IsDraft m → maker_of (content_of m) ≡ a → takes (ring_of f clients plan seed b) m ≡ true → IsReceiver plan f b m
+    → IsDraft m → IsOwn f a m → takes (ring_of f clients plan seed b) m ≡ true → IsReceiver plan f b m
     → checks (ring_of f clients plan seed b) (tagged (ring_of f clients plan seed a) m) ≡ Ok tt
 made_right f clients plan seed a (Replica r) (msg.Req content tags) a_in b_in draft made taken receives =
     let of_a = ring_of f clients plan seed a in
     let of_b = ring_of f clients plan seed (Replica r) in
     let text = spell_content content in
+    let by_a = made content (only content) in
     let wanted : tag_from of_b (maker_of content) text ≡ Some (tag_made of_a (Replica r) text)
-    = ap (λ p. tag_from of_b p text) made ∙ agreed f clients plan seed text a (Replica r) a_in b_in (client_exchanges content a r draft made) in
+    = ap (λ p. tag_from of_b p text) by_a ∙ agreed f clients plan seed text a (Replica r) a_in b_in (client_exchanges content a r draft by_a) in
     let there = tag_in-each (λ n. tag_made of_a (Replica n) text) (receivers plan f (instance_of content)) r receives in
     ap (λ x. cond x (Ok tt) (Err 0)) (same_tag _ _ (tag_made of_a (Replica r) text) wanted there)
 made_right f clients plan seed a (Client c) (msg.Req content tags) a_in b_in draft made taken receives = absurd receives
-made_right f clients plan seed a (Replica r) (msg.Resp content tag) a_in b_in draft made taken receives = absurd (false≢true taken)
+made_right f clients plan seed a (Replica r) (msg.Resp content tag) a_in b_in draft made taken receives =
+    absurd (false≢true (sym (not_to_replica content r) ∙ (and_parts (goes_to_client content (Replica r)) _ taken).0))
 made_right f clients plan seed a (Client c) (msg.Resp content tag) a_in b_in draft made taken receives =
     let of_a = ring_of f clients plan seed a in
     let of_b = ring_of f clients plan seed (Client c) in
     let text = spell_content content in
+    let by_a = made content (only content) in
     let wanted : tag_from of_b (maker_of content) text ≡ Some (tag_made of_a (Client c) text)
-    = ap (λ p. tag_from of_b p text) made ∙ agreed f clients plan seed text a (Client c) a_in b_in (replica_exchanges content a c draft made) in
-    let there = ap Some (answer_made of_a c content text (and_parts (is_answer_to c content) _ taken).0) in
+    = ap (λ p. tag_from of_b p text) by_a ∙ agreed f clients plan seed text a (Client c) a_in b_in (replica_exchanges content a c draft by_a) in
+    let there = ap Some (answer_made of_a c content text (and_parts (goes_to_client content (Client c)) _ taken).0) in
     ap (λ x. cond x (Ok tt) (Err 0)) (same_tag _ _ (tag_made of_a (Client c) text) wanted there)
+made_right f clients plan seed a b _ a_in b_in draft made taken receives = absurd draft
 
 tagged_opens : (f clients : ℕ) (plan : Plan) (seed : List ℕ) (a b : Party) (m : Msg) → IsInBounds f clients → IsTrue (is_party f clients a) → IsTrue (is_party f clients b)
-    → IsDraft m → maker_of (content_of m) ≡ a → takes (ring_of f clients plan seed b) m ≡ true → IsReceiver plan f b m
+    → IsDraft m → IsOwn f a m → takes (ring_of f clients plan seed b) m ≡ true → IsReceiver plan f b m
     → opening (ring_of f clients plan seed b) (spell_message (tagged (ring_of f clients plan seed a) m)) ≡ Ok (tagged (ring_of f clients plan seed a) m)
 tagged_opens f clients plan seed a b m bounds a_in b_in draft made taken receives =
     let of_a = ring_of f clients plan seed a in
@@ -116,7 +123,7 @@ tagged_opens f clients plan seed a b m bounds a_in b_in draft made taken receive
     (taken_tagged of_b of_a m ∙ taken) (made_right f clients plan seed a b m a_in b_in draft made taken receives)
 
 pub sealed_opens : (f clients : ℕ) (plan : Plan) (seed : List ℕ) (a b : Party) (o : Out) → IsInBounds f clients → IsTrue (is_party f clients a) → IsTrue (is_party f clients b)
-    → IsDraft o.msg → maker_of (content_of o.msg) ≡ a → IsTrue (takes (ring_of f clients plan seed b) o.msg) → IsReceiver plan f b o.msg
+    → IsDraft o.msg → IsOwn f a o.msg → IsTrue (takes (ring_of f clients plan seed b) o.msg) → IsReceiver plan f b o.msg
     → opening (ring_of f clients plan seed b) (sealed (ring_of f clients plan seed a) o) ≡ Ok (tagged (ring_of f clients plan seed a) o.msg)
 sealed_opens f clients plan seed a b o bounds a_in b_in draft made taken receives = tagged_opens f clients plan seed a b o.msg bounds a_in b_in draft made taken receives
 
@@ -138,22 +145,50 @@ pub seeded_right : (f clients : ℕ) (plan : Plan) (seed : List ℕ) (me : Party
 seeded_right f clients plan seed me bytes m e =
     All-weaker (IsRight (ring_of f clients plan seed me)) _ (seeded f clients plan seed me) (checks_of me m) (opened_right (ring_of f clients plan seed me) bytes m e)
 
-pub claims-contents : (me : Party) (m : Msg) → map (λ c. c.1) (claims me m) ≡ claims_of m
-claims-contents me (msg.Req content tags) = refl
-claims-contents me (msg.Resp content tag) = refl
+-- a message of the grammar claims the contents that are checked
+pub claims-checked : (f : ℕ) (me : Party) (m : Msg) → IsMessage m → map (λ k. k.content) (checks_of me m) ≡ claims f me m
+claims-checked f me (msg.Req content tags) h = refl
+claims-checked f me (msg.Resp content tag) h = refl
+claims-checked f me _ h = absurd h
 
 -- ---- what was opened is of the grammar
 
-claims_of_grammar : (me : Party) (m : Msg) → IsMessage m → AllByRecursion (λ (c : Party × Content). IsContent c.1) (claims me m)
-claims_of_grammar me (msg.Req content tags) h = (content-from_req content h.0, tt)
-claims_of_grammar me (msg.Resp content tag) h = (content-from_resp content h.0, tt)
+one_of_grammar : (s : Content) → IsContent s → All IsContent (s ∷ [])
+one_of_grammar s is = All-from_recursion IsContent (s ∷ []) (is, tt)
+
+claims_of_grammar : (f : ℕ) (me : Party) (m : Msg) → IsMessage m → All IsContent (claims f me m)
+claims_of_grammar f me (msg.Req content tags) h = one_of_grammar content (content-from_req content h.0)
+claims_of_grammar f me (msg.Resp content tag) h = one_of_grammar content (content-from_resp content h.0)
+claims_of_grammar f me _ h = absurd h
+
+-- a request and an answer state no history
+no_history : {A : Type 0} (h : List Request) → Contains [] h → A
+no_history h has = absurd (omega (arith, has.1))
+
+history_of_req : {A : Type 0} (s : Content) → IsReq s → (h : List Request) → Contains (flat_map stated_history (s ∷ [])) h → A
+history_of_req (Req maker instance m) is h has = no_history h has
+history_of_req other is h has = absurd is
+
+history_of_resp : {A : Type 0} (s : Content) → IsResp s → (h : List Request) → Contains (flat_map stated_history (s ∷ [])) h → A
+history_of_resp (Resp maker instance client stamp n d reply) is h has = no_history h has
+history_of_resp other is h has = absurd is
+
+pub histories_rise : (f : ℕ) (me : Party) (m : Msg) → IsMessage m → (h : List Request) → Contains (flat_map stated_history (claims f me m)) h → IsHistory h
+histories_rise f me (msg.Req content tags) is h has = history_of_req content is.0 h has
+histories_rise f me (msg.Resp content tag) is h has = history_of_resp content is.0 h has
+histories_rise f me _ is h has = absurd is
+
+pub drafts_of_grammar : (f : ℕ) (p : Party) (m : Msg) → IsDraft m → All IsContent (fresh f p m)
+drafts_of_grammar f p (msg.Req content tags) h = one_of_grammar content (content-from_req content h)
+drafts_of_grammar f p (msg.Resp content tag) h = one_of_grammar content (content-from_resp content h)
+drafts_of_grammar f p _ h = absurd h
 
 pub opened_of_grammar : (ring : Ring) (bytes : List ℕ) (m : Msg) → IsBytes bytes → opening ring bytes ≡ Ok m
-    → IsMessage m × (bytes ≡ spell_message m) × IsTrue (takes ring m) × All (λ c. IsContent c.1) (claims ring.me m)
+    → IsMessage m × (bytes ≡ spell_message m) × IsTrue (takes ring m) × All IsContent (claims ring.f ring.me m)
 opened_of_grammar ring bytes m fits e =
     let facts = opened ring bytes m e in
     let read = message-law.takes bytes m fits facts.0 in
-    (read.1, read.0, facts.1, All-from_recursion (λ c. IsContent c.1) (claims ring.me m) (claims_of_grammar ring.me m read.1))
+    (read.1, read.0, facts.1, claims_of_grammar ring.f ring.me m read.1)
 
 -- ---- own statements
 

@@ -1,18 +1,15 @@
 -- When a party takes the bytes of a message.
-use Rattle.std.specs.Prelude.{◌≡◌, ℕ, suc, List, [], ◌∷◌, Bool, true, false, ◌&&◌, ◌==◌, Option, Some, None, Result, Ok, Err, if◌then◌else◌}
+use Rattle.std.specs.Prelude.{◌≡◌, ℕ, suc, List, [], ◌∷◌, Bool, false, ◌&&◌, Option, Some, None, Result, Ok, Err, if◌then◌else◌}
 use Rattle.std.specs.List.{list_all}
 use Rattle.std.specs.Str.{bytes_eq}
 use Rattle.ab_num.specs.declared.party.Party.{Party}
-use Rattle.ab_num.specs.declared.party.Party.TheVariants.{Replica, Client}
 use Rattle.ab_mac.specs.Tags.{hmac}
 use Rattle.ab_form.specs.declared.bad.Bad.{Bad}
 use Rattle.ab_keys.specs.Keys.{is_party}
 use Rattle.ab_keys.specs.Rings.{Ring, key_from, tag_from}
-use Rattle.ab_msg.specs.declared.content.Content.{Content}
-use Rattle.ab_msg.specs.declared.content.Content.TheVariants.{Req, Resp}
 use Rattle.ab_msg.specs.declared.message.Msg.{Msg}
-use Rattle.ab_msg.specs.declared.message.Msg.TheVariants as msg
-use Rattle.ab_msg.specs.Claims.{maker_of, content_of}
+use Rattle.ab_msg.specs.Claims.{maker_of}
+use Rattle.ab_msg.specs.Carried.{goes_to, parties_of}
 use Rattle.ab_msg.specs.Grammar.{spell_content, message_of}
 use Rattle.ab_seal.specs.declared.fault.OpenFault.{OpenFault}
 use Rattle.ab_seal.specs.declared.fault.OpenFault.TheVariants as fault
@@ -20,27 +17,9 @@ use Rattle.ab_seal.specs.Checks.{Check, checks_of}
 
 -- ---- which messages a party takes
 
--- whether a content is an answer to this client
-abbrev pub is_answer_to : ℕ → Content → Bool
-is_answer_to c (Resp maker instance client stamp n d reply) = client == c
-is_answer_to c _ = false
-
--- whether a message goes to a party: a request to a replica, an answer to its client
-abbrev pub goes_to : Party → Msg → Bool
-goes_to (Replica r) (msg.Req content tags) = true
-goes_to (Replica r) (msg.Resp content tag) = false
-goes_to (Client c) (msg.Req content tags) = false
-goes_to (Client c) (msg.Resp content tag) = is_answer_to c content
-
--- the parties of a content: its maker, and the client of its request; a row that is not built has none yet
-abbrev pub parties_of : Content → List Party
-parties_of (Req maker instance request) = maker ∷ Client request.client ∷ []
-parties_of (Resp maker instance client stamp n d reply) = maker ∷ Client client ∷ []
-parties_of _ = []
-
 -- whether the ring's party takes a message: it goes to it, and names only parties of the cluster
 abbrev pub takes : Ring → Msg → Bool
-takes ring m = goes_to ring.me m && list_all (is_party ring.f ring.clients) (parties_of (content_of m))
+takes ring m = goes_to m ring.me && list_all (is_party ring.f ring.clients) (parties_of ring.f ring.me m)
 
 -- ---- tags
 

@@ -1,5 +1,5 @@
 -- Messages with the tags of their makers.
-use Rattle.std.specs.Prelude.{ℕ, List, map, replicate, unwrap_or}
+use Rattle.std.specs.Prelude.{◌≡◌, ℕ, List, map, replicate, unwrap_or}
 use Rattle.std.specs.List.{Contains}
 use Rattle.ab_num.specs.declared.party.Party.{Party}
 use Rattle.ab_num.specs.declared.party.Party.TheVariants.{Replica, Client}
@@ -10,7 +10,7 @@ use Rattle.ab_msg.specs.declared.content.Content.TheVariants.{Resp}
 use Rattle.ab_msg.specs.declared.message.Msg.{Msg}
 use Rattle.ab_msg.specs.declared.message.Msg.TheVariants as msg
 use Rattle.ab_msg.specs.declared.message.Out.{Out}
-use Rattle.ab_msg.specs.Claims.{instance_of}
+use Rattle.ab_msg.specs.Claims.{instance_of, maker_of, fresh}
 use Rattle.ab_msg.specs.Grammar.{spell_content, spell_message}
 use Rattle.ab_seal.specs.Receivers.{receivers}
 
@@ -31,12 +31,18 @@ answer_tag ring _ text = replicate 32 0
 abbrev pub tagged : Ring → Msg → Msg
 tagged ring (msg.Req content tags) = msg.Req content (record { items = tags_made ring (instance_of content) (spell_content content) })
 tagged ring (msg.Resp content tag) = msg.Resp content (answer_tag ring content (spell_content content))
+tagged ring m = m
+
+-- whatever in the message needs the tag or the signature of its sender p, p states
+abbrev pub IsOwn : ℕ → Party → Msg → Type 0
+IsOwn f p m = (s : Content) → Contains (fresh f p m) s → maker_of s ≡ p
 
 -- the party is one for whom the message has a tag: a receiver of a request, or whoever takes an answer
 abbrev pub IsReceiver : Plan → ℕ → Party → Msg → Type 0
 IsReceiver plan f (Replica r) (msg.Req content tags) = Contains (receivers plan f (instance_of content)) r
 IsReceiver plan f (Client c) (msg.Req content tags) = ⊥
 IsReceiver plan f p (msg.Resp content tag) = Unit {0}
+IsReceiver plan f p _ = ⊥
 
 -- its bytes
 abbrev pub sealed : Ring → Out → List ℕ

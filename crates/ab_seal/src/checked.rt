@@ -1,8 +1,8 @@
 //! A message that was opened.
 
-ghost use Rattle.std.specs.Prelude.{◌≡◌};
+ghost use Rattle.std.specs.Prelude.{◌≡◌, ℕ};
 ghost use Rattle.ab_msg.specs.Views.{IsReceived, message};
-ghost use Rattle.ab_seal.specs.Checks.{stated};
+ghost use Rattle.ab_seal.specs.Checks.{spelled_claims};
 
 use crate::stated::Stated;
 use ab_msg::MsgRef;
@@ -53,9 +53,9 @@ impl<'a> Checked<'a> {
     }
 
     /// The makers of the contents that were checked, in their order, each with the bytes of its
-    /// content.
+    /// content, however many may be faulty.
     pub fn stated(&self) -> Stated<'a>
-        ensures { result ≡ stated self.now.me self.now.msg }
+        ensures { (f : ℕ) → result ≡ spelled_claims f self.now.me self.now.msg }
     {
         Stated::one(self.msg.content().maker(), self.msg.content_bytes())
     }

@@ -2,7 +2,9 @@
 
 ghost use Rattle.std.specs.Prelude.{◌↔◌, IsTrue};
 ghost use Rattle.ab_msg.specs.Grammar.{IsDraft};
+ghost use Rattle.ab_seal.specs.Sealing.{IsOwn};
 
+use ab_keys::KeyRing;
 use ab_msg::{Content, Msg, is_content};
 
 /// Whether the message is one of the grammar but for the tags of its maker, whatever stands in their
@@ -19,5 +21,17 @@ pub fn is_draft(m: &Msg) -> bool
             Content::Resp { .. } => is_content(content),
             _ => false,
         },
+        _ => false,
+    }
+}
+
+/// Whether the ring's party states what a draft needs its tags for.
+pub fn is_own(k: &KeyRing, m: &Msg) -> bool
+    ensures { IsDraft m.now → (IsTrue result ↔ IsOwn k.now.f k.now.me m.now) }
+{
+    match m {
+        Msg::Req { content, tags: _ } => content.maker() == k.me(),
+        Msg::Resp { content, tag: _ } => content.maker() == k.me(),
+        _ => false,
     }
 }

@@ -1,6 +1,6 @@
 //! What ties sealing and opening.
 
-ghost use Rattle.std.specs.Prelude.{◌≡◌, ◌≤◌, ℕ, List, map, length, Bool, false, Ok, Some, IsTrue, All};
+ghost use Rattle.std.specs.Prelude.{◌≡◌, ◌≤◌, ℕ, List, map, length, Bool, false, Ok, Some, IsTrue, All, Contains, flat_map};
 ghost use Rattle.ab_num.specs.declared.party.Party.{Party};
 ghost use Rattle.ab_num.specs.declared.plan.Plan.{Plan};
 ghost use Rattle.ab_num.specs.Bounds.{IsInBounds};
@@ -11,16 +11,21 @@ ghost use Rattle.ab_keys.specs.Rings.{Ring, exchanges_in, ring_of};
 ghost use Rattle.ab_msg.specs.declared.content.Content.{Content};
 ghost use Rattle.ab_msg.specs.declared.message.Msg.{Msg as Message};
 ghost use Rattle.ab_msg.specs.declared.message.Out.{Out as Sent};
-ghost use Rattle.ab_msg.specs.Claims.{claims_of, content_of, maker_of};
+ghost use Rattle.ab_hist.specs.declared.request.Request.{Request as Entry};
+ghost use Rattle.ab_hist.specs.Histories.{IsHistory};
+ghost use Rattle.ab_msg.specs.Claims.{claims, fresh, maker_of};
+ghost use Rattle.ab_msg.specs.Carried.{stated_history};
 ghost use Rattle.ab_msg.specs.Grammar.{IsDraft, IsContent, IsMessage, spell_content, spell_message};
-ghost use Rattle.ab_seal.specs.Checks.{Check, checks_of, claims};
+ghost use Rattle.ab_seal.specs.Checks.{Check, checks_of};
 ghost use Rattle.ab_seal.specs.Opening.{IsRight, is_right, opening, takes};
-ghost use Rattle.ab_seal.specs.Sealing.{IsReceiver, sealed, tagged};
+ghost use Rattle.ab_seal.specs.Sealing.{IsOwn, IsReceiver, sealed, tagged};
 
-/// With its tags a draft is a message of the grammar, of at most 4,194,304 bytes.
+/// With its tags a draft is a message of the grammar, of at most 4,194,304 bytes, and what needs its
+/// sender's tags is of the grammar.
 pub fn drafts_are_sealed_as_messages()
     ensures grammar { (ring : Ring) (m : Message) → IsInBounds ring.f ring.clients → IsDraft m → IsMessage (tagged ring m) }
     ensures size { (ring : Ring) (o : Sent) → IsInBounds ring.f ring.clients → IsDraft o.msg → length (sealed ring o) ≤ 4194304 }
+    ensures contents { (f : ℕ) (p : Party) (m : Message) → IsDraft m → All IsContent (fresh f p m) }
 {}
 
 /// What `a` seals, `b` opens as the message with its tags, where `b` takes it and is one for whom it
@@ -28,7 +33,7 @@ pub fn drafts_are_sealed_as_messages()
 pub fn sealed_messages_open()
     ensures { (f clients : ℕ) (plan : Plan) (seed : List ℕ) (a b : Party) (o : Sent)
         → IsInBounds f clients → IsTrue (is_party f clients a) → IsTrue (is_party f clients b)
-        → IsDraft o.msg → maker_of (content_of o.msg) ≡ a
+        → IsDraft o.msg → IsOwn f a o.msg
         → IsTrue (takes (ring_of f clients plan seed b) o.msg) → IsReceiver plan f b o.msg
         → opening (ring_of f clients plan seed b) (sealed (ring_of f clients plan seed a) o) ≡ Ok (tagged (ring_of f clients plan seed a) o.msg) }
 {}
@@ -41,14 +46,15 @@ pub fn opened_messages_are_checked()
     ensures seed { (f clients : ℕ) (plan : Plan) (seed : List ℕ) (me : Party) (bytes : List ℕ) (m : Message)
         → opening (ring_of f clients plan seed me) bytes ≡ Ok m
         → All (λ k. IsTrue (exchanges_in f clients me (maker_of k.content)) × (k.tag ≡ Some (hmac (key_of seed (maker_of k.content) me) (spell_content k.content)))) (checks_of me m) }
-    ensures claims { (me : Party) (m : Message) → map (λ c. c.1) (claims me m) ≡ claims_of m }
+    ensures claims { (f : ℕ) (me : Party) (m : Message) → IsMessage m → map (λ k. k.content) (checks_of me m) ≡ claims f me m }
 {}
 
-/// A message that opens is of the grammar and its bytes spell it, its receiver takes it, and each of
-/// its claims is a content of the grammar.
+/// A message that opens is of the grammar and its bytes spell it, its receiver takes it, each of its
+/// claims is a content of the grammar, and the stamps of the histories in them rise.
 pub fn opened_messages_are_of_the_grammar()
-    ensures { (ring : Ring) (bytes : List ℕ) (m : Message) → IsBytes bytes → opening ring bytes ≡ Ok m
-        → IsMessage m × (bytes ≡ spell_message m) × IsTrue (takes ring m) × All (λ c. IsContent c.1) (claims ring.me m) }
+    ensures grammar { (ring : Ring) (bytes : List ℕ) (m : Message) → IsBytes bytes → opening ring bytes ≡ Ok m
+        → IsMessage m × (bytes ≡ spell_message m) × IsTrue (takes ring m) × All IsContent (claims ring.f ring.me m) }
+    ensures histories { (f : ℕ) (me : Party) (m : Message) → IsMessage m → (h : List Entry) → Contains (flat_map stated_history (claims f me m)) h → IsHistory h }
 {}
 
 /// Under the ring that a seed gives, no tag is right over a content that the ring's party itself made.

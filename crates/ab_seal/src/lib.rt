@@ -15,7 +15,7 @@ mod stated;
 pub use checked::Checked;
 pub use claimed::Claims;
 pub use claiming::claims;
-pub use drafts::is_draft;
+pub use drafts::{is_draft, is_own};
 pub use fault::OpenFault;
 pub use laws::{
     contents_have_their_own_bytes, drafts_are_sealed_as_messages, opened_messages_are_checked,

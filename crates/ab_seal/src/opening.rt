@@ -5,9 +5,10 @@ ghost use Rattle.std.specs.List.{list_all};
 ghost use Rattle.std.specs.Option.{option_map};
 ghost use Rattle.ab_keys.specs.Keys.{is_party};
 ghost use Rattle.ab_keys.specs.Rings.{tag_from};
+ghost use Rattle.ab_msg.specs.Carried.{goes_to, goes_to_client, parties_of_content};
 ghost use Rattle.ab_msg.specs.Views.{IsReceived, content, message, tags};
 ghost use Rattle.ab_seal.specs.Checks.{tag_of};
-ghost use Rattle.ab_seal.specs.Opening.{checks, goes_to, is_answer_to, is_tag, opening, parties_of, takes};
+ghost use Rattle.ab_seal.specs.Opening.{checks, is_tag, opening, takes};
 
 use crate::checked::Checked;
 use crate::fault::OpenFault;
@@ -17,7 +18,7 @@ use ab_num::{Cluster, Party};
 
 /// Whether a content is an answer to this client.
 fn is_answer_to(c: u16, given: &ContentRef<'_>) -> bool
-    ensures { result ≡ is_answer_to c (content given.now) }
+    ensures { result ≡ goes_to_client (content given.now) (Party.Client c) }
 {
     match given {
         ContentRef::Resp { client, .. } => *client == c,
@@ -27,7 +28,7 @@ fn is_answer_to(c: u16, given: &ContentRef<'_>) -> bool
 
 /// Whether a message goes to a party: a request to a replica, an answer to its client.
 fn goes_to(me: Party, m: &MsgRef<'_>) -> bool
-    ensures { result ≡ goes_to me (message m.now) }
+    ensures { result ≡ goes_to (message m.now) me }
 {
     match (me, m) {
         (Party::Replica(_), MsgRef::Req { .. }) => true,
@@ -39,7 +40,7 @@ fn goes_to(me: Party, m: &MsgRef<'_>) -> bool
 
 /// Whether a cluster has the parties of a content.
 fn has_parties(c: &Cluster, given: &ContentRef<'_>) -> bool
-    ensures { result ≡ list_all (is_party c.now.f c.now.clients) (parties_of (content given.now)) }
+    ensures { result ≡ list_all (is_party c.now.f c.now.clients) (parties_of_content (content given.now)) }
 {
     match given {
         ContentRef::Req { maker, request, .. } => {

@@ -3,9 +3,9 @@
 ghost use Rattle.std.specs.Prelude.{◌≡◌, ◌+◌, ◌≤◌, ◌++◌, length, drop, replicate, unwrap_or, IfOk};
 ghost use Rattle.ab_keys.specs.Rings.{tag_to};
 ghost use Rattle.ab_form.specs.Formats.{u8_bytes};
-ghost use Rattle.ab_msg.specs.Claims.{content_of, instance_of, maker_of};
+ghost use Rattle.ab_msg.specs.Claims.{instance_of};
 ghost use Rattle.ab_msg.specs.Grammar.{IsDraft, IsContent, spell_content};
-ghost use Rattle.ab_seal.specs.Sealing.{answer_tag, sealed, tag_made, tags_made};
+ghost use Rattle.ab_seal.specs.Sealing.{IsOwn, answer_tag, sealed, tag_made, tags_made};
 
 use crate::receivers::is_receiver;
 use ab_form::{put_bytes, put_u8};
@@ -61,7 +61,7 @@ fn begun(alloc: Global, code: u8, content: &Content, room: usize) -> Result<Vec<
 /// The bytes of a message with the tags of its maker, whose ring this is.
 pub fn seal(alloc: Global, k: &KeyRing, o: &Out) -> Result<Vec<u8>, OutOfMemory>
     requires draft { IsDraft o.now.msg }
-    requires maker { maker_of (content_of o.now.msg) ≡ k.now.me }
+    requires maker { IsOwn k.now.f k.now.me o.now.msg }
     ensures { IfOk result (λ v. v.items ≡ sealed k.now o.now) }
 {
     match &o.msg {
@@ -78,5 +78,6 @@ pub fn seal(alloc: Global, k: &KeyRing, o: &Out) -> Result<Vec<u8>, OutOfMemory>
             put_bytes(alloc, &mut out, &tag)?;
             Ok(out)
         }
+        _ => unreachable!(),
     }
 }

@@ -6,7 +6,7 @@ use ab_form::Bad;
 use ab_hist::Request;
 use ab_keys::{KeyRing, is_party};
 use ab_msg::{Content, Msg, NO_TAG, Out, Tags};
-use ab_num::{Cluster, Party, Plan};
+use ab_num::{Cluster, OutOfMemory, Party, Plan};
 use arrayvec::ArrayVec;
 use std::alloc::Global;
 use std::process::Abort;
@@ -93,15 +93,22 @@ fn no(replica: u8) -> Msg {
     }
 }
 
-fn sealed(alloc: Global, k: &KeyRing, msg: Msg) -> Result<Vec<u8>, Fail> {
-    let o = Out {
-        to: Party::Replica(0),
-        msg,
-    };
-    if !is_draft(&o.msg) || o.msg.content().maker() != k.me() {
-        return Err(Fail::from("a draft of this party"));
+/// The bytes of a message that is a draft of the ring's party.
+fn sealed_draft(alloc: Global, k: &KeyRing, o: &Out) -> Result<Option<Vec<u8>>, OutOfMemory> {
+    if !is_draft(&o.msg) || !is_own(k, &o.msg) {
+        return Ok(None);
     }
-    Ok(seal(alloc, k, &o)?)
+    Ok(Some(seal(alloc, k, o)?))
+}
+
+fn sealed_message(alloc: Global, k: &KeyRing, msg: Msg) -> Result<Option<Vec<u8>>, OutOfMemory> {
+    let to = Party::Replica(0);
+    let o = Out { to, msg };
+    sealed_draft(alloc, k, &o)
+}
+
+fn sealed(alloc: Global, k: &KeyRing, msg: Msg) -> Result<Vec<u8>, Fail> {
+    Ok(sealed_message(alloc, k, msg)?.ok_or("a draft of this party")?)
 }
 
 /// Why bytes are not taken.

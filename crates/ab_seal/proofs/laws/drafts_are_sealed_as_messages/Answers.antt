@@ -1,5 +1,5 @@
 use Rattle.ab_seal.proofs.DraftLemmas.{tagged-message}
-use Rattle.ab_seal.proofs.LawLemmas.{length-sealed}
+use Rattle.ab_seal.proofs.LawLemmas.{length-sealed, drafts_of_grammar}
 use Rattle.ab_seal.proofs.laws.drafts_are_sealed_as_messages.Goals as goal
 
 pub returns-clause-grammar : goal.returns-clause-grammar
@@ -7,3 +7,6 @@ returns-clause-grammar c = tagged-message
 
 pub returns-clause-size : goal.returns-clause-size
 returns-clause-size c = length-sealed
+
+pub returns-clause-contents : goal.returns-clause-contents
+returns-clause-contents c = drafts_of_grammar

@@ -1,5 +1,5 @@
 use Rattle.ab_seal.proofs.OpenLemmas.{opened_right}
-use Rattle.ab_seal.proofs.LawLemmas.{seeded_right, claims-contents}
+use Rattle.ab_seal.proofs.LawLemmas.{seeded_right, claims-checked}
 use Rattle.ab_seal.proofs.laws.opened_messages_are_checked.Goals as goal
 
 pub returns-clause-right : goal.returns-clause-right
@@ -9,4 +9,4 @@ pub returns-clause-seed : goal.returns-clause-seed
 returns-clause-seed c = seeded_right
 
 pub returns-clause-claims : goal.returns-clause-claims
-returns-clause-claims c = claims-contents
+returns-clause-claims c = claims-checked

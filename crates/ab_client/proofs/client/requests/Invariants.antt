@@ -1,6 +1,0 @@
-use Rattle.std.proofs.Common.{◌≡◌}
-use Rattle.ab_run.specs.Clients.{to_all, request_msg}
-use Rattle.ab_client.proofs.client.requests.Given as goal
-
-abbrev pub invariant-loop-r : goal.invariant-loop-r
-invariant-loop-r l = l.outs ≡ to_all l.r (request_msg l.instance l.request.client l.request)
