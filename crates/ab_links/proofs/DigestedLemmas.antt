@@ -171,7 +171,7 @@ BeginsIn-more hs more (history h n) known = Continues-more hs more h n known
 BeginsIn-more hs more (request m) known = tt
 
 -- a part of what has no collision has none
-fewer : (hs more : List (List Request)) (ms others : List Request) → HasNoCollision (hs ++ more) (ms ++ others) → HasNoCollision hs ms
+pub fewer : (hs more : List (List Request)) (ms others : List Request) → HasNoCollision (hs ++ more) (ms ++ others) → HasNoCollision hs ms
 fewer hs more ms others free =
     let (asked, bases) = apart_from_slots (hs ++ more) (ms ++ others) free.slots in
     record {
