@@ -59,20 +59,20 @@ the_same xs i s t at lt read = some_injective s t (sym at ∙ slice_get_read xs 
 -- ---- events
 
 module _ {P : Type 0} (proto : Proto P) (x : Cast P) (is : IsCast proto x) where
-  later_seat : (c : ℕ) (s : Seat) → IsSeat x.setup.f x.events c s → IsSeat x.setup.f (x.events + 1) c s
+  later_seat : (c : ℕ) (s : Seat) → IsSeat x.setup.cluster.f x.events c s → IsSeat x.setup.cluster.f (x.events + 1) c s
   later_seat c s at = record { own = at.own; faults = at.faults; stamp = omega (arith, at.stamp) }
 
-  later_seats : AreSeats x.setup.f (x.events + 1) x.clients
+  later_seats : AreSeats x.setup.cluster.f (x.events + 1) x.clients
   later_seats c s at = later_seat c s (is.seats c s at)
 
-  later_twins : AreTwinSeats x.setup.f (x.events + 1) (client_twins x.setup.faulty) x.client_twins
+  later_twins : AreTwinSeats x.setup.cluster.f (x.events + 1) (client_twins x.setup.faulty) x.client_twins
   later_twins at k s number there = later_seat k.0 s (is.twin_seats at k s number there)
 
   -- a client goes on
   abbrev pub GoesOn : Seat → Seat → Type 0
   GoesOn s now = (now.me ≡ s.me) × ((now.f ≡ s.f) × (now.cli.stamp ≤ s.cli.stamp + 1))
 
-  moved_seat : (c : ℕ) (s now : Seat) → GoesOn s now → IsSeat x.setup.f x.events c s → IsSeat x.setup.f (x.events + 1) c now
+  moved_seat : (c : ℕ) (s now : Seat) → GoesOn s now → IsSeat x.setup.cluster.f x.events c s → IsSeat x.setup.cluster.f (x.events + 1) c now
   moved_seat c s now goes at = record { own = goes.0 ∙ at.own; faults = goes.1.0 ∙ at.faults; stamp = omega (arith, goes.1.1, at.stamp) }
 
   pub IsCast-next : x.events < 100000 → IsCast proto (next x)
@@ -132,7 +132,7 @@ module _ {P : Type 0} (proto : Proto P) (x : Cast P) (is : IsCast proto x) where
       all_client_twins = is.all_client_twins;
       own_replicas = is.own_replicas;
       twin_replicas = is.twin_replicas;
-      seats = subst (AreSeats x.setup.f (x.events + 1)) (sym set) (Each-set (IsSeat x.setup.f (x.events + 1)) x.clients at s now there (moved_seat at s now goes (is.seats at s there)) later_seats);
+      seats = subst (AreSeats x.setup.cluster.f (x.events + 1)) (sym set) (Each-set (IsSeat x.setup.cluster.f (x.events + 1)) x.clients at s now there (moved_seat at s now goes (is.seats at s there)) later_seats);
       twin_seats = later_twins;
       few_events = omega (arith, few);
     }
@@ -148,8 +148,8 @@ module _ {P : Type 0} (proto : Proto P) (x : Cast P) (is : IsCast proto x) where
       own_replicas = is.own_replicas;
       twin_replicas = is.twin_replicas;
       seats = later_seats;
-      twin_seats = subst (λ (ts : List Seat). AreTwinSeats x.setup.f (x.events + 1) (client_twins x.setup.faulty) ts) (sym set)
-          (λ i k t number here. Each-set (λ j t. (k : ℕ × ℕ) → slice_get (client_twins x.setup.faulty) j ≡ Some k → IsSeat x.setup.f (x.events + 1) k.0 t) x.client_twins at s now there
+      twin_seats = subst (λ (ts : List Seat). AreTwinSeats x.setup.cluster.f (x.events + 1) (client_twins x.setup.faulty) ts) (sym set)
+          (λ i k t number here. Each-set (λ j t. (k : ℕ × ℕ) → slice_get (client_twins x.setup.faulty) j ≡ Some k → IsSeat x.setup.cluster.f (x.events + 1) k.0 t) x.client_twins at s now there
           (λ k number. moved_seat k.0 s now goes (is.twin_seats at k s number there)) (λ j t here k number. later_twins j k t number here) i t here k number);
       few_events = omega (arith, few);
     }
@@ -197,14 +197,14 @@ module _ {P : Type 0} (proto : Proto P) (x : Cast P) (is : IsCast proto x) where
   pub client_twin_at : (c at : ℕ) → IsThere x.setup (place.ClientTwin c at) → (s : Seat) × (slice_get x.client_twins at ≡ Some s)
   client_twin_at c at there = get_there x.client_twins at (omega (arith, slice_get_within (client_twins x.setup.faulty) at there.1.0 there.1.1.0, is.all_client_twins))
 
-  pub seat_at : (c at : ℕ) (s : Seat) → IsThere x.setup (place.ClientTwin c at) → slice_get x.client_twins at ≡ Some s → IsSeat x.setup.f x.events c s
-  seat_at c at s there here = subst (λ (d : ℕ). IsSeat x.setup.f x.events d s) there.1.1.1 (is.twin_seats at there.1.0 s there.1.1.0 here)
+  pub seat_at : (c at : ℕ) (s : Seat) → IsThere x.setup (place.ClientTwin c at) → slice_get x.client_twins at ≡ Some s → IsSeat x.setup.cluster.f x.events c s
+  seat_at c at s there here = subst (λ (d : ℕ). IsSeat x.setup.cluster.f x.events d s) there.1.1.1 (is.twin_seats at there.1.0 s there.1.1.0 here)
 
   pub owner_at : (own : SendsOwn proto) (r at : ℕ) (s : Rep P) → IsThere x.setup (place.ReplicaTwin r at) → slice_get x.replica_twins at ≡ Some s → own.owner s.value ≡ r
   owner_at own r at s there here = is.twin_replicas own at there.1.0 s there.1.1.0 here ∙ there.1.1.1
 
   -- the numbers of clients are small
-  pub few_clients : (c : ℕ) (s : Seat) → c < x.setup.clients → IsSeat x.setup.f x.events c s → s.me ≤ 15
+  pub few_clients : (c : ℕ) (s : Seat) → c < x.setup.cluster.clients → IsSeat x.setup.cluster.f x.events c s → s.me ≤ 15
   few_clients c s lt seat = omega (arith, lt, seat.own, is.bounds.few_clients)
 
 -- a client without an open request takes a command
@@ -240,25 +240,25 @@ module _ {P : Type 0} (proto : Proto P) where
   first_are_own own (suc n) r s at =
       Each-push (λ r s. own.owner s.value ≡ r) (first_reps (rules proto) 0 n) (first_rep (rules proto) 0 n) (own.begun 1 n [] ∙ sym (length-first_reps n)) (first_are_own own n) r s at
 
-  pub IsCast-first : (x : Setup) → IsInBounds x.f x.clients → IsCast proto (first_cast proto x)
+  pub IsCast-first : (x : Setup) → IsInBounds x.cluster.f x.clients → IsCast proto (first_cast proto x)
   IsCast-first x bounds = record {
     bounds = bounds;
-    all_replicas = length-first_reps (3 * x.f + 1);
-    all_clients = length-first_seats x.f x.clients;
+    all_replicas = length-first_reps (3 * x.cluster.f + 1);
+    all_clients = length-first_seats x.cluster.f x.clients;
     all_replica_twins = length-map (replica_twins x.faulty) (λ k. first_rep (rules proto) 0 k.0);
-    all_client_twins = length-map (client_twins x.faulty) (λ k. first_seat x.f k.0);
-    own_replicas = λ own. first_are_own own (3 * x.f + 1);
+    all_client_twins = length-map (client_twins x.faulty) (λ k. first_seat x.cluster.f k.0);
+    own_replicas = λ own. first_are_own own (3 * x.cluster.f + 1);
     twin_replicas = λ own at k s number there. ap (λ t. own.owner t.value) (sym (mapped (first_rep (rules proto) 0) (replica_twins x.faulty) at k s number there)) ∙ own.begun 1 k.0 [];
-    seats = first_are_seats x.f x.clients;
-    twin_seats = λ at k s number there. subst (IsSeat x.f 0 k.0) (mapped (first_seat x.f) (client_twins x.faulty) at k s number there) (first_seated x.f k.0);
+    seats = first_are_seats x.cluster.f x.clients;
+    twin_seats = λ at k s number there. subst (IsSeat x.cluster.f 0 k.0) (mapped (first_seat x.cluster.f) (client_twins x.faulty) at k s number there) (first_seated x.cluster.f k.0);
     few_events = omega arith;
   }
 
-  pub first_as : (x : Setup) (f n : ℕ) (replicas : List (Rep P)) (clients : List Seat) (twins : List (Rep P)) (client_twins' : List Seat) → IsInBounds f n → f ≡ x.f → n ≡ x.clients
-      → replicas ≡ first_reps (rules proto) 0 (3 * f + 1) → clients ≡ first_seats f n → twins ≡ map (λ k. first_rep (rules proto) 0 k.0) (replica_twins x.faulty) → client_twins' ≡ map (λ k. first_seat x.f k.0) (client_twins x.faulty)
+  pub first_as : (x : Setup) (f n : ℕ) (replicas : List (Rep P)) (clients : List Seat) (twins : List (Rep P)) (client_twins' : List Seat) → IsInBounds f n → f ≡ x.cluster.f → n ≡ x.clients
+      → replicas ≡ first_reps (rules proto) 0 (3 * f + 1) → clients ≡ first_seats f n → twins ≡ map (λ k. first_rep (rules proto) 0 k.0) (replica_twins x.faulty) → client_twins' ≡ map (λ k. first_seat x.cluster.f k.0) (client_twins x.faulty)
       → IsCast proto (record { setup = x; replicas = replicas; clients = clients; replica_twins = twins; client_twins = client_twins'; events = 0 })
   first_as x f n replicas clients twins client_twins' bounds faults number of_replicas of_clients of_twins of_client_twins =
-      let r : replicas ≡ first_reps (rules proto) 0 (3 * x.f + 1) = of_replicas ∙ ap (λ k. first_reps (rules proto) 0 (3 * k + 1)) faults in
-      let c : clients ≡ first_seats x.f x.clients = of_clients ∙ (λ j. first_seats (faults j) (number j)) in
-      let all : IsInBounds x.f x.clients = subst (λ (k : ℕ). IsInBounds k x.clients) faults (subst (IsInBounds f) number bounds) in
+      let r : replicas ≡ first_reps (rules proto) 0 (3 * x.cluster.f + 1) = of_replicas ∙ ap (λ k. first_reps (rules proto) 0 (3 * k + 1)) faults in
+      let c : clients ≡ first_seats x.cluster.f x.clients = of_clients ∙ (λ j. first_seats (faults j) (number j)) in
+      let all : IsInBounds x.cluster.f x.clients = subst (λ (k : ℕ). IsInBounds k x.clients) faults (subst (IsInBounds f) number bounds) in
       subst (IsCast proto) (λ j. record { setup = x; replicas = sym r j; clients = sym c j; replica_twins = sym of_twins j; client_twins = sym of_client_twins j; events = 0 }) (IsCast-first x all)

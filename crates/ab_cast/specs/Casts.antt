@@ -1,22 +1,26 @@
 -- The cores of all parties of a cluster.
-use Rattle.std.specs.Prelude.{◌≡◌, ℕ, zero, suc, ◌+◌, ◌*◌, ◌≤◌, if◌then◌else◌, Bool, true, false, Option, None, Some, List, [], ◌∷◌, ◌++◌, length, map, slice_get, slice_set}
+use Rattle.std.specs.Prelude.{◌≡◌, ℕ, zero, suc, ◌+◌, ◌*◌, ◌<◌, ◌≤◌, if◌then◌else◌, Bool, true, false, Option, None, Some, List, [], ◌∷◌, ◌++◌, All, length, map, slice_get, slice_set}
 use Rattle.std.specs.Option.{option_map}
-use Rattle.ab_num.specs.Bounds.{IsInBounds}
+use Rattle.ab_num.specs.declared.cluster.Cluster.{Cluster}
+use Rattle.ab_num.specs.declared.plan.Kind.{Kind}
+use Rattle.ab_msg.specs.declared.message.Out.{Out}
+use Rattle.ab_abs.specs.declared.seen.Seen.{Seen}
 use Rattle.ab_abs.specs.Ensembles.{Proto}
-use Rattle.ab_abs.specs.Places.{SendsOwn}
+use Rattle.ab_abs.specs.Places.{Arises}
 use Rattle.ab_run.specs.declared.phase.Phase.{Phase}
 use Rattle.ab_run.specs.declared.phase.Phase.TheVariants.{Idle, Waiting, Panicking}
 use Rattle.ab_run.specs.Replicas.{Rep}
 use Rattle.ab_run.specs.Clients.{Cli}
 use Rattle.ab_run.specs.Runs.{first_rep, first_cli}
-use Rattle.ab_run.specs.States.{first_reps}
+use Rattle.ab_run.specs.Stages.{first_reps}
 use Rattle.ab_client.specs.Clients.{Seat}
+use Rattle.ab_client.specs.Drafts.{IsDraftOf}
 use Rattle.ab_cast.specs.declared.fault.CommandFault.{CommandFault}
 use Rattle.ab_cast.specs.declared.fault.CommandFault.TheVariants.{NoClient, Busy, OutOfMemory}
 use Rattle.ab_cast.specs.declared.place.Place.{Place}
 use Rattle.ab_cast.specs.declared.place.Place.TheVariants as place
-use Rattle.ab_cast.specs.Setups.{Setup, replica_twins, client_twins}
-use Rattle.ab_cast.specs.Cores.{Core, replica, client, rules}
+use Rattle.ab_cast.specs.Setups.{Setup, run_setup, replica_twins, client_twins, party_at}
+use Rattle.ab_cast.specs.Cores.{Core, replica, client, Taken, core_after, core_sends, core_marks, core_spends}
 
 -- each party's own core by the party's number, the further ones of faulty parties, and how many events there were
 pub record Cast (P : Type 0) : Type 0 where
@@ -55,23 +59,32 @@ module _ {P : Type 0} where
   abbrev pub next : Cast P → Cast P
   next x = record x { events = x.events + 1 }
 
+-- the core at a place takes what comes: it alone changes, and outs, marks and spent are what it sends, what is seen of it, and whether
+-- the event was spent
+pub record IsTaken {P : Type 0} (proto : Proto P) (x : Cast P) (at : Place) (s : Core P) (t : Taken) (now : Cast P) (outs : List Out) (marks : List Seen) (spent : Bool) : Type 0 where
+  pub after : now ≡ next (with_core x at (core_after x.setup proto (party_at at) s t))
+  pub sends : outs ≡ core_sends x.setup proto (party_at at) s t
+  pub shows : marks ≡ core_marks x.setup proto (party_at at) s t
+  pub spends : spent ≡ core_spends x.setup proto (party_at at) s t
+  pub drafts : All (IsDraftOf x.setup.cluster.f (party_at at)) outs
+
 -- ---- before the first event
 
-abbrev pub first_seat : ℕ → ℕ → Seat
-first_seat f c = record { me = c; f = f; cli = first_cli }
+abbrev pub first_seat : Cluster → ℕ → Seat
+first_seat c n = record { me = n; cluster = c; cli = first_cli }
 
 -- the seats of the first n clients
-abbrev pub first_seats : ℕ → ℕ → List Seat
-first_seats f zero = []
-first_seats f (suc n) = first_seats f n ++ first_seat f n ∷ []
+abbrev pub first_seats : Cluster → ℕ → List Seat
+first_seats c zero = []
+first_seats c (suc n) = first_seats c n ++ first_seat c n ∷ []
 
 abbrev pub first_cast : {P : Type 0} → Proto P → Setup → Cast P
 first_cast proto x = record {
   setup = x;
-  replicas = first_reps (rules proto) 0 (3 * x.f + 1);
-  clients = first_seats x.f x.clients;
-  replica_twins = map (λ k. first_rep (rules proto) 0 k.0) (replica_twins x.faulty);
-  client_twins = map (λ k. first_seat x.f k.0) (client_twins x.faulty);
+  replicas = first_reps (run_setup x) proto (3 * x.cluster.f + 1);
+  clients = first_seats x.cluster x.cluster.clients;
+  replica_twins = map (λ k. first_rep (run_setup x) proto k.0) (replica_twins x.faulty);
+  client_twins = map (λ k. first_seat x.cluster k.0) (client_twins x.faulty);
   events = 0;
 }
 
@@ -101,40 +114,43 @@ CommandCause OutOfMemory s = command_refusal s ≡ None
 CommandCause NoClient s = command_refusal s ≡ Some NoClient
 CommandCause Busy s = command_refusal s ≡ Some Busy
 
--- a client of the cluster. Each event raises a stamp by one at most
-pub record IsSeat (f events c : ℕ) (s : Seat) : Type 0 where
-  pub own : s.me ≡ c
-  pub faults : s.f ≡ f
+-- client n of a cluster. Each event raises a stamp by one at most
+pub record IsSeat (c : Cluster) (events n : ℕ) (s : Seat) : Type 0 where
+  pub own : s.me ≡ n
+  pub placed : s.cluster ≡ c
   pub stamp : s.cli.stamp ≤ events
 
 -- each own client sits at its number
-abbrev pub AreSeats : ℕ → ℕ → List Seat → Type 0
-AreSeats f events seats = (c : ℕ) (s : Seat) → slice_get seats c ≡ Some s → IsSeat f events c s
+abbrev pub AreSeats : Cluster → ℕ → List Seat → Type 0
+AreSeats c events seats = (n : ℕ) (s : Seat) → slice_get seats n ≡ Some s → IsSeat c events n s
 
 -- the same of the further cores of clients, where numbers stand the clients' numbers
-abbrev pub AreTwinSeats : ℕ → ℕ → List (ℕ × ℕ) → List Seat → Type 0
-AreTwinSeats f events numbers seats =
-    (at : ℕ) (k : ℕ × ℕ) (s : Seat) → slice_get numbers at ≡ Some k → slice_get seats at ≡ Some s → IsSeat f events k.0 s
+abbrev pub AreTwinSeats : Cluster → ℕ → List (ℕ × ℕ) → List Seat → Type 0
+AreTwinSeats c events numbers seats =
+    (at : ℕ) (k : ℕ × ℕ) (s : Seat) → slice_get numbers at ≡ Some k → slice_get seats at ≡ Some s → IsSeat c events k.0 s
 
-module _ {P : Type 0} {proto : Proto P} (own : SendsOwn proto) where
-  -- each own replica states as the replica at whose number it is
+module _ {P : Type 0} (proto : Proto P) (serves : Kind → Bool) (c : Cluster) where
+  -- replica r of the cluster, with a value that came about there
+  abbrev pub IsOf : ℕ → Rep P → Type 0
+  IsOf r s = r < 3 * c.f + 1 → Arises proto serves c s.at r s.value
+
+  -- each own replica is at its number
   abbrev pub AreOwn : List (Rep P) → Type 0
-  AreOwn replicas = (r : ℕ) (s : Rep P) → slice_get replicas r ≡ Some s → own.owner s.value ≡ r
+  AreOwn replicas = (r : ℕ) (s : Rep P) → slice_get replicas r ≡ Some s → IsOf r s
 
   -- the same of the further cores of replicas
   abbrev pub AreTwins : List (ℕ × ℕ) → List (Rep P) → Type 0
   AreTwins numbers replicas =
-      (at : ℕ) (k : ℕ × ℕ) (s : Rep P) → slice_get numbers at ≡ Some k → slice_get replicas at ≡ Some s → own.owner s.value ≡ k.0
+      (at : ℕ) (k : ℕ × ℕ) (s : Rep P) → slice_get numbers at ≡ Some k → slice_get replicas at ≡ Some s → IsOf k.0 s
 
 -- what holds of the cores of a cluster in every event: as many as the setup says, each where its party's are
-pub record IsCast {P : Type 0} (proto : Proto P) (x : Cast P) : Type 0 where
-  pub bounds : IsInBounds x.setup.f x.setup.clients
-  pub all_replicas : length x.replicas ≡ 3 * x.setup.f + 1
-  pub all_clients : length x.clients ≡ x.setup.clients
+pub record IsCast {P : Type 0} (proto : Proto P) (serves : Kind → Bool) (x : Cast P) : Type 0 where
+  pub all_replicas : length x.replicas ≡ 3 * x.setup.cluster.f + 1
+  pub all_clients : length x.clients ≡ x.setup.cluster.clients
   pub all_replica_twins : length x.replica_twins ≡ length (replica_twins x.setup.faulty)
   pub all_client_twins : length x.client_twins ≡ length (client_twins x.setup.faulty)
-  pub own_replicas : (own : SendsOwn proto) → AreOwn own x.replicas
-  pub twin_replicas : (own : SendsOwn proto) → AreTwins own (replica_twins x.setup.faulty) x.replica_twins
-  pub seats : AreSeats x.setup.f x.events x.clients
-  pub twin_seats : AreTwinSeats x.setup.f x.events (client_twins x.setup.faulty) x.client_twins
+  pub own_replicas : AreOwn proto serves x.setup.cluster x.replicas
+  pub twin_replicas : AreTwins proto serves x.setup.cluster (replica_twins x.setup.faulty) x.replica_twins
+  pub seats : AreSeats x.setup.cluster x.events x.clients
+  pub twin_seats : AreTwinSeats x.setup.cluster x.events (client_twins x.setup.faulty) x.client_twins
   pub few_events : x.events ≤ 100000

@@ -1,34 +1,32 @@
--- What a cluster is set up with: its size and plan, and its faulty parties. The keys of its parties are those of the seed of zeros.
+-- A cluster in one program, with its faulty parties. The keys of its parties are those of the seed of zeros.
 use Rattle.std.specs.Prelude.{IsTrue, All, ◌≡◌, ℕ, ◌<◌, ◌-◌, ◌+◌, ◌*◌, ◌==◌, ◌&&◌, if◌then◌else◌, Bool, Option, None, Some, List, [], map, position, replicate, slice_get}
 use Rattle.std.specs.List.{flat_map, range_with_len}
 use Rattle.std.specs.Option.{option_map}
 use Rattle.ab_num.specs.declared.party.Party.{Party}
 use Rattle.ab_num.specs.declared.party.Party.TheVariants.{Replica, Client}
-use Rattle.ab_num.specs.declared.plan.Plan.{Plan}
+use Rattle.ab_num.specs.declared.cluster.Cluster.{Cluster}
 use Rattle.ab_keys.specs.Keys.{is_party}
 use Rattle.ab_keys.specs.Rings.{Ring, ring_of}
 use Rattle.ab_abs.specs.Faults.{is_faulty}
-use Rattle.ab_run.specs.Clusters.{Cluster}
+use Rattle.ab_run.specs.Setups.{Setup as RunSetup}
 use Rattle.ab_cast.specs.declared.place.Place.{Place}
 use Rattle.ab_cast.specs.declared.place.Place.TheVariants as place
 
 -- each faulty party stands with the number of its cores
 pub record Setup : Type 0 where
-  pub f : ℕ
-  pub clients : ℕ
-  pub plan : Plan
+  pub cluster : Cluster
   pub faulty : List (Party × ℕ)
 
--- the cluster as a run sees it. Nothing is signed
-abbrev pub cluster_of : Setup → Cluster
-cluster_of x = record { f = x.f; clients = x.clients; faulty = map (λ e. e.0) x.faulty; signatures = 0 }
+-- what a run over it is set up with. Nothing can be signed yet
+abbrev pub run_setup : Setup → RunSetup
+run_setup x = record { cluster = x.cluster; faulty = map (λ e. e.0) x.faulty; signatures = 0; sig = λ r s n. [] }
 
 abbrev pub is_bad : Setup → Party → Bool
-is_bad x p = is_faulty (cluster_of x).faulty p
+is_bad x p = is_faulty (run_setup x).faulty p
 
 -- the keys of a party
 abbrev pub ring_at : Setup → Party → Ring
-ring_at x p = ring_of x.f x.clients x.plan (replicate 32 0) p
+ring_at x p = ring_of x.cluster.f x.cluster.clients x.cluster.plan (replicate 32 0) p
 
 -- ---- where cores are
 
@@ -65,7 +63,7 @@ numbered_place x p (Some twin) =
 
 -- the place of a core, if the cluster has it
 abbrev pub place_of : Setup → Party → Option ℕ → Option Place
-place_of x p twin = if is_party x.f x.clients p then numbered_place x p twin else None
+place_of x p twin = if is_party x.cluster.f x.cluster.clients p then numbered_place x p twin else None
 
 -- a core without a number is the party's first
 abbrev pub core_number : Option ℕ → ℕ
@@ -81,8 +79,8 @@ party_at (place.ClientTwin c at) = Client c
 
 -- the faulty ones are parties, the rings of the parties stand by their numbers, and the further cores of the faulty parties in the order of the list
 pub record IsSetup (x : Setup) (replica_rings client_rings : List Ring) (replicas clients : List (ℕ × ℕ)) : Type 0 where
-  pub parties : All (λ e. IsTrue (is_party x.f x.clients e.0)) x.faulty
-  pub of_replicas : (r : ℕ) → r < 3 * x.f + 1 → slice_get replica_rings r ≡ Some (ring_at x (Replica r))
-  pub of_clients : (c : ℕ) → c < x.clients → slice_get client_rings c ≡ Some (ring_at x (Client c))
+  pub parties : All (λ e. IsTrue (is_party x.cluster.f x.cluster.clients e.0)) x.faulty
+  pub of_replicas : (r : ℕ) → r < 3 * x.cluster.f + 1 → slice_get replica_rings r ≡ Some (ring_at x (Replica r))
+  pub of_clients : (c : ℕ) → c < x.cluster.clients → slice_get client_rings c ≡ Some (ring_at x (Client c))
   pub twins_of_replicas : replicas ≡ replica_twins x.faulty
   pub twins_of_clients : clients ≡ client_twins x.faulty

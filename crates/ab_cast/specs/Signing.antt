@@ -1,8 +1,23 @@
--- Protocols without signatures.
-use Rattle.std.specs.Prelude.{◌≡◌}
-use Rattle.ab_abs.specs.Messages.{Call}
+-- Replicas that cannot sign.
+use Rattle.std.specs.Prelude.{◌≡◌, ℕ, Bool, List, []}
+use Rattle.ab_num.specs.declared.cluster.Cluster.{Cluster}
+use Rattle.ab_msg.specs.declared.message.Msg.{Msg}
+use Rattle.ab_msg.specs.declared.message.Out.{Out}
+use Rattle.ab_msg.specs.Pens.{Pen}
+use Rattle.ab_abs.specs.declared.seen.Seen.{Seen}
 use Rattle.ab_abs.specs.Ensembles.{Proto}
+use Rattle.ab_abs.specs.Messages.{took}
+use Rattle.ab_run.specs.Replicas.{Rep, is_spent}
+use Rattle.ab_run.specs.Local.{rep_after, rep_sends, rep_marks}
+use Rattle.ab_client.specs.Clients.{alone}
 
--- no call signs
-abbrev pub SignsNothing : {P : Type 0} → Proto P → Type 0
-SignsNothing {P = P} proto = (p : P) (call : Call) → proto.signs p call ≡ 0
+-- it signed nothing
+abbrev pub mute : Pen
+mute = record { used = 0; sig = λ s n. [] }
+
+-- replica r of a cluster takes a message: where it then is, what it sends, what is seen of it, and whether the event is spent
+pub record RepTakes {P : Type 0} (proto : Proto P) (c : Cluster) (r : ℕ) (s : Rep P) (m : Msg) (now : Rep P) (outs : List Out) (marks : List Seen) (spent : Bool) : Type 0 where
+  pub after : now ≡ rep_after (alone c) proto r s (took m)
+  pub sends : outs ≡ rep_sends (alone c) proto r s (took m)
+  pub shows : marks ≡ rep_marks (alone c) proto r s (took m)
+  pub spends : spent ≡ is_spent (alone c) proto r s (took m)

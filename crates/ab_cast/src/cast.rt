@@ -1,19 +1,13 @@
 //! The cores of all parties.
 
-ghost use Rattle.std.specs.Prelude.{◌≡◌, ◌+◌, ◌*◌, ◌<◌, ◌≤◌, ◌⊎◌, ℕ, All, IsTrue, IfOk, IfErr, IfSome, MatchOption, OnOk, OnErr, Option, Some, None, length, slice_get};
+ghost use Rattle.std.specs.Prelude.{◌≡◌, ◌+◌, ◌*◌, ◌<◌, ◌≤◌, ℕ, IsTrue, IfOk, IfErr, OnOk, OnErr, Option, Some, None, length, slice_get};
 ghost use Rattle.std.specs.Option.{option_map};
 ghost use Rattle.ab_num.specs.declared.party.Party.{Party as TheParty};
 ghost use Rattle.ab_num.specs.Places.{kind_of};
-ghost use Rattle.ab_msg.specs.Claims.{maker_of, content_of};
-ghost use Rattle.ab_msg.specs.Grammar.{IsDraft};
 ghost use Rattle.ab_msg.specs.Views.{IsReceived, message as message_of};
-ghost use Rattle.ab_abs.specs.Places.{SendsOwn, SendsDrafts};
-ghost use Rattle.ab_keys.specs.Keys.{is_party};
-ghost use Rattle.ab_client.specs.Clients.{Seat};
 ghost use Rattle.ab_cast.specs.Setups.{place_of, party_at};
-ghost use Rattle.ab_cast.specs.Cores.{Core, client, command, message, core_after, core_sends, core_marks};
-ghost use Rattle.ab_cast.specs.Casts.{AreSeats, core_at, with_core, next, first_cast, is_free, command_refusal, CommandCause};
-ghost use Rattle.ab_cast.specs.Signing.{SignsNothing};
+ghost use Rattle.ab_cast.specs.Cores.{Core, command, message};
+ghost use Rattle.ab_cast.specs.Casts.{AreSeats, IsTaken, core_at, next, first_cast, is_free, command_refusal, CommandCause};
 
 use crate::cores::{
     first_client_twins, first_clients, first_replica_twins, first_replicas, hear_client,
@@ -58,7 +52,7 @@ impl<S: Service, P: Protocol<S>> Model for Cast<S, P> {
       events = x.events;
     } };
 
-    ghost invariant = { λ x. IsCast P.proto (record {
+    ghost invariant = { λ x. IsCast P.proto P.serves (record {
       setup = x.setup;
       replicas = x.replicas.items;
       clients = x.clients.items;
@@ -71,7 +65,7 @@ impl<S: Service, P: Protocol<S>> Model for Cast<S, P> {
 impl<S: Service, P: Protocol<S>> Cast<S, P> {
     /// The cores before the first event, where P serves the kind that the plan gives to instance 1.
     pub fn new(alloc: Global, setup: Setup) -> Result<Self, OutOfMemory>
-        requires { IsTrue (P.serves (kind_of setup.plan 1)) }
+        requires { IsTrue (P.serves (kind_of setup.cluster.plan 1)) }
         ensures { IfOk result (λ x. x ≡ first_cast P.proto setup) }
     {
         let cluster = setup.cluster();
@@ -157,18 +151,11 @@ impl<S: Service, P: Protocol<S>> Cast<S, P> {
         place: Place,
         m: &MsgRef<'_>,
     ) -> Result<Effects, OutOfMemory>
-        requires quiet { SignsNothing P.proto }
         requires few { self.old.events < 100000 }
         requires received { IsReceived m.now }
         requires there { (twin : Option ℕ) × (place_of self.old.setup (party_at place) twin ≡ Some place) }
-        ensures cast { (s : Core P) → core_at self.old place ≡ Some s
-            → OnOk result (self.new ≡ next (with_core self.old place (core_after P.proto (party_at place) s (message (message_of m.now))))) }
-        ensures outs { (s : Core P) → core_at self.old place ≡ Some s
-            → IfOk result (λ e. e.outs ≡ core_sends P.proto (party_at place) s (message (message_of m.now))) }
-        ensures marks { (s : Core P) → core_at self.old place ≡ Some s
-            → IfOk result (λ e. e.marks.items ≡ core_marks P.proto (party_at place) s (message (message_of m.now))) }
-        ensures drafts { SendsDrafts P.proto → IfOk result (λ e. All (λ o. IsDraft o.msg) e.outs) }
-        ensures makers { SendsOwn P.proto → SendsDrafts P.proto → IfOk result (λ e. All (λ o. maker_of (content_of o.msg) ≡ party_at place) e.outs) }
+        ensures taken { (s : Core P) → core_at self.old place ≡ Some s
+            → IfOk result (λ e. IsTaken P.proto self.old place s (message (message_of m.now)) self.new e.outs e.marks.items e.spent) }
         ensures err { OnErr result (self.new ≡ self.old) }
     {
         match place {
@@ -206,14 +193,8 @@ impl<S: Service, P: Protocol<S>> Cast<S, P> {
         requires few { self.old.events < 100000 }
         requires form { (0 < length bytes.now) × (length bytes.now ≤ 128) }
         requires there { (twin : Option ℕ) × (place_of self.old.setup (party_at place) twin ≡ Some place) }
-        ensures cast { (s : Core P) → core_at self.old place ≡ Some s
-            → OnOk result (self.new ≡ next (with_core self.old place (core_after P.proto (party_at place) s (command (record { items = bytes.now }))))) }
-        ensures outs { (s : Core P) → core_at self.old place ≡ Some s
-            → IfOk result (λ e. e.outs ≡ core_sends P.proto (party_at place) s (command (record { items = bytes.now }))) }
-        ensures marks { (s : Core P) → core_at self.old place ≡ Some s
-            → IfOk result (λ e. e.marks.items ≡ core_marks P.proto (party_at place) s (command (record { items = bytes.now }))) }
-        ensures drafts { IfOk result (λ e. All (λ o. IsDraft o.msg) e.outs) }
-        ensures makers { IfOk result (λ e. All (λ o. maker_of (content_of o.msg) ≡ party_at place) e.outs) }
+        ensures taken { (s : Core P) → core_at self.old place ≡ Some s
+            → IfOk result (λ e. IsTaken P.proto self.old place s (command (record { items = bytes.now })) self.new e.outs e.marks.items e.spent) }
         ensures idle { (s : Core P) → core_at self.old place ≡ Some s → OnOk result (command_refusal s ≡ None) }
         ensures cause { (s : Core P) → core_at self.old place ≡ Some s → IfErr result (λ e. CommandCause e s) }
         ensures err { OnErr result (self.new ≡ self.old) }
@@ -238,8 +219,8 @@ impl<S: Service, P: Protocol<S>> Cast<S, P> {
 /// Each place that the setup gives has its core.
 pub fn places_have_cores<S: Service, P: Protocol<S>>(cast: &Cast<S, P>)
     ensures cores { (p : TheParty) (twin : Option ℕ) (at : _) → place_of cast.now.setup p twin ≡ Some at → (s : Core P) × (core_at cast.now at ≡ Some s) }
-    ensures seats { AreSeats cast.now.setup.f cast.now.events cast.now.clients }
-    ensures sizes { (length cast.now.replicas ≡ 3 * cast.now.setup.f + 1) × (length cast.now.clients ≡ cast.now.setup.clients) }
+    ensures seats { AreSeats cast.now.setup.cluster cast.now.events cast.now.clients }
+    ensures sizes { (length cast.now.replicas ≡ 3 * cast.now.setup.cluster.f + 1) × (length cast.now.clients ≡ cast.now.setup.cluster.clients) }
 {
     let _ = &cast.events;
 }

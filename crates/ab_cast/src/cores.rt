@@ -1,30 +1,28 @@
 //! Events of single cores, and the cores before the first event.
 
-ghost use Rattle.std.specs.Prelude.{◌≡◌, ◌≢◌, ◌+◌, ◌*◌, ◌-◌, ◌^◌, ◌<◌, ◌≤◌, ◌++◌, ◌⊎◌, [], ℕ, All, IsTrue, IfOk, IfErr, OnOk, OnErr, Some, None, length, map, replicate, slice_get, slice_set, vec_len};
-ghost use Rattle.ab_num.specs.Places.{kind_of};
+ghost use Rattle.std.specs.Prelude.{◌≡◌, ◌≢◌, ◌+◌, ◌*◌, ◌-◌, ◌^◌, ◌<◌, ◌≤◌, ◌++◌, ◌⊎◌, [], false, ℕ, All, IsTrue, IfOk, IfErr, OnOk, OnErr, Some, None, length, map, replicate, slice_get, slice_set, vec_len};
+ghost use Rattle.ab_num.specs.declared.cluster.Cluster.{Cluster as TheCluster};
 ghost use Rattle.ab_num.specs.declared.party.Party.TheVariants.{Replica as ReplicaParty, Client as ClientParty};
-ghost use Rattle.ab_msg.specs.Claims.{maker_of, content_of};
-ghost use Rattle.ab_msg.specs.Grammar.{IsDraft};
+ghost use Rattle.ab_num.specs.Places.{kind_of};
 ghost use Rattle.ab_msg.specs.Views.{IsReceived, message as message_of};
-ghost use Rattle.ab_abs.specs.Messages.{took, heard};
-ghost use Rattle.ab_abs.specs.Places.{SendsOwn, SendsDrafts};
+ghost use Rattle.ab_abs.specs.Places.{Arises};
+ghost use Rattle.ab_abs.specs.Messages.{took};
 ghost use Rattle.ab_run.specs.Replicas.{Rep};
 ghost use Rattle.ab_run.specs.Runs.{first_rep};
-ghost use Rattle.ab_run.specs.States.{first_reps};
-ghost use Rattle.ab_run.specs.Packets.{no_certificate};
-ghost use Rattle.ab_run.specs.Local.{rep_after, rep_sends, rep_marks};
+ghost use Rattle.ab_run.specs.Stages.{first_reps};
+ghost use Rattle.ab_run.specs.Local.{cue_message, rep_after};
 ghost use Rattle.ab_run.specs.declared.phase.Phase.TheVariants.{Idle};
-ghost use Rattle.ab_client.specs.Clients.{Seat, told, got, after, sends, marks};
+ghost use Rattle.ab_client.specs.Clients.{Seat, alone, told, after, sends, marks};
+ghost use Rattle.ab_client.specs.Drafts.{IsDraftOf};
 ghost use Rattle.ab_cast.specs.Setups.{replica_twins, client_twins};
-ghost use Rattle.ab_cast.specs.Cores.{rules};
 ghost use Rattle.ab_cast.specs.Casts.{first_seat, first_seats};
-ghost use Rattle.ab_cast.specs.Signing.{SignsNothing};
+ghost use Rattle.ab_cast.specs.Signing.{RepTakes};
 
 use crate::effects::Effects;
 use crate::fault::CommandFault;
 use crate::replica::Replica;
 use crate::setup::Setup;
-use ab_abs::{Marks, Protocol};
+use ab_abs::Protocol;
 use ab_client::{Client, InvokeFault};
 use ab_msg::{MsgRef, Outs};
 use ab_num::{Cluster, OutOfMemory, Party};
@@ -37,7 +35,7 @@ pub(crate) fn first_replicas<S: Service, P: Protocol<S>>(
     cluster: &Cluster,
 ) -> Result<Vec<Replica<S, P>>, OutOfMemory>
     requires { IsTrue (P.serves (kind_of cluster.now.plan 1)) }
-    ensures { IfOk result (λ v. v.items ≡ first_reps (rules P.proto) 0 (3 * cluster.now.f + 1)) }
+    ensures { IfOk result (λ v. v.items ≡ first_reps (alone cluster.now) P.proto (3 * cluster.now.f + 1)) }
 {
     let mut replicas = Vec::with_capacity(alloc, cluster.replicas() as usize)?;
     for me in 0..cluster.replicas() {
@@ -48,7 +46,7 @@ pub(crate) fn first_replicas<S: Service, P: Protocol<S>>(
 
 /// The own clients before the first event.
 pub(crate) fn first_clients(alloc: Global, cluster: &Cluster) -> Result<Vec<Client>, OutOfMemory>
-    ensures { IfOk result (λ v. v.items ≡ first_seats cluster.now.f cluster.now.clients) }
+    ensures { IfOk result (λ v. v.items ≡ first_seats cluster.now cluster.now.clients) }
 {
     let mut clients = Vec::with_capacity(alloc, cluster.clients as usize)?;
     for me in 0..cluster.clients {
@@ -68,7 +66,7 @@ fn add_replicas<S: Service, P: Protocol<S>>(
 ) -> Result<(), OutOfMemory>
     requires served { IsTrue (P.serves (kind_of cluster.now.plan 1)) }
     requires replica { me < 3 * cluster.now.f + 1 }
-    ensures { OnOk result (twins.new.items ≡ twins.old.items ++ replicate more (first_rep (rules P.proto) 0 me)) }
+    ensures { OnOk result (twins.new.items ≡ twins.old.items ++ replicate more (first_rep (alone cluster.now) P.proto me)) }
 {
     for _ in 0..more {
         twins.push(Replica::new(alloc, cluster, me)?)?;
@@ -84,7 +82,7 @@ fn add_clients(
     more: u8,
     twins: &mut Vec<Client>,
 ) -> Result<(), OutOfMemory>
-    ensures { OnOk result (twins.new.items ≡ twins.old.items ++ replicate more (first_seat cluster.now.f me)) }
+    ensures { OnOk result (twins.new.items ≡ twins.old.items ++ replicate more (first_seat cluster.now me)) }
 {
     for _ in 0..more {
         twins.push(Client::new(cluster, me))?;
@@ -97,8 +95,8 @@ pub(crate) fn first_replica_twins<S: Service, P: Protocol<S>>(
     alloc: Global,
     setup: &Setup,
 ) -> Result<Vec<Replica<S, P>>, OutOfMemory>
-    requires { IsTrue (P.serves (kind_of setup.now.plan 1)) }
-    ensures { IfOk result (λ v. v.items ≡ map (λ k. first_rep (rules P.proto) 0 k.0) (replica_twins setup.now.faulty)) }
+    requires { IsTrue (P.serves (kind_of setup.now.cluster.plan 1)) }
+    ensures { IfOk result (λ v. v.items ≡ map (λ k. first_rep (alone setup.now.cluster) P.proto k.0) (replica_twins setup.now.faulty)) }
 {
     let mut twins = Vec::new(alloc);
     for entry in setup.faulty() {
@@ -117,7 +115,7 @@ pub(crate) fn first_replica_twins<S: Service, P: Protocol<S>>(
 
 /// The further cores of clients before the first event.
 pub(crate) fn first_client_twins(alloc: Global, setup: &Setup) -> Result<Vec<Client>, OutOfMemory>
-    ensures { IfOk result (λ v. v.items ≡ map (λ k. first_seat setup.now.f k.0) (client_twins setup.now.faulty)) }
+    ensures { IfOk result (λ v. v.items ≡ map (λ k. first_seat setup.now.cluster k.0) (client_twins setup.now.faulty)) }
 {
     let mut twins = Vec::new(alloc);
     for entry in setup.faulty() {
@@ -135,27 +133,17 @@ pub(crate) fn hear_replica<S: Service, P: Protocol<S>>(
     at: usize,
     m: &MsgRef<'_>,
 ) -> Result<Effects, OutOfMemory>
-    requires quiet { SignsNothing P.proto }
     requires received { IsReceived m.now }
     requires there { at < vec_len cores.old }
-    ensures cores { (s : Rep P) (r : ℕ) → slice_get cores.old.items at ≡ Some s
-        → OnOk result (cores.new.items ≡ slice_set cores.old.items at (rep_after (rules P.proto) r s (took (heard (message_of m.now))))) }
-    ensures outs { (s : Rep P) (r : ℕ) → slice_get cores.old.items at ≡ Some s
-        → IfOk result (λ e. e.outs ≡ rep_sends (rules P.proto) r s (took (heard (message_of m.now)))) }
-    ensures marks { (s : Rep P) (r : ℕ) → slice_get cores.old.items at ≡ Some s
-        → IfOk result (λ e. e.marks.items ≡ rep_marks (rules P.proto) r s (took (heard (message_of m.now)))) }
-    ensures owner { (s : Rep P) (r : ℕ) → slice_get cores.old.items at ≡ Some s → (own : SendsOwn P.proto)
-        → OnOk result (own.owner (rep_after (rules P.proto) r s (took (heard (message_of m.now)))).value ≡ own.owner s.value) }
-    ensures drafts { SendsDrafts P.proto → IfOk result (λ e. All (λ o. IsDraft o.msg) e.outs) }
-    ensures makers { (s : Rep P) → slice_get cores.old.items at ≡ Some s → (own : SendsOwn P.proto) → SendsDrafts P.proto
-        → IfOk result (λ e. All (λ o. maker_of (content_of o.msg) ≡ ReplicaParty (own.owner s.value)) e.outs) }
+    ensures takes { (s : Rep P) (c : TheCluster) (r : ℕ) → slice_get cores.old.items at ≡ Some s
+        → IfOk result (λ e. (now : Rep P) × (cores.new.items ≡ slice_set cores.old.items at now) × RepTakes P.proto c r s (message_of m.now) now e.outs e.marks.items e.spent) }
+    ensures arises { (s : Rep P) (c : TheCluster) (r : ℕ) → slice_get cores.old.items at ≡ Some s → Arises P.proto P.serves c s.at r s.value
+        → OnOk result (let now = rep_after (alone c) P.proto r s (took (message_of m.now)) in Arises P.proto P.serves c now.at r now.value) }
+    ensures drafts { (s : Rep P) (c : TheCluster) (r : ℕ) → slice_get cores.old.items at ≡ Some s → Arises P.proto P.serves c s.at r s.value
+        → IfOk result (λ e. All (IsDraftOf c.f (ReplicaParty r)) e.outs) }
     ensures err { OnErr result (cores.new.items ≡ cores.old.items) }
 {
-    let outs = cores[at].on(alloc, m)?;
-    Ok(Effects {
-        outs,
-        marks: Marks::new_in(alloc),
-    })
+    cores[at].on(alloc, m)
 }
 
 /// One client takes a message.
@@ -167,16 +155,18 @@ pub(crate) fn hear_client(
 ) -> Effects
     requires received { IsReceived m.now }
     requires there { at < vec_len cores.old }
-    ensures cores { (s : Seat) → slice_get cores.old.items at ≡ Some s → cores.new.items ≡ slice_set cores.old.items at (after no_certificate s (got (message_of m.now))) }
-    ensures outs { (s : Seat) → slice_get cores.old.items at ≡ Some s → result.outs ≡ sends no_certificate s (got (message_of m.now)) }
+    ensures cores { (s : Seat) → slice_get cores.old.items at ≡ Some s → cores.new.items ≡ slice_set cores.old.items at (after s (cue_message (message_of m.now))) }
+    ensures outs { (s : Seat) → slice_get cores.old.items at ≡ Some s → result.outs ≡ sends s (cue_message (message_of m.now)) }
     ensures nothing { result.outs ≡ [] }
-    ensures marks { (s : Seat) → slice_get cores.old.items at ≡ Some s → result.marks.items ≡ marks no_certificate s (got (message_of m.now)) }
-    ensures stamp { (s : Seat) → slice_get cores.old.items at ≡ Some s → (after no_certificate s (got (message_of m.now))).cli.stamp ≡ s.cli.stamp }
+    ensures marks { (s : Seat) → slice_get cores.old.items at ≡ Some s → result.marks.items ≡ marks s (cue_message (message_of m.now)) }
+    ensures spent { result.spent ≡ false }
+    ensures stamp { (s : Seat) → slice_get cores.old.items at ≡ Some s → (after s (cue_message (message_of m.now))).cli.stamp ≡ s.cli.stamp }
 {
     let marks = cores[at].on(alloc, m);
     Effects {
         outs: Outs::new(alloc),
         marks,
+        spent: false,
     }
 }
 
@@ -190,17 +180,22 @@ pub(crate) fn tell_client(
     requires there { at < vec_len cores.old }
     requires stamp { (s : Seat) → slice_get cores.old.items at ≡ Some s → s.cli.stamp < 2 ^ 63 }
     requires form { (0 < length bytes.now) × (length bytes.now ≤ 128) }
-    ensures cores { (s : Seat) → slice_get cores.old.items at ≡ Some s → OnOk result (cores.new.items ≡ slice_set cores.old.items at (after no_certificate s (told bytes.now))) }
-    ensures outs { (s : Seat) → slice_get cores.old.items at ≡ Some s → IfOk result (λ e. e.outs ≡ sends no_certificate s (told bytes.now)) }
-    ensures marks { (s : Seat) → slice_get cores.old.items at ≡ Some s → IfOk result (λ e. e.marks.items ≡ marks no_certificate s (told bytes.now)) }
-    ensures stamp { (s : Seat) → slice_get cores.old.items at ≡ Some s → OnOk result ((after no_certificate s (told bytes.now)).cli.stamp ≡ s.cli.stamp + 1) }
-    ensures drafts { (s : Seat) → slice_get cores.old.items at ≡ Some s → s.me ≤ 15 → IfOk result (λ e. All (λ o. IsDraft o.msg × (maker_of (content_of o.msg) ≡ ClientParty s.me)) e.outs) }
+    ensures cores { (s : Seat) → slice_get cores.old.items at ≡ Some s → OnOk result (cores.new.items ≡ slice_set cores.old.items at (after s (told bytes.now))) }
+    ensures outs { (s : Seat) → slice_get cores.old.items at ≡ Some s → IfOk result (λ e. e.outs ≡ sends s (told bytes.now)) }
+    ensures marks { (s : Seat) → slice_get cores.old.items at ≡ Some s → IfOk result (λ e. e.marks.items ≡ marks s (told bytes.now)) }
+    ensures stamp { (s : Seat) → slice_get cores.old.items at ≡ Some s → OnOk result ((after s (told bytes.now)).cli.stamp ≡ s.cli.stamp + 1) }
+    ensures drafts { (s : Seat) → slice_get cores.old.items at ≡ Some s → s.me ≤ 15 → IfOk result (λ e. All (IsDraftOf s.cluster.f (ClientParty s.me)) e.outs) }
+    ensures spent { IfOk result (λ e. e.spent ≡ false) }
     ensures idle { (s : Seat) → slice_get cores.old.items at ≡ Some s → OnOk result (s.cli.phase ≡ Idle) }
     ensures cause { (s : Seat) → slice_get cores.old.items at ≡ Some s → IfErr result (λ e. ((e ≡ CommandFault.Busy) × (s.cli.phase ≢ Idle)) ⊎ ((e ≡ CommandFault.OutOfMemory) × (s.cli.phase ≡ Idle))) }
     ensures err { OnErr result (cores.new.items ≡ cores.old.items) }
 {
     match cores[at].invoke(alloc, bytes) {
-        Ok((outs, marks)) => Ok(Effects { outs, marks }),
+        Ok((outs, marks)) => Ok(Effects {
+            outs,
+            marks,
+            spent: false,
+        }),
         Err(InvokeFault::Busy) => Err(CommandFault::Busy),
         Err(InvokeFault::TooLong) => unreachable!(),
         Err(InvokeFault::Empty) => unreachable!(),

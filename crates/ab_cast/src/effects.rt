@@ -1,11 +1,44 @@
 //! What an event brings about beside the core that it comes to.
 
+ghost use Rattle.std.specs.Prelude.{◌≡◌, [], true, false};
+
 use ab_abs::Marks;
 use ab_msg::Outs;
+use std::alloc::Global;
 
-/// What a core sends in an event, and what is seen of it if its party is correct.
+/// What a core sends in an event, what is seen of it if its party is correct, and whether the event is
+/// spent: it asks for more signatures than the replica has left, and nothing comes of it.
 #[derive(Drop)]
 pub struct Effects {
     pub outs: Outs,
     pub marks: Marks,
+    pub spent: bool,
+}
+
+impl Effects {
+    /// These messages are sent.
+    pub(crate) fn sent(alloc: Global, outs: Outs) -> Effects
+        ensures outs { result.outs ≡ outs }
+        ensures marks { result.marks.items ≡ [] }
+        ensures spent { result.spent ≡ false }
+    {
+        Effects {
+            outs,
+            marks: Marks::new_in(alloc),
+            spent: false,
+        }
+    }
+
+    /// Nothing comes of the event.
+    pub(crate) fn none(alloc: Global, spent: bool) -> Effects
+        ensures outs { result.outs ≡ [] }
+        ensures marks { result.marks.items ≡ [] }
+        ensures spent { result.spent ≡ spent }
+    {
+        Effects {
+            outs: Outs::new(alloc),
+            marks: Marks::new_in(alloc),
+            spent,
+        }
+    }
 }

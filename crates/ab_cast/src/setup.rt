@@ -32,10 +32,10 @@ impl Model for Setup {
 
     ghost Value = { TheSetup };
 
-    ghost view = { λ x. record { f = x.cluster.f; clients = x.cluster.clients; plan = x.cluster.plan; faulty = x.faulty.items } };
+    ghost view = { λ x. record { cluster = x.cluster; faulty = x.faulty.items } };
 
     ghost invariant = { λ x. IsSetup
-        (record { f = x.cluster.f; clients = x.cluster.clients; plan = x.cluster.plan; faulty = x.faulty.items })
+        (record { cluster = x.cluster; faulty = x.faulty.items })
         x.replica_rings.items x.client_rings.items x.replica_twins.items x.client_twins.items };
 }
 
@@ -155,7 +155,7 @@ impl Setup {
         faulty: &[(Party, u8)],
     ) -> Result<Setup, OutOfMemory>
         requires { All (λ e. IsTrue (is_party cluster.now.f cluster.now.clients e.0)) faulty.now }
-        ensures { IfOk result (λ x. x ≡ record { f = cluster.now.f; clients = cluster.now.clients; plan = cluster.now.plan; faulty = faulty.now }) }
+        ensures { IfOk result (λ x. x ≡ record { cluster = cluster.now; faulty = faulty.now }) }
     {
         Ok(Setup {
             cluster: *cluster,
@@ -169,9 +169,7 @@ impl Setup {
 
     /// The cluster.
     pub fn cluster(&self) -> &Cluster
-        ensures f { result.now.f ≡ self.now.f }
-        ensures clients { result.now.clients ≡ self.now.clients }
-        ensures plan { result.now.plan ≡ self.now.plan }
+        ensures { result.now ≡ self.now.cluster }
     {
         &self.cluster
     }
@@ -179,7 +177,7 @@ impl Setup {
     /// The faulty parties, each with the number of its cores.
     pub fn faulty(&self) -> &[(Party, u8)]
         ensures list { result.now ≡ self.now.faulty }
-        ensures parties { All (λ e. IsTrue (is_party self.now.f self.now.clients e.0)) result.now }
+        ensures parties { All (λ e. IsTrue (is_party self.now.cluster.f self.now.cluster.clients e.0)) result.now }
     {
         self.faulty.as_slice()
     }
@@ -193,7 +191,7 @@ impl Setup {
 
     /// The ring of a party of the cluster.
     pub fn ring(&self, party: Party) -> &KeyRing
-        requires { IsTrue (is_party self.now.f self.now.clients party) }
+        requires { IsTrue (is_party self.now.cluster.f self.now.cluster.clients party) }
         ensures { result.now ≡ ring_at self.now party }
     {
         match party {

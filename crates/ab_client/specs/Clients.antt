@@ -1,6 +1,5 @@
 -- What a contract sees of a client.
 use Rattle.std.specs.Prelude.{◌≡◌, ◌≢◌, ℕ, ◌<◌, ◌≤◌, Bool, true, false, List, []}
-use Rattle.std.specs.List.{Contains}
 use Rattle.ab_num.specs.declared.cluster.Cluster.{Cluster}
 use Rattle.ab_num.specs.declared.party.Party.TheVariants.{Client}
 use Rattle.ab_hist.specs.declared.request.Request.{Request}
@@ -9,8 +8,6 @@ use Rattle.ab_msg.specs.declared.content.Content.TheVariants.{Req}
 use Rattle.ab_msg.specs.declared.message.Msg.{Msg}
 use Rattle.ab_msg.specs.declared.message.Msg.TheVariants as msg
 use Rattle.ab_msg.specs.declared.message.Out.{Out}
-use Rattle.ab_msg.specs.Claims.{fresh, maker_of}
-use Rattle.ab_msg.specs.Grammar.{IsDraft}
 use Rattle.ab_abs.specs.declared.seen.Seen.{Seen}
 use Rattle.ab_run.specs.declared.phase.Phase.{Phase}
 use Rattle.ab_run.specs.declared.phase.Phase.TheVariants.{Idle, Waiting, Panicking}
@@ -52,11 +49,6 @@ marks s cue = cli_marks (alone s.cluster) s.me s.cli cue
 -- a client's request in an instance, before it has tags
 abbrev pub request_msg : ℕ → Request → Msg
 request_msg i m = msg.Req (Req (Client m.client) i m) (record { items = [] })
-
--- it gets bytes as it is sealed, and whatever in it needs the tags of client c, where f replicas may be faulty, the client states
-pub record IsDraftOf (f c : ℕ) (o : Out) : Type 0 where
-  pub draft : IsDraft o.msg
-  pub own : (s : Content) → Contains (fresh f (Client c) o.msg) s → maker_of s ≡ Client c
 
 -- when a command is refused: a request is open, or the command is too long or empty
 abbrev pub InvokeCause : InvokeFault → Phase → ℕ → Type 0

@@ -8,7 +8,8 @@ ghost use Rattle.ab_abs.specs.declared.ballot.Ballot.{Ballot as TheBallot};
 ghost use Rattle.ab_run.specs.Clients.{counting, counts_responses};
 ghost use Rattle.ab_run.specs.Runs.{first_cli};
 ghost use Rattle.ab_run.specs.Local.{cue_message, after_moves, marks_in_moves, sent_in_moves};
-ghost use Rattle.ab_client.specs.Clients.{is_waiting, Seat, alone, told, after, sends, marks, IsDraftOf, InvokeCause};
+ghost use Rattle.ab_client.specs.Clients.{is_waiting, Seat, alone, told, after, sends, marks, InvokeCause};
+ghost use Rattle.ab_client.specs.Drafts.{IsDraftOf};
 
 use crate::rules::{counts_responses, reply_rule};
 use crate::sending::requests;
@@ -132,7 +133,7 @@ impl Client {
         ensures client { OnOk result (self.new ≡ after self.old (told command.now)) }
         ensures outs { IfOk result (λ r. r.0 ≡ sends self.old (told command.now)) }
         ensures marks { IfOk result (λ r. r.1.items ≡ marks self.old (told command.now)) }
-        ensures drafts { self.old.me ≤ 15 → IfOk result (λ r. All (IsDraftOf self.old.cluster.f self.old.me) r.0) }
+        ensures drafts { self.old.me ≤ 15 → IfOk result (λ r. All (IsDraftOf self.old.cluster.f (Party.Client self.old.me)) r.0) }
         ensures stamp { OnOk result (self.new.cli.stamp ≡ self.old.cli.stamp + 1) }
         ensures idle { OnOk result (self.old.cli.phase ≡ Phase.Idle) }
         ensures cause { IfErr result (λ e. InvokeCause e self.old.cli.phase (length command.now)) }

@@ -1,7 +1,9 @@
 use Rattle.std.proofs.Common.{◌≡◌, ◌+◌, ◌^◌, ◌<◌, ◌≤◌, All, length, arith, refl, sym, ap, subst}
 use Rattle.ab_hist.specs.declared.request.Request.{Request}
 use Rattle.ab_msg.specs.Grammar.{IsDraft}
-use Rattle.ab_client.specs.Clients.{Seat, IsDraftOf, request_msg}
+use Rattle.ab_client.specs.Clients.{Seat, request_msg}
+use Rattle.ab_client.specs.Drafts.{IsDraftOf}
+use Rattle.ab_num.specs.declared.party.Party.TheVariants.{Client}
 use Rattle.ab_client.proofs.Targets.{requests_are_drafts}
 use Rattle.ab_client.proofs.client.Client.invoke.Goals as goal
 
@@ -17,5 +19,5 @@ returns-clause-drafts c few =
       refl,
       ((c.self.invariant.0, omega arith), ((omega arith, me), ((omega arith, omega (arith, stamp)), (omega (arith, long, said.1), omega (arith, long, said.2))))),
     ) in
-    subst (λ (s : Seat). All (IsDraftOf s.cluster.f s.me) c.in_ok-outs.outs) c.self.view_is
+    subst (λ (s : Seat). All (IsDraftOf s.cluster.f (Client s.me)) c.in_ok-outs.outs) c.self.view_is
     (requests_are_drafts q.cluster.f q.instance m draft q.cluster c.in_ok-outs.outs c.in_ok-outs.ensures)
