@@ -1,3 +1,4 @@
 -- Lemmas of this crate.
 pub mod Looks
 pub mod Watches
+pub mod Lines
