@@ -1,6 +1,6 @@
 //! Histories and requests in which equal digests are looked for.
 
-ghost use Rattle.std.specs.Prelude.{◌≡◌, ◌≤◌, length, IsOk, IfOk, OnOk, OnErr};
+ghost use Rattle.std.specs.Prelude.{◌≡◌, IfOk, OnOk, OnErr};
 ghost use Rattle.ab_links.specs.Digested.{history as history_item, request as request_item, is_found, keep_item, nothing};
 
 use crate::bases::Bases;
@@ -44,7 +44,6 @@ impl Digests {
     /// whether it shows two beginnings of histories, or two bases, with one digest. It takes as long
     /// as the entries behind those. After an `Err` some of it may be kept.
     pub fn add_history(&mut self, history: &History, from: usize) -> Result<bool, OutOfMemory>
-        requires { from ≤ length history.now }
         ensures answer { IfOk result (λ found. found ≡ is_found self.old (history_item history.now from)) }
         ensures ok { OnOk result (self.new ≡ keep_item self.old (history_item history.now from)) }
     {

