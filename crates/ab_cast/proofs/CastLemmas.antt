@@ -1,26 +1,37 @@
 -- What holds of the cores stays in each event.
-use Rattle.std.proofs.Common.{◌≡◌, ℕ, zero, suc, ◌+◌, ◌*◌, ◌<◌, ◌≤◌, List, [], ◌∷◌, ◌++◌, Some, None, length, map, get_or, refl, sym, ap, ◌∙◌, subst, inl, inr, arith, length-append}
-use Rattle.std.specs.Prelude.{Option, if◌then◌else◌, slice_get, slice_set}
+use Rattle.std.proofs.Common.{◌≡◌, ℕ, zero, suc, ◌+◌, ◌*◌, ◌<◌, ◌≤◌, Bool, false, List, [], ◌∷◌, ◌++◌, Some, None, length, map, get_or, refl, sym, ap, ◌∙◌, subst, inl, inr, arith, length-append}
+use Rattle.std.specs.Prelude.{Option, if◌then◌else◌, slice_get, slice_set, All, IsTrue}
 use Rattle.std.specs.Option.{option_map}
 use Rattle.std.proofs.lemmas.Bool.{cases_eq, cases_order}
 use Rattle.std.proofs.lemmas.Option.{slice_get-map, slice_get_past, slice_get_within, slice_get_read}
 use Rattle.std.proofs.lemmas.List.{length-map}
-use Rattle.ab_num.specs.Bounds.{IsInBounds}
+use Rattle.ab_num.specs.declared.cluster.Cluster.{Cluster}
+use Rattle.ab_num.specs.declared.plan.Kind.{Kind}
+use Rattle.ab_num.specs.declared.party.Party.TheVariants.{Replica, Client}
+use Rattle.ab_num.specs.Places.{kind_of}
+use Rattle.ab_msg.specs.declared.message.Msg.{Msg}
+use Rattle.ab_msg.specs.declared.message.Out.{Out}
+use Rattle.ab_abs.specs.declared.seen.Seen.{Seen}
+use Rattle.ab_abs.specs.Messages.{took}
 use Rattle.ab_abs.specs.Ensembles.{Proto}
-use Rattle.ab_abs.specs.Places.{SendsOwn}
+use Rattle.ab_abs.specs.Places.{Arises}
 use Rattle.ab_run.specs.Replicas.{Rep}
 use Rattle.ab_run.specs.Runs.{first_rep}
-use Rattle.ab_run.specs.States.{first_reps}
-use Rattle.ab_run.proofs.Lists.{set_hit, set_miss, set_length, get_before, get_last}
-use Rattle.ab_client.specs.Clients.{Seat}
+use Rattle.ab_run.specs.Stages.{first_reps}
+use Rattle.ab_run.specs.Local.{Cue, rep_after, cli_after, cli_sends, cli_marks}
+use Rattle.ab_run.proofs.Listed.{set_hit, set_miss, set_length, get_before, get_last}
+use Rattle.ab_client.specs.Clients.{Seat, alone, after, sends, marks}
+use Rattle.ab_client.specs.Drafts.{IsDraftOf}
 use Rattle.ab_cast.specs.declared.place.Place.{Place}
 use Rattle.ab_cast.specs.declared.place.Place.TheVariants as place
 use Rattle.ab_cast.specs.declared.fault.CommandFault.TheVariants.{Busy}
 use Rattle.ab_run.specs.declared.phase.Phase.TheVariants.{Idle}
-use Rattle.ab_cast.specs.Setups.{Setup, replica_twins, client_twins, place_of, party_at}
-use Rattle.ab_cast.specs.Cores.{Core, replica, client, rules}
-use Rattle.ab_cast.specs.Casts.{Cast, core_at, next, first_seat, first_seats, first_cast, is_idle, command_refusal, IsSeat, AreSeats, AreTwinSeats, AreOwn, AreTwins, IsCast}
+use Rattle.ab_cast.specs.Setups.{Setup, run_setup, replica_twins, client_twins, place_of, party_at}
+use Rattle.ab_cast.specs.Cores.{Core, replica, client, Taken, message, cue_of}
+use Rattle.ab_cast.specs.Signing.{RepTakes}
+use Rattle.ab_cast.specs.Casts.{Cast, core_at, next, first_seat, first_seats, first_cast, is_idle, command_refusal, IsTaken, IsSeat, AreSeats, AreTwinSeats, IsOf, AreOwn, AreTwins, IsCast}
 use Rattle.ab_cast.proofs.StandLemmas.{IsThere, some_injective, mapped_cases, is_there}
+use Rattle.ab_cast.proofs.ReplicaLemmas.{first_arises}
 
 -- ---- lists
 
@@ -58,26 +69,28 @@ the_same xs i s t at lt read = some_injective s t (sym at ∙ slice_get_read xs 
 
 -- ---- events
 
-module _ {P : Type 0} (proto : Proto P) (x : Cast P) (is : IsCast proto x) where
-  later_seat : (c : ℕ) (s : Seat) → IsSeat x.setup.cluster.f x.events c s → IsSeat x.setup.cluster.f (x.events + 1) c s
-  later_seat c s at = record { own = at.own; faults = at.faults; stamp = omega (arith, at.stamp) }
+module _ {P : Type 0} (proto : Proto P) (serves : Kind → Bool) (x : Cast P) (is : IsCast proto serves x) where
+  abbrev c : Cluster
+  c = x.setup.cluster
 
-  later_seats : AreSeats x.setup.cluster.f (x.events + 1) x.clients
-  later_seats c s at = later_seat c s (is.seats c s at)
+  later_seat : (n : ℕ) (s : Seat) → IsSeat c x.events n s → IsSeat c (x.events + 1) n s
+  later_seat n s at = record { own = at.own; placed = at.placed; stamp = omega (arith, at.stamp) }
 
-  later_twins : AreTwinSeats x.setup.cluster.f (x.events + 1) (client_twins x.setup.faulty) x.client_twins
+  later_seats : AreSeats c (x.events + 1) x.clients
+  later_seats n s at = later_seat n s (is.seats n s at)
+
+  later_twins : AreTwinSeats c (x.events + 1) (client_twins x.setup.faulty) x.client_twins
   later_twins at k s number there = later_seat k.0 s (is.twin_seats at k s number there)
 
   -- a client goes on
   abbrev pub GoesOn : Seat → Seat → Type 0
-  GoesOn s now = (now.me ≡ s.me) × ((now.f ≡ s.f) × (now.cli.stamp ≤ s.cli.stamp + 1))
+  GoesOn s now = (now.me ≡ s.me) × ((now.cluster ≡ s.cluster) × (now.cli.stamp ≤ s.cli.stamp + 1))
 
-  moved_seat : (c : ℕ) (s now : Seat) → GoesOn s now → IsSeat x.setup.cluster.f x.events c s → IsSeat x.setup.cluster.f (x.events + 1) c now
-  moved_seat c s now goes at = record { own = goes.0 ∙ at.own; faults = goes.1.0 ∙ at.faults; stamp = omega (arith, goes.1.1, at.stamp) }
+  moved_seat : (n : ℕ) (s now : Seat) → GoesOn s now → IsSeat c x.events n s → IsSeat c (x.events + 1) n now
+  moved_seat n s now goes at = record { own = goes.0 ∙ at.own; placed = goes.1.0 ∙ at.placed; stamp = omega (arith, goes.1.1, at.stamp) }
 
-  pub IsCast-next : x.events < 100000 → IsCast proto (next x)
+  pub IsCast-next : x.events < 100000 → IsCast proto serves (next x)
   IsCast-next few = record {
-    bounds = is.bounds;
     all_replicas = is.all_replicas;
     all_clients = is.all_clients;
     all_replica_twins = is.all_replica_twins;
@@ -90,57 +103,53 @@ module _ {P : Type 0} (proto : Proto P) (x : Cast P) (is : IsCast proto x) where
   }
 
   module _ (few : x.events < 100000) (at : ℕ) where
-    pub IsCast-replica : (s now : Rep P) (all : List (Rep P)) → slice_get x.replicas at ≡ Some s → ((own : SendsOwn proto) → own.owner now.value ≡ own.owner s.value)
-        → all ≡ slice_set x.replicas at now → IsCast proto (record x { replicas = all; events = x.events + 1 })
-    IsCast-replica s now all there owner set = record {
-      bounds = is.bounds;
+    IsCast-replica : (s now : Rep P) (all : List (Rep P)) → slice_get x.replicas at ≡ Some s → IsOf proto serves c at now
+        → all ≡ slice_set x.replicas at now → IsCast proto serves (record x { replicas = all; events = x.events + 1 })
+    IsCast-replica s now all there here set = record {
       all_replicas = ap length set ∙ (set_length x.replicas at now ∙ is.all_replicas);
       all_clients = is.all_clients;
       all_replica_twins = is.all_replica_twins;
       all_client_twins = is.all_client_twins;
-      own_replicas = λ own. subst (AreOwn own) (sym set) (Each-set (λ r t. own.owner t.value ≡ r) x.replicas at s now there (owner own ∙ is.own_replicas own at s there) (is.own_replicas own));
+      own_replicas = subst (AreOwn proto serves c) (sym set) (Each-set (IsOf proto serves c) x.replicas at s now there here is.own_replicas);
       twin_replicas = is.twin_replicas;
       seats = later_seats;
       twin_seats = later_twins;
       few_events = omega (arith, few);
     }
 
-    pub IsCast-replica_twin : (s now : Rep P) (all : List (Rep P)) → slice_get x.replica_twins at ≡ Some s → ((own : SendsOwn proto) → own.owner now.value ≡ own.owner s.value)
-        → all ≡ slice_set x.replica_twins at now → IsCast proto (record x { replica_twins = all; events = x.events + 1 })
-    IsCast-replica_twin s now all there owner set = record {
-      bounds = is.bounds;
+    IsCast-replica_twin : (s now : Rep P) (all : List (Rep P)) → slice_get x.replica_twins at ≡ Some s → ((k : ℕ × ℕ) → slice_get (replica_twins x.setup.faulty) at ≡ Some k → IsOf proto serves c k.0 now)
+        → all ≡ slice_set x.replica_twins at now → IsCast proto serves (record x { replica_twins = all; events = x.events + 1 })
+    IsCast-replica_twin s now all there here set = record {
       all_replicas = is.all_replicas;
       all_clients = is.all_clients;
       all_replica_twins = ap length set ∙ (set_length x.replica_twins at now ∙ is.all_replica_twins);
       all_client_twins = is.all_client_twins;
       own_replicas = is.own_replicas;
-      twin_replicas = λ own i k t number here. subst (λ (ts : List (Rep P)). AreTwins own (replica_twins x.setup.faulty) ts) (sym set)
-          (λ i k t number here. Each-set (λ j t. (k : ℕ × ℕ) → slice_get (replica_twins x.setup.faulty) j ≡ Some k → own.owner t.value ≡ k.0) x.replica_twins at s now there
-          (λ k number. owner own ∙ is.twin_replicas own at k s number there) (λ j t here k number. is.twin_replicas own j k t number here) i t here k number) i k t number here;
+      twin_replicas = subst (AreTwins proto serves c (replica_twins x.setup.faulty)) (sym set)
+          (λ i k t number at_i. Each-set (λ j t. (k : ℕ × ℕ) → slice_get (replica_twins x.setup.faulty) j ≡ Some k → IsOf proto serves c k.0 t) x.replica_twins at s now there
+          here (λ j t at_j k number. is.twin_replicas j k t number at_j) i t at_i k number);
       seats = later_seats;
       twin_seats = later_twins;
       few_events = omega (arith, few);
     }
 
-    pub IsCast-client : (s now : Seat) (all : List Seat) → slice_get x.clients at ≡ Some s → GoesOn s now
-        → all ≡ slice_set x.clients at now → IsCast proto (record x { clients = all; events = x.events + 1 })
+    IsCast-client : (s now : Seat) (all : List Seat) → slice_get x.clients at ≡ Some s → GoesOn s now
+        → all ≡ slice_set x.clients at now → IsCast proto serves (record x { clients = all; events = x.events + 1 })
     IsCast-client s now all there goes set = record {
-      bounds = is.bounds;
       all_replicas = is.all_replicas;
       all_clients = ap length set ∙ (set_length x.clients at now ∙ is.all_clients);
       all_replica_twins = is.all_replica_twins;
       all_client_twins = is.all_client_twins;
       own_replicas = is.own_replicas;
       twin_replicas = is.twin_replicas;
-      seats = subst (AreSeats x.setup.cluster.f (x.events + 1)) (sym set) (Each-set (IsSeat x.setup.cluster.f (x.events + 1)) x.clients at s now there (moved_seat at s now goes (is.seats at s there)) later_seats);
+      seats = subst (AreSeats c (x.events + 1)) (sym set) (Each-set (IsSeat c (x.events + 1)) x.clients at s now there (moved_seat at s now goes (is.seats at s there)) later_seats);
       twin_seats = later_twins;
       few_events = omega (arith, few);
     }
 
-    pub IsCast-client_twin : (s now : Seat) (all : List Seat) → slice_get x.client_twins at ≡ Some s → GoesOn s now
-        → all ≡ slice_set x.client_twins at now → IsCast proto (record x { client_twins = all; events = x.events + 1 })
+    IsCast-client_twin : (s now : Seat) (all : List Seat) → slice_get x.client_twins at ≡ Some s → GoesOn s now
+        → all ≡ slice_set x.client_twins at now → IsCast proto serves (record x { client_twins = all; events = x.events + 1 })
     IsCast-client_twin s now all there goes set = record {
-      bounds = is.bounds;
       all_replicas = is.all_replicas;
       all_clients = is.all_clients;
       all_replica_twins = is.all_replica_twins;
@@ -148,22 +157,159 @@ module _ {P : Type 0} (proto : Proto P) (x : Cast P) (is : IsCast proto x) where
       own_replicas = is.own_replicas;
       twin_replicas = is.twin_replicas;
       seats = later_seats;
-      twin_seats = subst (λ (ts : List Seat). AreTwinSeats x.setup.cluster.f (x.events + 1) (client_twins x.setup.faulty) ts) (sym set)
-          (λ i k t number here. Each-set (λ j t. (k : ℕ × ℕ) → slice_get (client_twins x.setup.faulty) j ≡ Some k → IsSeat x.setup.cluster.f (x.events + 1) k.0 t) x.client_twins at s now there
+      twin_seats = subst (AreTwinSeats c (x.events + 1) (client_twins x.setup.faulty)) (sym set)
+          (λ i k t number here. Each-set (λ j t. (k : ℕ × ℕ) → slice_get (client_twins x.setup.faulty) j ≡ Some k → IsSeat c (x.events + 1) k.0 t) x.client_twins at s now there
           (λ k number. moved_seat k.0 s now goes (is.twin_seats at k s number there)) (λ j t here k number. later_twins j k t number here) i t here k number);
       few_events = omega (arith, few);
     }
 
+  -- ---- where cores are
+
+  replica_at : (r : ℕ) → IsThere x.setup (place.Replica r) → (s : Rep P) × (slice_get x.replicas r ≡ Some s)
+  replica_at r there = get_there x.replicas r (omega (arith, there, is.all_replicas))
+
+  client_at : (n : ℕ) → IsThere x.setup (place.Client n) → (s : Seat) × (slice_get x.clients n ≡ Some s)
+  client_at n there = get_there x.clients n (omega (arith, there, is.all_clients))
+
+  replica_twin_at : (r at : ℕ) → IsThere x.setup (place.ReplicaTwin r at) → (s : Rep P) × (slice_get x.replica_twins at ≡ Some s)
+  replica_twin_at r at there = get_there x.replica_twins at (omega (arith, slice_get_within (replica_twins x.setup.faulty) at there.1.0 there.1.1.0, is.all_replica_twins))
+
+  client_twin_at : (n at : ℕ) → IsThere x.setup (place.ClientTwin n at) → (s : Seat) × (slice_get x.client_twins at ≡ Some s)
+  client_twin_at n at there = get_there x.client_twins at (omega (arith, slice_get_within (client_twins x.setup.faulty) at there.1.0 there.1.1.0, is.all_client_twins))
+
+  pub seat_at : (n at : ℕ) (s : Seat) → IsThere x.setup (place.ClientTwin n at) → slice_get x.client_twins at ≡ Some s → IsSeat c x.events n s
+  seat_at n at s there here = subst (λ (d : ℕ). IsSeat c x.events d s) there.1.1.1 (is.twin_seats at there.1.0 s there.1.1.0 here)
+
   -- a place of the cluster has its core
   pub core_there : (at : Place) → IsThere x.setup at → (s : Core P) × (core_at x at ≡ Some s)
-  core_there (place.Replica r) there = let s = get_there x.replicas r (omega (arith, there, is.all_replicas)) in (replica s.0, ap (option_map replica) s.1)
-  core_there (place.Client c) there = let s = get_there x.clients c (omega (arith, there, is.all_clients)) in (client s.0, ap (option_map client) s.1)
-  core_there (place.ReplicaTwin r at) there =
-      let s = get_there x.replica_twins at (omega (arith, slice_get_within (replica_twins x.setup.faulty) at there.1.0 there.1.1.0, is.all_replica_twins)) in
-      (replica s.0, ap (option_map replica) s.1)
-  core_there (place.ClientTwin c at) there =
-      let s = get_there x.client_twins at (omega (arith, slice_get_within (client_twins x.setup.faulty) at there.1.0 there.1.1.0, is.all_client_twins)) in
-      (client s.0, ap (option_map client) s.1)
+  core_there (place.Replica r) there = let s = replica_at r there in (replica s.0, ap (option_map replica) s.1)
+  core_there (place.Client n) there = let s = client_at n there in (client s.0, ap (option_map client) s.1)
+  core_there (place.ReplicaTwin r at) there = let s = replica_twin_at r at there in (replica s.0, ap (option_map replica) s.1)
+  core_there (place.ClientTwin n at) there = let s = client_twin_at n at there in (client s.0, ap (option_map client) s.1)
+
+  -- ---- a replica takes a message
+
+  module _ (few : x.events < 100000) (r at : ℕ) (m : Msg) (items all : List (Rep P)) (outs : List Out) (marks : List Seen) (spent : Bool) where
+    abbrev pub TakesAt : Type 0
+    TakesAt = (s : Rep P) → slice_get items at ≡ Some s → (now : Rep P) × (all ≡ slice_set items at now) × RepTakes proto c r s m now outs marks spent
+
+    abbrev pub ArisesAt : Type 0
+    ArisesAt = (s : Rep P) → slice_get items at ≡ Some s → Arises proto serves c s.at r s.value → let now = rep_after (alone c) proto r s (took m) in Arises proto serves c now.at r now.value
+
+    abbrev pub DraftsAt : Type 0
+    DraftsAt = (s : Rep P) → slice_get items at ≡ Some s → Arises proto serves c s.at r s.value → All (IsDraftOf c.f (Replica r)) outs
+
+    now_of : TakesAt → ArisesAt → (s : Rep P) → slice_get items at ≡ Some s → (r < 3 * c.f + 1 → Arises proto serves c s.at r s.value)
+        → (now : Rep P) × (all ≡ slice_set items at now) × IsOf proto serves c r now
+    now_of takes arises s here was =
+        let t = takes s here in
+        (t.0, t.1, λ lt. subst (λ (q : Rep P). Arises proto serves c q.at r q.value) (sym t.2.after) (arises s here (was lt)))
+
+  module _ (few : x.events < 100000) (r : ℕ) (m : Msg) (all : List (Rep P)) (outs : List Out) (marks : List Seen) (spent : Bool) (there : IsThere x.setup (place.Replica r)) (takes : TakesAt few r r m x.replicas all outs marks spent) where
+    pub replica_stays : ArisesAt few r r m x.replicas all outs marks spent → IsCast proto serves (record x { replicas = all; events = x.events + 1 })
+    replica_stays arises =
+        let s = replica_at r there in
+        let n = now_of few r r m x.replicas all outs marks spent takes arises s.0 s.1 (is.own_replicas r s.0 s.1) in
+        IsCast-replica few r s.0 n.0 all s.1 n.2 n.1
+
+    pub replica_taken : DraftsAt few r r m x.replicas all outs marks spent → (s : Rep P) → slice_get x.replicas r ≡ Some s
+        → IsTaken proto x (place.Replica r) (replica s) (message m) (record x { replicas = all; events = x.events + 1 }) outs marks spent
+    replica_taken drafts s here =
+        let t = takes s here in
+        record {
+          after = ap (λ v. record x { replicas = v; events = x.events + 1 }) (t.1 ∙ ap (slice_set x.replicas r) t.2.after);
+          sends = t.2.sends;
+          shows = t.2.shows;
+          spends = t.2.spends;
+          drafts = drafts s here (is.own_replicas r s here there);
+        }
+
+  module _ (few : x.events < 100000) (r at : ℕ) (m : Msg) (all : List (Rep P)) (outs : List Out) (marks : List Seen) (spent : Bool) (there : IsThere x.setup (place.ReplicaTwin r at)) (takes : TakesAt few r at m x.replica_twins all outs marks spent) where
+    -- the number of the replica whose further core stands there is r
+    twin_of : (s : Rep P) → slice_get x.replica_twins at ≡ Some s → IsOf proto serves c r s
+    twin_of s here = subst (λ (n : ℕ). IsOf proto serves c n s) there.1.1.1 (is.twin_replicas at there.1.0 s there.1.1.0 here)
+
+    pub replica_twin_stays : ArisesAt few r at m x.replica_twins all outs marks spent → IsCast proto serves (record x { replica_twins = all; events = x.events + 1 })
+    replica_twin_stays arises =
+        let s = replica_twin_at r at there in
+        let n = now_of few r at m x.replica_twins all outs marks spent takes arises s.0 s.1 (twin_of s.0 s.1) in
+        let number : (k : ℕ × ℕ) → slice_get (replica_twins x.setup.faulty) at ≡ Some k → r ≡ k.0
+        = λ k is_k. sym there.1.1.1 ∙ ap (λ (k : ℕ × ℕ). k.0) (some_injective there.1.0 k (sym there.1.1.0 ∙ is_k)) in
+        IsCast-replica_twin few at s.0 n.0 all s.1 (λ k is_k. subst (λ (q : ℕ). IsOf proto serves c q n.0) (number k is_k) n.2) n.1
+
+    pub replica_twin_taken : DraftsAt few r at m x.replica_twins all outs marks spent → (s : Rep P) → slice_get x.replica_twins at ≡ Some s
+        → IsTaken proto x (place.ReplicaTwin r at) (replica s) (message m) (record x { replica_twins = all; events = x.events + 1 }) outs marks spent
+    replica_twin_taken drafts s here =
+        let t = takes s here in
+        record {
+          after = ap (λ v. record x { replica_twins = v; events = x.events + 1 }) (t.1 ∙ ap (slice_set x.replica_twins at) t.2.after);
+          sends = t.2.sends;
+          shows = t.2.shows;
+          spends = t.2.spends;
+          drafts = drafts s here (twin_of s here there.0);
+        }
+
+  -- ---- a client takes what comes
+
+  -- a client of the cluster does what the run says
+  module _ (n events : ℕ) (s : Seat) (seat : IsSeat c events n s) (cue : Cue) where
+    seat_after : after s cue ≡ record s { cli = cli_after (run_setup x.setup) n s.cli cue }
+    seat_after = ap (λ k. record s { cli = cli_after (alone k) s.me s.cli cue }) seat.placed ∙ ap (λ m. record s { cli = cli_after (run_setup x.setup) m s.cli cue }) seat.own
+
+    seat_sends : sends s cue ≡ cli_sends (run_setup x.setup) n s.cli cue
+    seat_sends = ap (λ k. cli_sends (alone k) s.me s.cli cue) seat.placed ∙ ap (λ m. cli_sends (run_setup x.setup) m s.cli cue) seat.own
+
+    seat_marks : marks s cue ≡ cli_marks (run_setup x.setup) n s.cli cue
+    seat_marks = ap (λ k. cli_marks (alone k) s.me s.cli cue) seat.placed ∙ ap (λ m. cli_marks (run_setup x.setup) m s.cli cue) seat.own
+
+    seat_drafts : (outs : List Out) → All (IsDraftOf s.cluster.f (Client s.me)) outs → All (IsDraftOf c.f (Client n)) outs
+    seat_drafts outs all = subst (λ (k : Cluster). All (IsDraftOf k.f (Client n)) outs) seat.placed (subst (λ (m : ℕ). All (IsDraftOf s.cluster.f (Client m)) outs) seat.own all)
+
+  pub few_clients : (n events : ℕ) (s : Seat) → n < c.clients → IsSeat c events n s → s.me ≤ 15
+  few_clients n events s lt seat = omega (arith, lt, seat.own, c.in_bounds.few_clients)
+
+  module _ (few : x.events < 100000) (n at : ℕ) (t : Taken) (items all : List Seat) (outs : List Out) (shown : List Seen) where
+    -- what the code says of a client that takes it
+    pub record DoesAt : Type 0 where
+      pub cores : (s : Seat) → slice_get items at ≡ Some s → all ≡ slice_set items at (after s (cue_of t))
+      pub stamp : (s : Seat) → slice_get items at ≡ Some s → (after s (cue_of t)).cli.stamp ≤ s.cli.stamp + 1
+      pub outs : (s : Seat) → slice_get items at ≡ Some s → outs ≡ sends s (cue_of t)
+      pub marks : (s : Seat) → slice_get items at ≡ Some s → shown ≡ marks s (cue_of t)
+      pub drafts : (s : Seat) → slice_get items at ≡ Some s → s.me ≤ 15 → All (IsDraftOf s.cluster.f (Client s.me)) outs
+
+  module _ (few : x.events < 100000) (n : ℕ) (t : Taken) (all : List Seat) (outs : List Out) (shown : List Seen) (there : IsThere x.setup (place.Client n)) (does : DoesAt few n n t x.clients all outs shown) where
+    pub client_stays : IsCast proto serves (record x { clients = all; events = x.events + 1 })
+    client_stays =
+        let s = client_at n there in
+        IsCast-client few n s.0 (after s.0 (cue_of t)) all s.1 (refl, (refl, does.stamp s.0 s.1)) (does.cores s.0 s.1)
+
+    pub client_taken : (s : Seat) → slice_get x.clients n ≡ Some s → IsTaken proto x (place.Client n) (client s) t (record x { clients = all; events = x.events + 1 }) outs shown false
+    client_taken s here =
+        let seat = is.seats n s here in
+        record {
+          after = ap (λ v. record x { clients = v; events = x.events + 1 }) (does.cores s here ∙ ap (slice_set x.clients n) (seat_after n x.events s seat (cue_of t)));
+          sends = does.outs s here ∙ seat_sends n x.events s seat (cue_of t);
+          shows = does.marks s here ∙ seat_marks n x.events s seat (cue_of t);
+          spends = refl;
+          drafts = seat_drafts n x.events s seat (cue_of t) outs (does.drafts s here (few_clients n x.events s there seat));
+        }
+
+  module _ (few : x.events < 100000) (n at : ℕ) (t : Taken) (all : List Seat) (outs : List Out) (shown : List Seen) (there : IsThere x.setup (place.ClientTwin n at)) (does : DoesAt few n at t x.client_twins all outs shown) where
+    pub client_twin_stays : IsCast proto serves (record x { client_twins = all; events = x.events + 1 })
+    client_twin_stays =
+        let s = client_twin_at n at there in
+        IsCast-client_twin few at s.0 (after s.0 (cue_of t)) all s.1 (refl, (refl, does.stamp s.0 s.1)) (does.cores s.0 s.1)
+
+    pub client_twin_taken : (s : Seat) → slice_get x.client_twins at ≡ Some s → IsTaken proto x (place.ClientTwin n at) (client s) t (record x { client_twins = all; events = x.events + 1 }) outs shown false
+    client_twin_taken s here =
+        let seat = seat_at n at s there here in
+        record {
+          after = ap (λ v. record x { client_twins = v; events = x.events + 1 }) (does.cores s here ∙ ap (slice_set x.client_twins at) (seat_after n x.events s seat (cue_of t)));
+          sends = does.outs s here ∙ seat_sends n x.events s seat (cue_of t);
+          shows = does.marks s here ∙ seat_marks n x.events s seat (cue_of t);
+          spends = refl;
+          drafts = seat_drafts n x.events s seat (cue_of t) outs (does.drafts s here (few_clients n x.events s there.0 seat));
+        }
 
 -- ---- what clauses say of the core at a place
 
@@ -184,28 +330,9 @@ module _ {P : Type 0} where
     at_there twin given =
         subst (IsThere x.setup) placed (subst (λ (y : Cast P). IsThere y.setup p) (sym view) (is_there now.setup (party_at p) twin p given))
 
-module _ {P : Type 0} (proto : Proto P) (x : Cast P) (is : IsCast proto x) where
-  pub replica_at : (r : ℕ) → IsThere x.setup (place.Replica r) → (s : Rep P) × (slice_get x.replicas r ≡ Some s)
-  replica_at r there = get_there x.replicas r (omega (arith, there, is.all_replicas))
-
-  pub client_at : (c : ℕ) → IsThere x.setup (place.Client c) → (s : Seat) × (slice_get x.clients c ≡ Some s)
-  client_at c there = get_there x.clients c (omega (arith, there, is.all_clients))
-
-  pub replica_twin_at : (r at : ℕ) → IsThere x.setup (place.ReplicaTwin r at) → (s : Rep P) × (slice_get x.replica_twins at ≡ Some s)
-  replica_twin_at r at there = get_there x.replica_twins at (omega (arith, slice_get_within (replica_twins x.setup.faulty) at there.1.0 there.1.1.0, is.all_replica_twins))
-
-  pub client_twin_at : (c at : ℕ) → IsThere x.setup (place.ClientTwin c at) → (s : Seat) × (slice_get x.client_twins at ≡ Some s)
-  client_twin_at c at there = get_there x.client_twins at (omega (arith, slice_get_within (client_twins x.setup.faulty) at there.1.0 there.1.1.0, is.all_client_twins))
-
-  pub seat_at : (c at : ℕ) (s : Seat) → IsThere x.setup (place.ClientTwin c at) → slice_get x.client_twins at ≡ Some s → IsSeat x.setup.cluster.f x.events c s
-  seat_at c at s there here = subst (λ (d : ℕ). IsSeat x.setup.cluster.f x.events d s) there.1.1.1 (is.twin_seats at there.1.0 s there.1.1.0 here)
-
-  pub owner_at : (own : SendsOwn proto) (r at : ℕ) (s : Rep P) → IsThere x.setup (place.ReplicaTwin r at) → slice_get x.replica_twins at ≡ Some s → own.owner s.value ≡ r
-  owner_at own r at s there here = is.twin_replicas own at there.1.0 s there.1.1.0 here ∙ there.1.1.1
-
-  -- the numbers of clients are small
-  pub few_clients : (c : ℕ) (s : Seat) → c < x.setup.cluster.clients → IsSeat x.setup.cluster.f x.events c s → s.me ≤ 15
-  few_clients c s lt seat = omega (arith, lt, seat.own, is.bounds.few_clients)
+pub spends_nothing : {P : Type 0} (proto : Proto P) (x : Cast P) (at : Place) (s : Core P) (t : Taken) (now : Cast P) (outs : List Out) (marks : List Seen) (spent : Bool) → spent ≡ false
+    → IsTaken proto x at s t now outs marks false → IsTaken proto x at s t now outs marks spent
+spends_nothing proto x at s t now outs marks spent is taken = subst (λ (b : Bool). IsTaken proto x at s t now outs marks b) (sym is) taken
 
 -- a client without an open request takes a command
 pub is_free_core : (P : Type 0) (s : Seat) → s.cli.phase ≡ Idle → command_refusal {P = P} (client s) ≡ None
@@ -213,52 +340,63 @@ is_free_core P s idle = ap (λ p. if is_idle p then None else Some Busy) idle
 
 -- ---- before the first event
 
-pub length-first_seats : (f n : ℕ) → length (first_seats f n) ≡ n
-length-first_seats f zero = refl
-length-first_seats f (suc n) = length-append (first_seats f n) (first_seat f n ∷ []) ∙ omega (arith, length-first_seats f n)
+length-first_seats : (c : Cluster) (n : ℕ) → length (first_seats c n) ≡ n
+length-first_seats c zero = refl
+length-first_seats c (suc n) = length-append (first_seats c n) (first_seat c n ∷ []) ∙ omega (arith, length-first_seats c n)
 
-first_seated : (f c : ℕ) → IsSeat f 0 c (first_seat f c)
-first_seated f c = record { own = refl; faults = refl; stamp = omega arith }
+first_seated : (c : Cluster) (n : ℕ) → IsSeat c 0 n (first_seat c n)
+first_seated c n = record { own = refl; placed = refl; stamp = omega arith }
 
-first_are_seats : (f n : ℕ) → AreSeats f 0 (first_seats f n)
-first_are_seats f zero c s at = absurd (cc (at))
-first_are_seats f (suc n) c s at =
-    Each-push (IsSeat f 0) (first_seats f n) (first_seat f n) (subst (λ (c : ℕ). IsSeat f 0 c (first_seat f n)) (sym (length-first_seats f n)) (first_seated f n)) (first_are_seats f n) c s at
+first_are_seats : (c : Cluster) (n : ℕ) → AreSeats c 0 (first_seats c n)
+first_are_seats c zero m s at = absurd (cc (at))
+first_are_seats c (suc n) m s at =
+    Each-push (IsSeat c 0) (first_seats c n) (first_seat c n) (subst (λ (m : ℕ). IsSeat c 0 m (first_seat c n)) (sym (length-first_seats c n)) (first_seated c n)) (first_are_seats c n) m s at
 
 -- where both lists are made of the same numbers
 mapped : {A : Type 0} (f : ℕ → A) (numbers : List (ℕ × ℕ)) (at : ℕ) (k : ℕ × ℕ) (s : A) → slice_get numbers at ≡ Some k → slice_get (map (λ k. f k.0) numbers) at ≡ Some s → f k.0 ≡ s
 mapped f numbers at k s number there =
     some_injective (f k.0) s (sym (slice_get-map (λ k. f k.0) numbers at ∙ ap (option_map (λ k. f k.0)) number) ∙ there)
 
-module _ {P : Type 0} (proto : Proto P) where
-  length-first_reps : (n : ℕ) → length (first_reps (rules proto) 0 n) ≡ n
-  length-first_reps zero = refl
-  length-first_reps (suc n) = length-append (first_reps (rules proto) 0 n) (first_rep (rules proto) 0 n ∷ []) ∙ omega (arith, length-first_reps n)
+module _ {P : Type 0} (proto : Proto P) (serves : Kind → Bool) (x : Setup) (served : IsTrue (serves (kind_of x.cluster.plan 1))) where
+  abbrev first : ℕ → Rep P
+  first r = first_rep (run_setup x) proto r
 
-  first_are_own : (own : SendsOwn proto) (n : ℕ) → AreOwn own (first_reps (rules proto) 0 n)
-  first_are_own own zero r s at = absurd (cc (at))
-  first_are_own own (suc n) r s at =
-      Each-push (λ r s. own.owner s.value ≡ r) (first_reps (rules proto) 0 n) (first_rep (rules proto) 0 n) (own.begun 1 n [] ∙ sym (length-first_reps n)) (first_are_own own n) r s at
+  abbrev firsts : ℕ → List (Rep P)
+  firsts n = first_reps (run_setup x) proto n
 
-  pub IsCast-first : (x : Setup) → IsInBounds x.cluster.f x.clients → IsCast proto (first_cast proto x)
-  IsCast-first x bounds = record {
-    bounds = bounds;
-    all_replicas = length-first_reps (3 * x.cluster.f + 1);
-    all_clients = length-first_seats x.cluster.f x.clients;
-    all_replica_twins = length-map (replica_twins x.faulty) (λ k. first_rep (rules proto) 0 k.0);
-    all_client_twins = length-map (client_twins x.faulty) (λ k. first_seat x.cluster.f k.0);
-    own_replicas = λ own. first_are_own own (3 * x.cluster.f + 1);
-    twin_replicas = λ own at k s number there. ap (λ t. own.owner t.value) (sym (mapped (first_rep (rules proto) 0) (replica_twins x.faulty) at k s number there)) ∙ own.begun 1 k.0 [];
-    seats = first_are_seats x.cluster.f x.clients;
-    twin_seats = λ at k s number there. subst (IsSeat x.cluster.f 0 k.0) (mapped (first_seat x.cluster.f) (client_twins x.faulty) at k s number there) (first_seated x.cluster.f k.0);
+  length-firsts : (n : ℕ) → length (firsts n) ≡ n
+  length-firsts zero = refl
+  length-firsts (suc n) = length-append (firsts n) (first n ∷ []) ∙ omega (arith, length-firsts n)
+
+  first_is_of : (r : ℕ) → IsOf proto serves x.cluster r (first r)
+  first_is_of r lt = first_arises proto serves x.cluster r served lt
+
+  firsts_are_own : (n : ℕ) → AreOwn proto serves x.cluster (firsts n)
+  firsts_are_own zero r s at = absurd (cc (at))
+  firsts_are_own (suc n) r s at =
+      Each-push (IsOf proto serves x.cluster) (firsts n) (first n) (subst (λ (m : ℕ). IsOf proto serves x.cluster m (first n)) (sym (length-firsts n)) (first_is_of n)) (firsts_are_own n) r s at
+
+  IsCast-first : IsCast proto serves (first_cast proto x)
+  IsCast-first = record {
+    all_replicas = length-firsts (3 * x.cluster.f + 1);
+    all_clients = length-first_seats x.cluster x.cluster.clients;
+    all_replica_twins = length-map (replica_twins x.faulty) (λ k. first k.0);
+    all_client_twins = length-map (client_twins x.faulty) (λ k. first_seat x.cluster k.0);
+    own_replicas = firsts_are_own (3 * x.cluster.f + 1);
+    twin_replicas = λ at k s number there. subst (IsOf proto serves x.cluster k.0) (mapped first (replica_twins x.faulty) at k s number there) (first_is_of k.0);
+    seats = first_are_seats x.cluster x.cluster.clients;
+    twin_seats = λ at k s number there. subst (IsSeat x.cluster 0 k.0) (mapped (first_seat x.cluster) (client_twins x.faulty) at k s number there) (first_seated x.cluster k.0);
     few_events = omega arith;
   }
 
-  pub first_as : (x : Setup) (f n : ℕ) (replicas : List (Rep P)) (clients : List Seat) (twins : List (Rep P)) (client_twins' : List Seat) → IsInBounds f n → f ≡ x.cluster.f → n ≡ x.clients
-      → replicas ≡ first_reps (rules proto) 0 (3 * f + 1) → clients ≡ first_seats f n → twins ≡ map (λ k. first_rep (rules proto) 0 k.0) (replica_twins x.faulty) → client_twins' ≡ map (λ k. first_seat x.cluster.f k.0) (client_twins x.faulty)
-      → IsCast proto (record { setup = x; replicas = replicas; clients = clients; replica_twins = twins; client_twins = client_twins'; events = 0 })
-  first_as x f n replicas clients twins client_twins' bounds faults number of_replicas of_clients of_twins of_client_twins =
-      let r : replicas ≡ first_reps (rules proto) 0 (3 * x.cluster.f + 1) = of_replicas ∙ ap (λ k. first_reps (rules proto) 0 (3 * k + 1)) faults in
-      let c : clients ≡ first_seats x.cluster.f x.clients = of_clients ∙ (λ j. first_seats (faults j) (number j)) in
-      let all : IsInBounds x.cluster.f x.clients = subst (λ (k : ℕ). IsInBounds k x.clients) faults (subst (IsInBounds f) number bounds) in
-      subst (IsCast proto) (λ j. record { setup = x; replicas = sym r j; clients = sym c j; replica_twins = sym of_twins j; client_twins = sym of_client_twins j; events = 0 }) (IsCast-first x all)
+  module _ (c : Cluster) (placed : c ≡ x.cluster) (replicas : List (Rep P)) (clients : List Seat) (twins : List (Rep P)) (further : List Seat)
+      (of_replicas : replicas ≡ first_reps (alone c) proto (3 * c.f + 1)) (of_clients : clients ≡ first_seats c c.clients)
+      (of_twins : twins ≡ map (λ k. first_rep (alone x.cluster) proto k.0) (replica_twins x.faulty)) (of_further : further ≡ map (λ k. first_seat x.cluster k.0) (client_twins x.faulty)) where
+    pub first_as : record { setup = x; replicas = replicas; clients = clients; replica_twins = twins; client_twins = further; events = 0 } ≡ first_cast proto x
+    first_as =
+        let r : replicas ≡ firsts (3 * x.cluster.f + 1) = of_replicas ∙ ap (λ (k : Cluster). first_reps (alone k) proto (3 * k.f + 1)) placed in
+        let s : clients ≡ first_seats x.cluster x.cluster.clients = of_clients ∙ ap (λ (k : Cluster). first_seats k k.clients) placed in
+        λ j. record { setup = x; replicas = r j; clients = s j; replica_twins = of_twins j; client_twins = of_further j; events = 0 }
+
+    pub IsCast-new : IsCast proto serves (record { setup = x; replicas = replicas; clients = clients; replica_twins = twins; client_twins = further; events = 0 })
+    IsCast-new = subst (IsCast proto serves) (sym first_as) IsCast-first

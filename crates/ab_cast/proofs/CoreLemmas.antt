@@ -85,15 +85,15 @@ is_some-in true o = refl
 is_some-in false o = refl
 
 place_is : (x : Setup) (p : Party) (t : ℕ) → is_some (place_of x p (Some t))
-    ≡ (is_party x.cluster.f x.clients p && (is_bad x p && (eqb t 1 || list_any (λ e. has_further p t e.0 e.1) x.faulty)))
+    ≡ (is_party x.cluster.f x.cluster.clients p && (is_bad x p && (eqb t 1 || list_any (λ e. has_further p t e.0 e.1) x.faulty)))
 place_is x p t =
-    is_some-in (is_party x.cluster.f x.clients p) (numbered_place x p (Some t))
-    ∙ ap (λ b. is_party x.cluster.f x.clients p && b) (is_some-two (is_bad x p) (eqb t 1) (own_place p) (twin_place x.faulty p t))
-    ∙ ap (λ b. is_party x.cluster.f x.clients p && (is_bad x p && (eqb t 1 || b))) (twin_is x.faulty p t)
+    is_some-in (is_party x.cluster.f x.cluster.clients p) (numbered_place x p (Some t))
+    ∙ ap (λ b. is_party x.cluster.f x.cluster.clients p && b) (is_some-two (is_bad x p) (eqb t 1) (own_place p) (twin_place x.faulty p t))
+    ∙ ap (λ b. is_party x.cluster.f x.cluster.clients p && (is_bad x p && (eqb t 1 || b))) (twin_is x.faulty p t)
 
-pub own_is : (x : Setup) (p : Party) → (IsSome (place_of x p None) ↔ IsTrue (is_party x.cluster.f x.clients p))
+pub own_is : (x : Setup) (p : Party) → (IsSome (place_of x p None) ↔ IsTrue (is_party x.cluster.f x.cluster.clients p))
 own_is x p =
-    let e = is_some-cond (is_party x.cluster.f x.clients p) (own_place p) in
+    let e = is_some-cond (is_party x.cluster.f x.cluster.clients p) (own_place p) in
     (λ h. sym e ∙ h, λ h. e ∙ h)
 
 -- ---- the same in words
@@ -164,15 +164,15 @@ first_or_later x p t true is c = refl
 first_or_later x p t false is c = entered p x.faulty (λ n. ltb 1 t && ltb t (n + 1)) c.0 c.1 (further t c.0 c.2 c.3 is)
 
 pub numbered_is : (x : Setup) (p : Party) (t : ℕ) → All (λ e. 1 ≤ e.1) x.faulty
-    → (IsSome (place_of x p (Some t)) ↔ (IsTrue (is_party x.cluster.f x.clients p) × HasCore x p t))
+    → (IsSome (place_of x p (Some t)) ↔ (IsTrue (is_party x.cluster.f x.cluster.clients p) × HasCore x p t))
 numbered_is x p t some =
     let later = list_any (λ e. has_further p t e.0 e.1) x.faulty in (
       λ h.
-          let a = both (is_party x.cluster.f x.clients p) (is_bad x p && (eqb t 1 || later)) (sym (place_is x p t) ∙ h) in
+          let a = both (is_party x.cluster.f x.cluster.clients p) (is_bad x p && (eqb t 1 || later)) (sym (place_is x p t) ∙ h) in
           let b = both (is_bad x p) (eqb t 1 || later) a.1 in
           (a.0, has_core x p t some b.0 (or_cases (eqb t 1) later b.1)),
       λ h.
           let bad = sym (bad_is x p) ∙ entered p x.faulty (λ _. true) h.1.0 h.1.1 refl in
-          place_is x p t ∙ and_from (is_party x.cluster.f x.clients p) (is_bad x p && (eqb t 1 || later)) h.0
+          place_is x p t ∙ and_from (is_party x.cluster.f x.cluster.clients p) (is_bad x p && (eqb t 1 || later)) h.0
           (and_from (is_bad x p) (eqb t 1 || later) bad (first_or_later x p t (eqb t 1) refl h.1)),
     )

@@ -5,3 +5,4 @@ pub mod CoreLemmas
 pub mod StepLemmas
 pub mod StandLemmas
 pub mod CastLemmas
+pub mod ReplicaLemmas

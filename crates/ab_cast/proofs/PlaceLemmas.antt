@@ -75,7 +75,7 @@ numbered_stands x p None at h = moved x.faulty p 1 (own_place p) at (some_inject
 numbered_stands x p (Some t) at h = either_stands x.faulty p t at (eqb t 1) (Decides-eqb t 1).0 (given (is_bad x p) _ at h)
 
 stands : (x : Setup) (p : Party) (t : Option ℕ) (at : Place) → place_of x p t ≡ Some at → StandsAt x.faulty p (core_number t) at
-stands x p t at h = numbered_stands x p t at (given (is_party x.cluster.f x.clients p) (numbered_place x p t) at h)
+stands x p t at h = numbered_stands x p t at (given (is_party x.cluster.f x.cluster.clients p) (numbered_place x p t) at h)
 
 pub owner_of_place : (x : Setup) (p : Party) (t : Option ℕ) (at : Place) → place_of x p t ≡ Some at → party_at at ≡ p
 owner_of_place x p t at h = (stands x p t at h).0

@@ -18,9 +18,9 @@ StandsAt numbers at number = (k : ℕ × ℕ) × ((slice_get numbers at ≡ Some
 
 abbrev pub IsThere : Setup → Place → Type 0
 IsThere x (place.Replica r) = r < 3 * x.cluster.f + 1
-IsThere x (place.Client c) = c < x.clients
+IsThere x (place.Client c) = c < x.cluster.clients
 IsThere x (place.ReplicaTwin r at) = (r < 3 * x.cluster.f + 1) × StandsAt (replica_twins x.faulty) at r
-IsThere x (place.ClientTwin c at) = (c < x.clients) × StandsAt (client_twins x.faulty) at c
+IsThere x (place.ClientTwin c at) = (c < x.cluster.clients) × StandsAt (client_twins x.faulty) at c
 
 pub some_injective : {A : Type 0} (x y : A) → Some x ≡ Some y → x ≡ y
 some_injective x y e = cc
@@ -43,19 +43,19 @@ found numbers number twin at is =
     (k, (slice_get-get_or numbers at (0, 0) first.0, same_number k.0 number (both_left (k.0 == number) (k.1 == twin) first.1)))
 
 module _ (x : Setup) where
-  own_there : (p : Party) → is_party x.cluster.f x.clients p ≡ true → IsThere x (own_place p)
+  own_there : (p : Party) → is_party x.cluster.f x.cluster.clients p ≡ true → IsThere x (own_place p)
   own_there (Replica r) is = ltb-true r (3 * x.cluster.f + 1) is
-  own_there (Client c) is = ltb-true c x.clients is
+  own_there (Client c) is = ltb-true c x.cluster.clients is
 
-  twin_there : (p : Party) (twin : ℕ) (at : Place) → is_party x.cluster.f x.clients p ≡ true → twin_place x.faulty p twin ≡ Some at → IsThere x at
+  twin_there : (p : Party) (twin : ℕ) (at : Place) → is_party x.cluster.f x.cluster.clients p ≡ true → twin_place x.faulty p twin ≡ Some at → IsThere x at
   twin_there (Replica r) twin at party is =
       let m = mapped_cases (place.ReplicaTwin r) (position (λ k. (k.0 == r) && (k.1 == twin)) (replica_twins x.faulty)) at is in
       subst (IsThere x) m.1.1 (ltb-true r (3 * x.cluster.f + 1) party, found (replica_twins x.faulty) r twin m.0 m.1.0)
   twin_there (Client c) twin at party is =
       let m = mapped_cases (place.ClientTwin c) (position (λ k. (k.0 == c) && (k.1 == twin)) (client_twins x.faulty)) at is in
-      subst (IsThere x) m.1.1 (ltb-true c x.clients party, found (client_twins x.faulty) c twin m.0 m.1.0)
+      subst (IsThere x) m.1.1 (ltb-true c x.cluster.clients party, found (client_twins x.faulty) c twin m.0 m.1.0)
 
-  numbered_there : (p : Party) (twin : Option ℕ) (at : Place) → is_party x.cluster.f x.clients p ≡ true → numbered_place x p twin ≡ Some at → IsThere x at
+  numbered_there : (p : Party) (twin : Option ℕ) (at : Place) → is_party x.cluster.f x.cluster.clients p ≡ true → numbered_place x p twin ≡ Some at → IsThere x at
   numbered_there p None at party is = subst (IsThere x) (some_injective (own_place p) at is) (own_there p party)
   numbered_there p (Some twin) at party is =
       elim (cases_Bool (is_bad x p)) [
@@ -70,7 +70,7 @@ module _ (x : Setup) where
 
   pub is_there : (p : Party) (twin : Option ℕ) (at : Place) → place_of x p twin ≡ Some at → IsThere x at
   is_there p twin at is =
-      elim (cases_Bool (is_party x.cluster.f x.clients p)) [
+      elim (cases_Bool (is_party x.cluster.f x.cluster.clients p)) [
         | inl party ↦ numbered_there p twin at party (sym (ap (λ b. if b then numbered_place x p twin else None) party) ∙ is)
         | inr none ↦ absurd (let e : None ≡ Some at = sym (ap (λ b. if b then numbered_place x p twin else None) none) ∙ is in cc)
       ]

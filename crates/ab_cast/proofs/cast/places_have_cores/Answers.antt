@@ -7,4 +7,4 @@ use Rattle.ab_cast.proofs.cast.places_have_cores.Goals as goal
 pub returns-clause-cores : goal.returns-clause-cores
 returns-clause-cores g c p twin at is =
     let x = c.args.cast.now in
-    core_there g.P.Protocol.proto x (subst (IsCast g.P.Protocol.proto) c.cast.view_is c.cast.invariant) at (is_there x.setup p twin at is)
+    core_there g.P.Protocol.proto g.P.Protocol.serves x (subst (IsCast g.P.Protocol.proto g.P.Protocol.serves) c.cast.view_is c.cast.invariant) at (is_there x.setup p twin at is)
