@@ -2,3 +2,4 @@
 pub mod Looks
 pub mod Watches
 pub mod Lines
+pub mod Spelled

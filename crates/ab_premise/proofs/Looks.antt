@@ -49,18 +49,18 @@ IsBuiltEvent (client_time c) = Unit {0}
 -- ---- the turns of an event
 
 -- turns that leave the value where it is, or one call
-data IsQuiet : Turn → Type 0 where
+pub data IsQuiet : Turn → Type 0 where
   signs : IsQuiet turn_sign
   brings : (c : ℕ) → IsQuiet (turn_bring c)
   aborts : (c : ℕ) → IsQuiet (turn_abort c)
 
-abbrev AllQuiet : List Turn → Type 0
+abbrev pub AllQuiet : List Turn → Type 0
 AllQuiet [] = Unit {0}
 AllQuiet (t ∷ ts) = IsQuiet t × AllQuiet ts
 
-data IsCalm : List Turn → Type 0 where
+pub data IsCalm : List Turn → Type 0 where
   still : (ts : List Turn) → AllQuiet ts → IsCalm ts
-  once : (call : Call) → IsCalm (turn_call call ∷ [])
+  once : (call : Call) → IsBuilt call → IsCalm (turn_call call ∷ [])
 
 calm_if : (b : Bool) (ts us : List Turn) → IsCalm ts → IsCalm us → IsCalm (if b then ts else us)
 calm_if true ts us one other = one
@@ -73,8 +73,8 @@ aborting_calm c (Some abort) = still (turn_abort c ∷ []) (aborts c, tt)
 module _ {P : Type 0} (k : Setup) (proto : Proto P) where
   here_calm : (s : Rep P) (m : Msg) → IsMessage m → IsCalm (here k proto s m)
   here_calm s (msg.Req content tags) is =
-      calm_if (state_at k proto s).stopped (aborting k proto (client_of (maker_of content)) s) (turn_call (took (msg.Req content tags)) ∷ []) (aborting_calm (client_of (maker_of content)) s.abort) (once (took (msg.Req content tags)))
-  here_calm s (msg.Resp content tag) is = once (took (msg.Resp content tag))
+      calm_if (state_at k proto s).stopped (aborting k proto (client_of (maker_of content)) s) (turn_call (took (msg.Req content tags)) ∷ []) (aborting_calm (client_of (maker_of content)) s.abort) (once (took (msg.Req content tags)) is)
+  here_calm s (msg.Resp content tag) is = once (took (msg.Resp content tag)) is
   here_calm s _ is = absurd (is)
 
   late_calm : (m : Msg) → IsMessage m → IsCalm (late m)
@@ -87,13 +87,13 @@ module _ {P : Type 0} (k : Setup) (proto : Proto P) where
   taken_calm s m (Some i) is =
       calm_if (i == s.at) (here k proto s m) (if nat_lt i s.at then late m else []) (here_calm s m is) (calm_if (nat_lt i s.at) (late m) [] (late_calm m is) (still [] tt))
 
-  due_calm : (r : ℕ) (s : Rep P) (call : Call) → IsBuilt call → IsCalm (due k proto r s call)
+  pub due_calm : (r : ℕ) (s : Rep P) (call : Call) → IsBuilt call → IsCalm (due k proto r s call)
   due_calm r s (took (msg.Req content tags)) is = taken_calm s (msg.Req content tags) (instance_in (msg.Req content tags)) is
   due_calm r s (took (msg.Resp content tag)) is = taken_calm s (msg.Resp content tag) (instance_in (msg.Resp content tag)) is
   due_calm r s (took _) is = absurd (is)
-  due_calm r s timed is = once timed
+  due_calm r s timed is = once timed tt
 
-  turns_calm : (r : ℕ) (s : Rep P) (call : Call) → IsBuilt call → IsCalm (turns k proto r s call)
+  pub turns_calm : (r : ℕ) (s : Rep P) (call : Call) → IsBuilt call → IsCalm (turns k proto r s call)
   turns_calm r s call is = calm_if (is_spent k proto r s call) [] (due k proto r s call) (still [] tt) (due_calm r s call is)
 
   -- a replica went from s to now, and had these on the way
@@ -138,7 +138,7 @@ module _ {P : Type 0} (k : Setup) (proto : Proto P) where
           each = λ h has. inl (is.each h has);
           last = λ h has. inr (subst (λ (v : P). Contains (had_at (proto.state v)) h) is.same has);
         }
-    calm_went r ts s (once call) = record {
+    calm_went r ts s (once call built) = record {
       entered = stays.called (record { used = s.used; sig = k.sig r }) s.value call;
       grows = form.grows (record { used = s.used; sig = k.sig r }) s.value call;
       each = λ h has. inr has;
