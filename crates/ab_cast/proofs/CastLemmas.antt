@@ -12,13 +12,11 @@ use Rattle.ab_num.specs.Places.{kind_of}
 use Rattle.ab_msg.specs.declared.message.Msg.{Msg}
 use Rattle.ab_msg.specs.declared.message.Out.{Out}
 use Rattle.ab_abs.specs.declared.seen.Seen.{Seen}
-use Rattle.ab_abs.specs.Messages.{took}
 use Rattle.ab_abs.specs.Ensembles.{Proto}
-use Rattle.ab_abs.specs.Places.{Arises}
 use Rattle.ab_run.specs.Replicas.{Rep}
 use Rattle.ab_run.specs.Runs.{first_rep}
 use Rattle.ab_run.specs.Stages.{first_reps}
-use Rattle.ab_run.specs.Local.{Cue, rep_after, cli_after, cli_sends, cli_marks}
+use Rattle.ab_run.specs.Local.{Cue, cli_after, cli_sends, cli_marks}
 use Rattle.ab_run.proofs.Listed.{set_hit, set_miss, set_length, get_before, get_last}
 use Rattle.ab_client.specs.Clients.{Seat, alone, after, sends, marks}
 use Rattle.ab_client.specs.Drafts.{IsDraftOf}
@@ -28,7 +26,7 @@ use Rattle.ab_cast.specs.declared.fault.CommandFault.TheVariants.{Busy}
 use Rattle.ab_run.specs.declared.phase.Phase.TheVariants.{Idle}
 use Rattle.ab_cast.specs.Setups.{Setup, run_setup, replica_twins, client_twins, place_of, party_at}
 use Rattle.ab_cast.specs.Cores.{Core, replica, client, Taken, message, cue_of}
-use Rattle.ab_cast.specs.Signing.{RepTakes}
+use Rattle.ab_cast.specs.Signing.{RepHears}
 use Rattle.ab_cast.specs.Casts.{Cast, core_at, next, first_seat, first_seats, first_cast, is_idle, command_refusal, IsTaken, IsSeat, AreSeats, AreTwinSeats, IsOf, AreOwn, AreTwins, IsCast}
 use Rattle.ab_cast.proofs.StandLemmas.{IsThere, some_injective, mapped_cases, is_there}
 use Rattle.ab_cast.proofs.ReplicaLemmas.{first_arises}
@@ -68,6 +66,14 @@ pub the_same : {A : Type 0} (xs : List A) (i : ℕ) (s t : A) → slice_get xs i
 the_same xs i s t at lt read = some_injective s t (sym at ∙ slice_get_read xs (length xs) i t refl lt read)
 
 -- ---- events
+
+-- what the code says of the client at a place, as it takes what comes
+pub record DoesAt (at : ℕ) (t : Taken) (items all : List Seat) (sent : List Out) (shown : List Seen) : Type 0 where
+  pub cores : (s : Seat) → slice_get items at ≡ Some s → all ≡ slice_set items at (after s (cue_of t))
+  pub stamp : (s : Seat) → slice_get items at ≡ Some s → (after s (cue_of t)).cli.stamp ≤ s.cli.stamp + 1
+  pub outs : (s : Seat) → slice_get items at ≡ Some s → sent ≡ sends s (cue_of t)
+  pub marks : (s : Seat) → slice_get items at ≡ Some s → shown ≡ marks s (cue_of t)
+  pub drafts : (s : Seat) → slice_get items at ≡ Some s → s.me ≤ 15 → All (IsDraftOf s.cluster.f (Client s.me)) sent
 
 module _ {P : Type 0} (proto : Proto P) (serves : Kind → Bool) (x : Cast P) (is : IsCast proto serves x) where
   abbrev c : Cluster
@@ -189,64 +195,52 @@ module _ {P : Type 0} (proto : Proto P) (serves : Kind → Bool) (x : Cast P) (i
 
   -- ---- a replica takes a message
 
-  module _ (few : x.events < 100000) (r at : ℕ) (m : Msg) (items all : List (Rep P)) (outs : List Out) (marks : List Seen) (spent : Bool) where
-    abbrev pub TakesAt : Type 0
-    TakesAt = (s : Rep P) → slice_get items at ≡ Some s → (now : Rep P) × (all ≡ slice_set items at now) × RepTakes proto c r s m now outs marks spent
+  -- what the code says of the one at a place
+  abbrev pub HearsAt : ℕ → ℕ → Msg → List (Rep P) → List (Rep P) → List Out → List Seen → Bool → Type 0
+  HearsAt r at m items all outs marks spent = (s : Rep P) → slice_get items at ≡ Some s → RepHears proto serves c r at s m items all outs marks spent
 
-    abbrev pub ArisesAt : Type 0
-    ArisesAt = (s : Rep P) → slice_get items at ≡ Some s → Arises proto serves c s.at r s.value → let now = rep_after (alone c) proto r s (took m) in Arises proto serves c now.at r now.value
-
-    abbrev pub DraftsAt : Type 0
-    DraftsAt = (s : Rep P) → slice_get items at ≡ Some s → Arises proto serves c s.at r s.value → All (IsDraftOf c.f (Replica r)) outs
-
-    now_of : TakesAt → ArisesAt → (s : Rep P) → slice_get items at ≡ Some s → (r < 3 * c.f + 1 → Arises proto serves c s.at r s.value)
-        → (now : Rep P) × (all ≡ slice_set items at now) × IsOf proto serves c r now
-    now_of takes arises s here was =
-        let t = takes s here in
-        (t.0, t.1, λ lt. subst (λ (q : Rep P). Arises proto serves c q.at r q.value) (sym t.2.after) (arises s here (was lt)))
-
-  module _ (few : x.events < 100000) (r : ℕ) (m : Msg) (all : List (Rep P)) (outs : List Out) (marks : List Seen) (spent : Bool) (there : IsThere x.setup (place.Replica r)) (takes : TakesAt few r r m x.replicas all outs marks spent) where
-    pub replica_stays : ArisesAt few r r m x.replicas all outs marks spent → IsCast proto serves (record x { replicas = all; events = x.events + 1 })
-    replica_stays arises =
+  module _ (few : x.events < 100000) (r : ℕ) (m : Msg) (all : List (Rep P)) (outs : List Out) (marks : List Seen) (spent : Bool) (there : IsThere x.setup (place.Replica r)) (hears : HearsAt r r m x.replicas all outs marks spent) where
+    pub replica_stays : IsCast proto serves (record x { replicas = all; events = x.events + 1 })
+    replica_stays =
         let s = replica_at r there in
-        let n = now_of few r r m x.replicas all outs marks spent takes arises s.0 s.1 (is.own_replicas r s.0 s.1) in
-        IsCast-replica few r s.0 n.0 all s.1 n.2 n.1
+        let h = hears s.0 s.1 in
+        IsCast-replica few r s.0 h.now all s.1 (λ lt. h.arises (is.own_replicas r s.0 s.1 lt)) h.set
 
-    pub replica_taken : DraftsAt few r r m x.replicas all outs marks spent → (s : Rep P) → slice_get x.replicas r ≡ Some s
+    pub replica_taken : (s : Rep P) → slice_get x.replicas r ≡ Some s
         → IsTaken proto x (place.Replica r) (replica s) (message m) (record x { replicas = all; events = x.events + 1 }) outs marks spent
-    replica_taken drafts s here =
-        let t = takes s here in
+    replica_taken s here =
+        let h = hears s here in
         record {
-          after = ap (λ v. record x { replicas = v; events = x.events + 1 }) (t.1 ∙ ap (slice_set x.replicas r) t.2.after);
-          sends = t.2.sends;
-          shows = t.2.shows;
-          spends = t.2.spends;
-          drafts = drafts s here (is.own_replicas r s here there);
+          after = ap (λ v. record x { replicas = v; events = x.events + 1 }) (h.set ∙ ap (slice_set x.replicas r) h.takes.after);
+          sends = h.takes.sends;
+          shows = h.takes.shows;
+          spends = h.takes.spends;
+          drafts = h.drafts (is.own_replicas r s here there);
         }
 
-  module _ (few : x.events < 100000) (r at : ℕ) (m : Msg) (all : List (Rep P)) (outs : List Out) (marks : List Seen) (spent : Bool) (there : IsThere x.setup (place.ReplicaTwin r at)) (takes : TakesAt few r at m x.replica_twins all outs marks spent) where
+  module _ (few : x.events < 100000) (r at : ℕ) (m : Msg) (all : List (Rep P)) (outs : List Out) (marks : List Seen) (spent : Bool) (there : IsThere x.setup (place.ReplicaTwin r at)) (hears : HearsAt r at m x.replica_twins all outs marks spent) where
     -- the number of the replica whose further core stands there is r
     twin_of : (s : Rep P) → slice_get x.replica_twins at ≡ Some s → IsOf proto serves c r s
     twin_of s here = subst (λ (n : ℕ). IsOf proto serves c n s) there.1.1.1 (is.twin_replicas at there.1.0 s there.1.1.0 here)
 
-    pub replica_twin_stays : ArisesAt few r at m x.replica_twins all outs marks spent → IsCast proto serves (record x { replica_twins = all; events = x.events + 1 })
-    replica_twin_stays arises =
+    pub replica_twin_stays : IsCast proto serves (record x { replica_twins = all; events = x.events + 1 })
+    replica_twin_stays =
         let s = replica_twin_at r at there in
-        let n = now_of few r at m x.replica_twins all outs marks spent takes arises s.0 s.1 (twin_of s.0 s.1) in
+        let h = hears s.0 s.1 in
         let number : (k : ℕ × ℕ) → slice_get (replica_twins x.setup.faulty) at ≡ Some k → r ≡ k.0
         = λ k is_k. sym there.1.1.1 ∙ ap (λ (k : ℕ × ℕ). k.0) (some_injective there.1.0 k (sym there.1.1.0 ∙ is_k)) in
-        IsCast-replica_twin few at s.0 n.0 all s.1 (λ k is_k. subst (λ (q : ℕ). IsOf proto serves c q n.0) (number k is_k) n.2) n.1
+        IsCast-replica_twin few at s.0 h.now all s.1 (λ k is_k. subst (λ (q : ℕ). IsOf proto serves c q h.now) (number k is_k) (λ lt. h.arises (twin_of s.0 s.1 lt))) h.set
 
-    pub replica_twin_taken : DraftsAt few r at m x.replica_twins all outs marks spent → (s : Rep P) → slice_get x.replica_twins at ≡ Some s
+    pub replica_twin_taken : (s : Rep P) → slice_get x.replica_twins at ≡ Some s
         → IsTaken proto x (place.ReplicaTwin r at) (replica s) (message m) (record x { replica_twins = all; events = x.events + 1 }) outs marks spent
-    replica_twin_taken drafts s here =
-        let t = takes s here in
+    replica_twin_taken s here =
+        let h = hears s here in
         record {
-          after = ap (λ v. record x { replica_twins = v; events = x.events + 1 }) (t.1 ∙ ap (slice_set x.replica_twins at) t.2.after);
-          sends = t.2.sends;
-          shows = t.2.shows;
-          spends = t.2.spends;
-          drafts = drafts s here (twin_of s here there.0);
+          after = ap (λ v. record x { replica_twins = v; events = x.events + 1 }) (h.set ∙ ap (slice_set x.replica_twins at) h.takes.after);
+          sends = h.takes.sends;
+          shows = h.takes.shows;
+          spends = h.takes.spends;
+          drafts = h.drafts (twin_of s here there.0);
         }
 
   -- ---- a client takes what comes
@@ -268,16 +262,7 @@ module _ {P : Type 0} (proto : Proto P) (serves : Kind → Bool) (x : Cast P) (i
   pub few_clients : (n events : ℕ) (s : Seat) → n < c.clients → IsSeat c events n s → s.me ≤ 15
   few_clients n events s lt seat = omega (arith, lt, seat.own, c.in_bounds.few_clients)
 
-  module _ (few : x.events < 100000) (n at : ℕ) (t : Taken) (items all : List Seat) (outs : List Out) (shown : List Seen) where
-    -- what the code says of a client that takes it
-    pub record DoesAt : Type 0 where
-      pub cores : (s : Seat) → slice_get items at ≡ Some s → all ≡ slice_set items at (after s (cue_of t))
-      pub stamp : (s : Seat) → slice_get items at ≡ Some s → (after s (cue_of t)).cli.stamp ≤ s.cli.stamp + 1
-      pub outs : (s : Seat) → slice_get items at ≡ Some s → outs ≡ sends s (cue_of t)
-      pub marks : (s : Seat) → slice_get items at ≡ Some s → shown ≡ marks s (cue_of t)
-      pub drafts : (s : Seat) → slice_get items at ≡ Some s → s.me ≤ 15 → All (IsDraftOf s.cluster.f (Client s.me)) outs
-
-  module _ (few : x.events < 100000) (n : ℕ) (t : Taken) (all : List Seat) (outs : List Out) (shown : List Seen) (there : IsThere x.setup (place.Client n)) (does : DoesAt few n n t x.clients all outs shown) where
+  module _ (few : x.events < 100000) (n : ℕ) (t : Taken) (all : List Seat) (outs : List Out) (shown : List Seen) (there : IsThere x.setup (place.Client n)) (does : DoesAt n t x.clients all outs shown) where
     pub client_stays : IsCast proto serves (record x { clients = all; events = x.events + 1 })
     client_stays =
         let s = client_at n there in
@@ -294,7 +279,7 @@ module _ {P : Type 0} (proto : Proto P) (serves : Kind → Bool) (x : Cast P) (i
           drafts = seat_drafts n x.events s seat (cue_of t) outs (does.drafts s here (few_clients n x.events s there seat));
         }
 
-  module _ (few : x.events < 100000) (n at : ℕ) (t : Taken) (all : List Seat) (outs : List Out) (shown : List Seen) (there : IsThere x.setup (place.ClientTwin n at)) (does : DoesAt few n at t x.client_twins all outs shown) where
+  module _ (few : x.events < 100000) (n at : ℕ) (t : Taken) (all : List Seat) (outs : List Out) (shown : List Seen) (there : IsThere x.setup (place.ClientTwin n at)) (does : DoesAt at t x.client_twins all outs shown) where
     pub client_twin_stays : IsCast proto serves (record x { client_twins = all; events = x.events + 1 })
     client_twin_stays =
         let s = client_twin_at n at there in

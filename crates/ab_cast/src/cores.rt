@@ -2,21 +2,19 @@
 
 ghost use Rattle.std.specs.Prelude.{◌≡◌, ◌≢◌, ◌+◌, ◌*◌, ◌-◌, ◌^◌, ◌<◌, ◌≤◌, ◌++◌, ◌⊎◌, [], false, ℕ, All, IsTrue, IfOk, IfErr, OnOk, OnErr, Some, None, length, map, replicate, slice_get, slice_set, vec_len};
 ghost use Rattle.ab_num.specs.declared.cluster.Cluster.{Cluster as TheCluster};
-ghost use Rattle.ab_num.specs.declared.party.Party.TheVariants.{Replica as ReplicaParty, Client as ClientParty};
+ghost use Rattle.ab_num.specs.declared.party.Party.TheVariants.{Client as ClientParty};
 ghost use Rattle.ab_num.specs.Places.{kind_of};
 ghost use Rattle.ab_msg.specs.Views.{IsReceived, message as message_of};
-ghost use Rattle.ab_abs.specs.Places.{Arises};
-ghost use Rattle.ab_abs.specs.Messages.{took};
 ghost use Rattle.ab_run.specs.Replicas.{Rep};
 ghost use Rattle.ab_run.specs.Runs.{first_rep};
 ghost use Rattle.ab_run.specs.Stages.{first_reps};
-ghost use Rattle.ab_run.specs.Local.{cue_message, rep_after};
+ghost use Rattle.ab_run.specs.Local.{cue_message};
 ghost use Rattle.ab_run.specs.declared.phase.Phase.TheVariants.{Idle};
 ghost use Rattle.ab_client.specs.Clients.{Seat, alone, told, after, sends, marks};
 ghost use Rattle.ab_client.specs.Drafts.{IsDraftOf};
 ghost use Rattle.ab_cast.specs.Setups.{replica_twins, client_twins};
 ghost use Rattle.ab_cast.specs.Casts.{first_seat, first_seats};
-ghost use Rattle.ab_cast.specs.Signing.{RepTakes};
+ghost use Rattle.ab_cast.specs.Signing.{RepHears};
 
 use crate::effects::Effects;
 use crate::fault::CommandFault;
@@ -135,12 +133,8 @@ pub(crate) fn hear_replica<S: Service, P: Protocol<S>>(
 ) -> Result<Effects, OutOfMemory>
     requires received { IsReceived m.now }
     requires there { at < vec_len cores.old }
-    ensures takes { (s : Rep P) (c : TheCluster) (r : ℕ) → slice_get cores.old.items at ≡ Some s
-        → IfOk result (λ e. (now : Rep P) × (cores.new.items ≡ slice_set cores.old.items at now) × RepTakes P.proto c r s (message_of m.now) now e.outs e.marks.items e.spent) }
-    ensures arises { (s : Rep P) (c : TheCluster) (r : ℕ) → slice_get cores.old.items at ≡ Some s → Arises P.proto P.serves c s.at r s.value
-        → OnOk result (let now = rep_after (alone c) P.proto r s (took (message_of m.now)) in Arises P.proto P.serves c now.at r now.value) }
-    ensures drafts { (s : Rep P) (c : TheCluster) (r : ℕ) → slice_get cores.old.items at ≡ Some s → Arises P.proto P.serves c s.at r s.value
-        → IfOk result (λ e. All (IsDraftOf c.f (ReplicaParty r)) e.outs) }
+    ensures heard { (s : Rep P) (c : TheCluster) (r : ℕ) → slice_get cores.old.items at ≡ Some s
+        → IfOk result (λ e. RepHears P.proto P.serves c r at s (message_of m.now) cores.old.items cores.new.items e.outs e.marks.items e.spent) }
     ensures err { OnErr result (cores.new.items ≡ cores.old.items) }
 {
     cores[at].on(alloc, m)

@@ -1,4 +1,5 @@
-use Rattle.std.proofs.Common.{map, ap, ◌∙◌, arith}
+use Rattle.std.proofs.Common.{map, ap, ◌++◌, ◌∙◌, arith}
+use Rattle.std.specs.Prelude.{replicate}
 use Rattle.ab_num.specs.declared.party.Party.TheVariants.{Replica}
 use Rattle.ab_run.specs.Runs.{first_rep}
 use Rattle.ab_cast.specs.Setups.{replica_twins}
@@ -12,7 +13,7 @@ loop-entry-preserved g c =
     elim c.match-entry.branch [
       | in-Replica+in_ok-add_replicas w ↦
           next_replica (first_rep (alone c.args.setup.now.cluster) g.P.Protocol.proto) c.faulty-entry-items.result.now c.loop-entry.entry-index (Replica 0, 0) c.loop-entry-test.true c.loop-entry.twins.items c.match-entry.twins.items
-          w.in-Replica.r w.saturating_sub.result w.in-Replica.is (omega (arith, w.saturating_sub.ensures)) (ap (λ v. v.items) w.twins-is ∙ w.in_ok-add_replicas.ensures) c.loop-entry.invariant
+          w.in-Replica.r w.saturating_sub.result w.in-Replica.is (omega (arith, w.saturating_sub.ensures)) (ap (λ v. v.items) w.twins-is ∙ (w.in_ok-add_replicas.ensures ∙ ap (λ k. c.loop-entry.twins.items ++ replicate w.saturating_sub.result (first_rep (alone k) g.P.Protocol.proto w.in-Replica.r)) w.cluster.ensures)) c.loop-entry.invariant
       | in_default w ↦
           other_replica (first_rep (alone c.args.setup.now.cluster) g.P.Protocol.proto) c.faulty-entry-items.result.now c.loop-entry.entry-index (Replica 0, 0) c.loop-entry-test.true c.loop-entry.twins.items c.match-entry.twins.items
           w.in_default.field-0 w.in_default.is (ap (λ v. v.items) w.twins-is) c.loop-entry.invariant

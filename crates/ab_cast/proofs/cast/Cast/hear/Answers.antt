@@ -1,5 +1,7 @@
 use Rattle.std.proofs.Common.{◌≡◌, ◌<◌, ◌+◌, arith, refl, sym, ap}
+use Rattle.ab_num.specs.declared.party.Party.TheVariants as Party
 use Rattle.ab_msg.specs.Views.{message as message_of}
+use Rattle.ab_client.specs.Drafts.{IsDraftOf}
 use Rattle.ab_cast.specs.declared.place.Place.TheVariants as place
 use Rattle.ab_cast.specs.Cores.{message, client, replica}
 use Rattle.ab_cast.specs.Casts.{Cast, IsTaken}
@@ -14,7 +16,7 @@ invariant_of-self-in-Replica g c =
     let x : Cast g.row.P.Denot = record { setup = c.self.inside.setup; replicas = c.self.inside.replicas.items; clients = c.self.inside.clients.items; replica_twins = c.self.inside.replica_twins.items; client_twins = c.self.inside.client_twins.items; events = c.self.inside.events } in
     let few : x.events < 100000 = omega (arith, c.requires.few, ap (λ y. y.events) c.self.view_is) in
     let there = at_there x c.args.self.now c.self.view_is c.args.place (place.Replica c.in-Replica.r) c.in-Replica.is c.requires.there.0 c.requires.there.1 in
-    replica_stays proto serves x c.self.invariant few c.in-Replica.r (message_of c.args.m.now) c.hear_replica.new.cores.items c.in_ok-effects-in-Replica.effects.outs c.in_ok-effects-in-Replica.effects.marks.items c.in_ok-effects-in-Replica.effects.spent there (λ s at. c.in_ok-effects-in-Replica.ensures.takes s x.setup.cluster c.in-Replica.r at) (λ s at. c.in_ok-effects-in-Replica.ensures.arises s x.setup.cluster c.in-Replica.r at)
+    replica_stays proto serves x c.self.invariant few c.in-Replica.r (message_of c.args.m.now) c.hear_replica.new.cores.items c.in_ok-effects-in-Replica.effects.outs c.in_ok-effects-in-Replica.effects.marks.items c.in_ok-effects-in-Replica.effects.spent there (λ s at. c.in_ok-effects-in-Replica.ensures.heard s x.setup.cluster c.in-Replica.r at)
 
 pub returns-in_ok-effects-in-Replica-clause-taken : goal.returns-in_ok-effects-in-Replica-clause-taken
 returns-in_ok-effects-in-Replica-clause-taken g c =
@@ -26,7 +28,7 @@ returns-in_ok-effects-in-Replica-clause-taken g c =
     let new : Cast g.row.P.Denot = record x { replicas = c.hear_replica.new.cores.items; events = x.events + 1 } in
     at_core x c.args.self.now c.self.view_is c.args.place (place.Replica c.in-Replica.r) c.in-Replica.is (λ y q s. IsTaken proto y q s (message (message_of c.args.m.now)) new c.in_ok-effects-in-Replica.effects.outs c.in_ok-effects-in-Replica.effects.marks.items c.in_ok-effects-in-Replica.effects.spent)
     (replica_core x.replicas c.in-Replica.r (λ s. IsTaken proto x (place.Replica c.in-Replica.r) s (message (message_of c.args.m.now)) new c.in_ok-effects-in-Replica.effects.outs c.in_ok-effects-in-Replica.effects.marks.items c.in_ok-effects-in-Replica.effects.spent)
-    (replica_taken proto serves x c.self.invariant few c.in-Replica.r (message_of c.args.m.now) c.hear_replica.new.cores.items c.in_ok-effects-in-Replica.effects.outs c.in_ok-effects-in-Replica.effects.marks.items c.in_ok-effects-in-Replica.effects.spent there (λ s at. c.in_ok-effects-in-Replica.ensures.takes s x.setup.cluster c.in-Replica.r at) (λ s at. c.in_ok-effects-in-Replica.ensures.drafts s x.setup.cluster c.in-Replica.r at)))
+    (replica_taken proto serves x c.self.invariant few c.in-Replica.r (message_of c.args.m.now) c.hear_replica.new.cores.items c.in_ok-effects-in-Replica.effects.outs c.in_ok-effects-in-Replica.effects.marks.items c.in_ok-effects-in-Replica.effects.spent there (λ s at. c.in_ok-effects-in-Replica.ensures.heard s x.setup.cluster c.in-Replica.r at)))
 
 pub invariant_of-self-in-ReplicaTwin : goal.invariant_of-self-in-ReplicaTwin
 invariant_of-self-in-ReplicaTwin g c =
@@ -35,7 +37,7 @@ invariant_of-self-in-ReplicaTwin g c =
     let x : Cast g.row.P.Denot = record { setup = c.self.inside.setup; replicas = c.self.inside.replicas.items; clients = c.self.inside.clients.items; replica_twins = c.self.inside.replica_twins.items; client_twins = c.self.inside.client_twins.items; events = c.self.inside.events } in
     let few : x.events < 100000 = omega (arith, c.requires.few, ap (λ y. y.events) c.self.view_is) in
     let there = at_there x c.args.self.now c.self.view_is c.args.place (place.ReplicaTwin c.in-ReplicaTwin.field-0 c.in-ReplicaTwin.at) c.in-ReplicaTwin.is c.requires.there.0 c.requires.there.1 in
-    replica_twin_stays proto serves x c.self.invariant few c.in-ReplicaTwin.field-0 c.in-ReplicaTwin.at (message_of c.args.m.now) c.hear_replica-in-ReplicaTwin.new.cores.items c.in_ok-effects-in-ReplicaTwin.effects.outs c.in_ok-effects-in-ReplicaTwin.effects.marks.items c.in_ok-effects-in-ReplicaTwin.effects.spent there (λ s at. c.in_ok-effects-in-ReplicaTwin.ensures.takes s x.setup.cluster c.in-ReplicaTwin.field-0 at) (λ s at. c.in_ok-effects-in-ReplicaTwin.ensures.arises s x.setup.cluster c.in-ReplicaTwin.field-0 at)
+    replica_twin_stays proto serves x c.self.invariant few c.in-ReplicaTwin.field-0 c.in-ReplicaTwin.at (message_of c.args.m.now) c.hear_replica-in-ReplicaTwin.new.cores.items c.in_ok-effects-in-ReplicaTwin.effects.outs c.in_ok-effects-in-ReplicaTwin.effects.marks.items c.in_ok-effects-in-ReplicaTwin.effects.spent there (λ s at. c.in_ok-effects-in-ReplicaTwin.ensures.heard s x.setup.cluster c.in-ReplicaTwin.field-0 at)
 
 pub returns-in_ok-effects-in-ReplicaTwin-clause-taken : goal.returns-in_ok-effects-in-ReplicaTwin-clause-taken
 returns-in_ok-effects-in-ReplicaTwin-clause-taken g c =
@@ -47,7 +49,7 @@ returns-in_ok-effects-in-ReplicaTwin-clause-taken g c =
     let new : Cast g.row.P.Denot = record x { replica_twins = c.hear_replica-in-ReplicaTwin.new.cores.items; events = x.events + 1 } in
     at_core x c.args.self.now c.self.view_is c.args.place (place.ReplicaTwin c.in-ReplicaTwin.field-0 c.in-ReplicaTwin.at) c.in-ReplicaTwin.is (λ y q s. IsTaken proto y q s (message (message_of c.args.m.now)) new c.in_ok-effects-in-ReplicaTwin.effects.outs c.in_ok-effects-in-ReplicaTwin.effects.marks.items c.in_ok-effects-in-ReplicaTwin.effects.spent)
     (replica_core x.replica_twins c.in-ReplicaTwin.at (λ s. IsTaken proto x (place.ReplicaTwin c.in-ReplicaTwin.field-0 c.in-ReplicaTwin.at) s (message (message_of c.args.m.now)) new c.in_ok-effects-in-ReplicaTwin.effects.outs c.in_ok-effects-in-ReplicaTwin.effects.marks.items c.in_ok-effects-in-ReplicaTwin.effects.spent)
-    (replica_twin_taken proto serves x c.self.invariant few c.in-ReplicaTwin.field-0 c.in-ReplicaTwin.at (message_of c.args.m.now) c.hear_replica-in-ReplicaTwin.new.cores.items c.in_ok-effects-in-ReplicaTwin.effects.outs c.in_ok-effects-in-ReplicaTwin.effects.marks.items c.in_ok-effects-in-ReplicaTwin.effects.spent there (λ s at. c.in_ok-effects-in-ReplicaTwin.ensures.takes s x.setup.cluster c.in-ReplicaTwin.field-0 at) (λ s at. c.in_ok-effects-in-ReplicaTwin.ensures.drafts s x.setup.cluster c.in-ReplicaTwin.field-0 at)))
+    (replica_twin_taken proto serves x c.self.invariant few c.in-ReplicaTwin.field-0 c.in-ReplicaTwin.at (message_of c.args.m.now) c.hear_replica-in-ReplicaTwin.new.cores.items c.in_ok-effects-in-ReplicaTwin.effects.outs c.in_ok-effects-in-ReplicaTwin.effects.marks.items c.in_ok-effects-in-ReplicaTwin.effects.spent there (λ s at. c.in_ok-effects-in-ReplicaTwin.ensures.heard s x.setup.cluster c.in-ReplicaTwin.field-0 at)))
 
 pub invariant_of-self-in-Client : goal.invariant_of-self-in-Client
 invariant_of-self-in-Client g c =
@@ -57,12 +59,12 @@ invariant_of-self-in-Client g c =
     let few : x.events < 100000 = omega (arith, c.requires.few, ap (λ y. y.events) c.self.view_is) in
     let there = at_there x c.args.self.now c.self.view_is c.args.place (place.Client c.in-Client.c) c.in-Client.is c.requires.there.0 c.requires.there.1 in
     let e = c.hear_client-effects.ensures in
-    let does : DoesAt proto serves x c.self.invariant few c.in-Client.c c.in-Client.c (message (message_of c.args.m.now)) x.clients c.hear_client-effects.new.cores.items c.hear_client-effects.result.outs c.hear_client-effects.result.marks.items = record {
+    let does : DoesAt c.in-Client.c (message (message_of c.args.m.now)) x.clients c.hear_client-effects.new.cores.items c.hear_client-effects.result.outs c.hear_client-effects.result.marks.items = record {
       cores = e.cores;
       stamp = λ s at. omega (arith, e.stamp s at);
       outs = e.outs;
       marks = e.marks;
-      drafts = λ s at small. nothing_sent _ c.hear_client-effects.result.outs e.nothing;
+      drafts = λ s at small. nothing_sent (IsDraftOf s.cluster.f (Party.Client s.me)) c.hear_client-effects.result.outs e.nothing;
     } in
     client_stays proto serves x c.self.invariant few c.in-Client.c (message (message_of c.args.m.now)) c.hear_client-effects.new.cores.items c.hear_client-effects.result.outs c.hear_client-effects.result.marks.items there does
 
@@ -74,12 +76,12 @@ returns-in-Client-clause-taken g c =
     let few : x.events < 100000 = omega (arith, c.requires.few, ap (λ y. y.events) c.self.view_is) in
     let there = at_there x c.args.self.now c.self.view_is c.args.place (place.Client c.in-Client.c) c.in-Client.is c.requires.there.0 c.requires.there.1 in
     let e = c.hear_client-effects.ensures in
-    let does : DoesAt proto serves x c.self.invariant few c.in-Client.c c.in-Client.c (message (message_of c.args.m.now)) x.clients c.hear_client-effects.new.cores.items c.hear_client-effects.result.outs c.hear_client-effects.result.marks.items = record {
+    let does : DoesAt c.in-Client.c (message (message_of c.args.m.now)) x.clients c.hear_client-effects.new.cores.items c.hear_client-effects.result.outs c.hear_client-effects.result.marks.items = record {
       cores = e.cores;
       stamp = λ s at. omega (arith, e.stamp s at);
       outs = e.outs;
       marks = e.marks;
-      drafts = λ s at small. nothing_sent _ c.hear_client-effects.result.outs e.nothing;
+      drafts = λ s at small. nothing_sent (IsDraftOf s.cluster.f (Party.Client s.me)) c.hear_client-effects.result.outs e.nothing;
     } in
     let new : Cast g.row.P.Denot = record x { clients = c.hear_client-effects.new.cores.items; events = x.events + 1 } in
     at_core x c.args.self.now c.self.view_is c.args.place (place.Client c.in-Client.c) c.in-Client.is (λ y q s. IsTaken proto y q s (message (message_of c.args.m.now)) new c.hear_client-effects.result.outs c.hear_client-effects.result.marks.items c.hear_client-effects.result.spent)
@@ -94,12 +96,12 @@ invariant_of-self-in-ClientTwin g c =
     let few : x.events < 100000 = omega (arith, c.requires.few, ap (λ y. y.events) c.self.view_is) in
     let there = at_there x c.args.self.now c.self.view_is c.args.place (place.ClientTwin c.in-ClientTwin.field-0 c.in-ClientTwin.at) c.in-ClientTwin.is c.requires.there.0 c.requires.there.1 in
     let e = c.hear_client-effects-in-ClientTwin.ensures in
-    let does : DoesAt proto serves x c.self.invariant few c.in-ClientTwin.field-0 c.in-ClientTwin.at (message (message_of c.args.m.now)) x.client_twins c.hear_client-effects-in-ClientTwin.new.cores.items c.hear_client-effects-in-ClientTwin.result.outs c.hear_client-effects-in-ClientTwin.result.marks.items = record {
+    let does : DoesAt c.in-ClientTwin.at (message (message_of c.args.m.now)) x.client_twins c.hear_client-effects-in-ClientTwin.new.cores.items c.hear_client-effects-in-ClientTwin.result.outs c.hear_client-effects-in-ClientTwin.result.marks.items = record {
       cores = e.cores;
       stamp = λ s at. omega (arith, e.stamp s at);
       outs = e.outs;
       marks = e.marks;
-      drafts = λ s at small. nothing_sent _ c.hear_client-effects-in-ClientTwin.result.outs e.nothing;
+      drafts = λ s at small. nothing_sent (IsDraftOf s.cluster.f (Party.Client s.me)) c.hear_client-effects-in-ClientTwin.result.outs e.nothing;
     } in
     client_twin_stays proto serves x c.self.invariant few c.in-ClientTwin.field-0 c.in-ClientTwin.at (message (message_of c.args.m.now)) c.hear_client-effects-in-ClientTwin.new.cores.items c.hear_client-effects-in-ClientTwin.result.outs c.hear_client-effects-in-ClientTwin.result.marks.items there does
 
@@ -111,12 +113,12 @@ returns-in-ClientTwin-clause-taken g c =
     let few : x.events < 100000 = omega (arith, c.requires.few, ap (λ y. y.events) c.self.view_is) in
     let there = at_there x c.args.self.now c.self.view_is c.args.place (place.ClientTwin c.in-ClientTwin.field-0 c.in-ClientTwin.at) c.in-ClientTwin.is c.requires.there.0 c.requires.there.1 in
     let e = c.hear_client-effects-in-ClientTwin.ensures in
-    let does : DoesAt proto serves x c.self.invariant few c.in-ClientTwin.field-0 c.in-ClientTwin.at (message (message_of c.args.m.now)) x.client_twins c.hear_client-effects-in-ClientTwin.new.cores.items c.hear_client-effects-in-ClientTwin.result.outs c.hear_client-effects-in-ClientTwin.result.marks.items = record {
+    let does : DoesAt c.in-ClientTwin.at (message (message_of c.args.m.now)) x.client_twins c.hear_client-effects-in-ClientTwin.new.cores.items c.hear_client-effects-in-ClientTwin.result.outs c.hear_client-effects-in-ClientTwin.result.marks.items = record {
       cores = e.cores;
       stamp = λ s at. omega (arith, e.stamp s at);
       outs = e.outs;
       marks = e.marks;
-      drafts = λ s at small. nothing_sent _ c.hear_client-effects-in-ClientTwin.result.outs e.nothing;
+      drafts = λ s at small. nothing_sent (IsDraftOf s.cluster.f (Party.Client s.me)) c.hear_client-effects-in-ClientTwin.result.outs e.nothing;
     } in
     let new : Cast g.row.P.Denot = record x { client_twins = c.hear_client-effects-in-ClientTwin.new.cores.items; events = x.events + 1 } in
     at_core x c.args.self.now c.self.view_is c.args.place (place.ClientTwin c.in-ClientTwin.field-0 c.in-ClientTwin.at) c.in-ClientTwin.is (λ y q s. IsTaken proto y q s (message (message_of c.args.m.now)) new c.hear_client-effects-in-ClientTwin.result.outs c.hear_client-effects-in-ClientTwin.result.marks.items c.hear_client-effects-in-ClientTwin.result.spent)

@@ -13,7 +13,7 @@ invariant_of-self-in-Client g c =
     let few : x.events < 100000 = omega (arith, c.requires.few, ap (λ y. y.events) c.self.view_is) in
     let there = at_there x c.args.self.now c.self.view_is c.args.place (place.Client c.in-Client.c) c.in-Client.is c.requires.there.0 c.requires.there.1 in
     let e = c.in_ok-effects-in-Client.ensures in
-    let does : DoesAt proto serves x c.self.invariant few c.in-Client.c c.in-Client.c (command (record { items = c.args.bytes.now })) x.clients c.tell_client.new.cores.items c.in_ok-effects-in-Client.effects.outs c.in_ok-effects-in-Client.effects.marks.items = record {
+    let does : DoesAt c.in-Client.c (command (record { items = c.args.bytes.now })) x.clients c.tell_client.new.cores.items c.in_ok-effects-in-Client.effects.outs c.in_ok-effects-in-Client.effects.marks.items = record {
       cores = e.cores;
       stamp = λ s at. omega (arith, e.stamp s at);
       outs = e.outs;
@@ -30,7 +30,7 @@ returns-in_ok-effects-in-Client-clause-taken g c =
     let few : x.events < 100000 = omega (arith, c.requires.few, ap (λ y. y.events) c.self.view_is) in
     let there = at_there x c.args.self.now c.self.view_is c.args.place (place.Client c.in-Client.c) c.in-Client.is c.requires.there.0 c.requires.there.1 in
     let e = c.in_ok-effects-in-Client.ensures in
-    let does : DoesAt proto serves x c.self.invariant few c.in-Client.c c.in-Client.c (command (record { items = c.args.bytes.now })) x.clients c.tell_client.new.cores.items c.in_ok-effects-in-Client.effects.outs c.in_ok-effects-in-Client.effects.marks.items = record {
+    let does : DoesAt c.in-Client.c (command (record { items = c.args.bytes.now })) x.clients c.tell_client.new.cores.items c.in_ok-effects-in-Client.effects.outs c.in_ok-effects-in-Client.effects.marks.items = record {
       cores = e.cores;
       stamp = λ s at. omega (arith, e.stamp s at);
       outs = e.outs;
@@ -56,7 +56,7 @@ invariant_of-self-in-ClientTwin g c =
     let few : x.events < 100000 = omega (arith, c.requires.few, ap (λ y. y.events) c.self.view_is) in
     let there = at_there x c.args.self.now c.self.view_is c.args.place (place.ClientTwin c.in-ClientTwin.field-0 c.in-ClientTwin.at) c.in-ClientTwin.is c.requires.there.0 c.requires.there.1 in
     let e = c.in_ok-effects-in-ClientTwin.ensures in
-    let does : DoesAt proto serves x c.self.invariant few c.in-ClientTwin.field-0 c.in-ClientTwin.at (command (record { items = c.args.bytes.now })) x.client_twins c.tell_client-in-ClientTwin.new.cores.items c.in_ok-effects-in-ClientTwin.effects.outs c.in_ok-effects-in-ClientTwin.effects.marks.items = record {
+    let does : DoesAt c.in-ClientTwin.at (command (record { items = c.args.bytes.now })) x.client_twins c.tell_client-in-ClientTwin.new.cores.items c.in_ok-effects-in-ClientTwin.effects.outs c.in_ok-effects-in-ClientTwin.effects.marks.items = record {
       cores = e.cores;
       stamp = λ s at. omega (arith, e.stamp s at);
       outs = e.outs;
@@ -73,7 +73,7 @@ returns-in_ok-effects-in-ClientTwin-clause-taken g c =
     let few : x.events < 100000 = omega (arith, c.requires.few, ap (λ y. y.events) c.self.view_is) in
     let there = at_there x c.args.self.now c.self.view_is c.args.place (place.ClientTwin c.in-ClientTwin.field-0 c.in-ClientTwin.at) c.in-ClientTwin.is c.requires.there.0 c.requires.there.1 in
     let e = c.in_ok-effects-in-ClientTwin.ensures in
-    let does : DoesAt proto serves x c.self.invariant few c.in-ClientTwin.field-0 c.in-ClientTwin.at (command (record { items = c.args.bytes.now })) x.client_twins c.tell_client-in-ClientTwin.new.cores.items c.in_ok-effects-in-ClientTwin.effects.outs c.in_ok-effects-in-ClientTwin.effects.marks.items = record {
+    let does : DoesAt c.in-ClientTwin.at (command (record { items = c.args.bytes.now })) x.client_twins c.tell_client-in-ClientTwin.new.cores.items c.in_ok-effects-in-ClientTwin.effects.outs c.in_ok-effects-in-ClientTwin.effects.marks.items = record {
       cores = e.cores;
       stamp = λ s at. omega (arith, e.stamp s at);
       outs = e.outs;
