@@ -1,6 +1,9 @@
 -- What correct parties make in a run has bytes, as long as nobody can sign and no timer runs out.
-use Rattle.std.proofs.Common.{◌≡◌, ℕ, suc, ◌+◌, ◌*◌, ◌<◌, ◌≤◌, true, false, Bool, Some, None, Option, List, [], ◌∷◌, ◌++◌, length, refl, sym, ap, ◌∙◌, subst, inl, inr, arith}
-use Rattle.std.specs.Prelude.{Contains, nat_lt, ◌==◌, ◌&&◌, ◌^◌, if◌then◌else◌, flat_map, All}
+use Rattle.std.proofs.Common.{◌≡◌, ℕ, suc, ◌+◌, ◌*◌, ◌<◌, ◌≤◌, true, false, Bool, Some, None, Option, List, [], ◌∷◌, ◌++◌, length, refl, sym, ap, ◌∙◌, subst, inl, inr, arith, append-nil}
+use Rattle.std.proofs.lemmas.Grind.{flat_map-append}
+use Rattle.ab_num.specs.declared.party.Party.{Party}
+use Rattle.ab_num.specs.Places.{kind_of}
+use Rattle.std.specs.Prelude.{IsTrue, Contains, nat_lt, ◌==◌, ◌&&◌, ◌^◌, if◌then◌else◌, flat_map, map, All}
 use Rattle.std.specs.List.{filter}
 use Rattle.arrayvec.specs.ArrayVec.{ArrayVec}
 use Rattle.std.proofs.lemmas.Bool.{cases_Bool, cases_eq, ltb-true, ltb-false}
@@ -24,13 +27,16 @@ use Rattle.ab_abs.proofs.Lists.{flat_map_cases, Contains-filter_cases}
 use Rattle.ab_links.proofs.ListLemmas.{Contains-cons_cases}
 use Rattle.ab_run.specs.Setups.{Setup, replicas, within}
 use Rattle.ab_run.specs.Replicas.{Rep, Turn, turn_call, turn_sign, turn_bring, turn_abort, after_turn, made_in_turn, pen_of, wanted, due, is_spent, turns}
-use Rattle.ab_run.specs.Clients.{Cli, Move, move_ask, move_vote, move_commit, asking, after_move, hears, hears_response, counting, if_open, moves, is_chain}
+use Rattle.ab_run.specs.Clients.{Cli, Move, move_ask, move_vote, move_commit, asking, after_move, hears, hears_response, counting, if_open, moves, vote_claim}
 use Rattle.ab_run.specs.declared.phase.Phase.{Phase}
 use Rattle.ab_run.specs.declared.phase.Phase.TheVariants.{Idle, Waiting, Panicking}
+use Rattle.ab_abs.specs.declared.ballot.Ballot.{Ballot}
+use Rattle.ab_abs.specs.Votes.{has_voted, is_full_by}
+use Rattle.ab_abs.specs.Kinds.{rule_in}
 use Rattle.ab_run.specs.Runs.{Event, invoke, to_replica, to_client, replica_time, client_time, Run, run, step, start}
 use Rattle.ab_run.specs.Local.{after_turns, made_in_turns, rep_after, rep_makes, Cue, cue_command, cue_message, cue_time, after_moves, made_in_moves, moves_at, cli_after, cli_makes}
 use Rattle.ab_run.specs.Premises.{checked}
-use Rattle.ab_run.specs.Inputs.{Input, told, came, rang, elsewhere, Opener, event_in, events_in, all_checked, SpellsApart}
+use Rattle.ab_run.specs.Inputs.{Input, told, came, rang, elsewhere, Opener, opened, event_in, events_in, all_checked, SpellsApart}
 use Rattle.ab_run.proofs.Effects.{at_call, at_cue, called, cued, reps_stay, reps_apart, clis_stay, clis_apart}
 use Rattle.ab_premise.specs.Collisions.{OpensMessages}
 use Rattle.ab_premise.specs.Spelled.{IsSpelledInput, AreSpelledInputs, IsSpelledRun}
@@ -119,7 +125,7 @@ module _ {P : Type 0} (k : Setup) (proto : Proto P) {serves : Kind → Bool} (fo
 
   -- moves that make nothing and leave the client in its instance, with its stamp
   data IsPlain : Move → Type 0 where
-    votes : (b : _) → IsPlain (move_vote b)
+    votes : (b : Ballot) → IsPlain (move_vote b)
     commits : (m : Request) (n : ℕ) (d : List ℕ) (reply : ArrayVec ℕ) (cs : List Content) → IsPlain (move_commit m n d reply cs)
 
   abbrev AllPlain : List Move → Type 0
@@ -141,9 +147,15 @@ module _ {P : Type 0} (k : Setup) (proto : Proto P) {serves : Kind → Bool} (fo
   plain_if true ts us one other = one
   plain_if false ts us one other = other
 
-  counting_plain : (c : ℕ) (s : Cli) (m : Request) (b : _) → AllPlain (counting k c s m b)
+  counting_plain : (c : ℕ) (s : Cli) (m : Request) (b : Ballot) → AllPlain (counting k c s m b)
   counting_plain c s m b =
-      plain_if _ _ [] (plain_if _ [] _ tt (votes b, plain_if _ _ [] (commits m b.n b.d b.reply _, tt) tt)) tt
+      let last : List Move = move_commit m b.n b.d b.reply (map (vote_claim s.at c m.stamp) (b ∷ s.votes)) ∷ [] in
+      let full : Bool = is_full_by (rule_in (within k s.at)) (replicas k) (b ∷ s.votes) b in
+      let ends : AllPlain (if full then last else []) = plain_if full last [] (commits m b.n b.d b.reply (map (vote_claim s.at c m.stamp) (b ∷ s.votes)), tt) tt in
+      let voting : List Move = move_vote b ∷ (if full then last else []) in
+      let votes_all : AllPlain voting = (votes b, ends) in
+      plain_if (nat_lt b.by (replicas k)) (if has_voted s.votes b.by then [] else voting) []
+      (plain_if (has_voted s.votes b.by) [] voting tt votes_all) tt
 
   response_plain : (c : ℕ) (s : Cli) (waits : Bool) (m : Request) (q : Content) → AllPlain (hears_response k c s waits m q)
   response_plain c s waits m (content.Resp (Replica r) i d stamp n digest reply) =
@@ -183,3 +195,136 @@ module _ {P : Type 0} (k : Setup) (proto : Proto P) {serves : Kind → Bool} (fo
   }
   asking_asks c n s Waiting command lt few is sits = record { each = λ t gone. absurd (omega (arith, gone.1)); sits = record { at = sits.at; stamp = omega (arith, sits.stamp) } }
   asking_asks c n s Panicking command lt few is sits = record { each = λ t gone. absurd (omega (arith, gone.1)); sits = record { at = sits.at; stamp = omega (arith, sits.stamp) } }
+
+  -- ---- events
+
+  -- what was made has bytes, each replica arises, and each client is in instance 1, after n events
+  record IsSpelled (n : ℕ) (w : Run P) : Type 0 where
+    made : (c : Content) → Contains w.made c → IsContent c
+    reps : (r : ℕ) → r < replicas k → AriseAt r (w.reps r)
+    clis : (c : ℕ) → Sits n (w.clis c)
+
+  later : (n : ℕ) (s : Cli) → Sits n s → Sits (n + 1) s
+  later n s sits = record { at = sits.at; stamp = omega (arith, sits.stamp) }
+
+  still_spelled : (n : ℕ) (w : Run P) → IsSpelled n w → IsSpelled (n + 1) w
+  still_spelled n w is = record { made = is.made; reps = is.reps; clis = λ c. later n (w.clis c) (is.clis c) }
+
+  more_made : (bad : Bool) (more was now : List Content) → now ≡ (if bad then was else more ++ was) → ((c : Content) → Contains was c → IsContent c) → ((c : Content) → Contains more c → IsContent c) → (c : Content) → Contains now c → IsContent c
+  more_made true more was now is old new c has = old c (subst (λ l. Contains l c) is has)
+  more_made false more was now is old new c has = elim (Contains-append_cases more was c (subst (λ l. Contains l c) is has)) [
+    | inl one ↦ new c one
+    | inr other ↦ old c other
+  ]
+
+  call_spelled : (n : ℕ) (w : Run P) (r : ℕ) (call : Call) → IsBuilt call → IsSpelled n w → IsSpelled (n + 1) (at_call k proto w r call)
+  call_spelled n w r call built is = elim (cases_Bool (nat_lt r (replicas k))) [
+    | inl there ↦
+        let lt = ltb-true r (replicas k) there in
+        let c = called k proto w r call lt in
+        let makes = call_makes r (w.reps r) call built (is.reps r lt) in
+        record {
+          made = more_made (is_faulty k.faulty (Replica r)) (rep_makes k proto r (w.reps r) call) w.made (at_call k proto w r call).made c.made is.made makes.each;
+          reps = λ q less. elim (cases_eq q r) [
+            | inl e ↦ subst (λ z. AriseAt z ((at_call k proto w r call).reps z)) (sym e) (subst (AriseAt r) (sym c.own) makes.arises)
+            | inr ne ↦ subst (AriseAt q) (sym (c.others q ne)) (is.reps q less)
+          ];
+          clis = λ d. subst (Sits (n + 1)) (sym (c.clis d)) (later n (w.clis d) (is.clis d));
+        }
+    | inr gone ↦ rw gone (still_spelled n w is)
+  ]
+
+  cue_spelled : (n : ℕ) (w : Run P) (c : ℕ) (cue : Cue) → (c < k.cluster.clients → Asks c n (w.clis c) (cli_makes k c (w.clis c) cue) (cli_after k c (w.clis c) cue)) → IsSpelled n w → IsSpelled (n + 1) (at_cue k proto w c cue)
+  cue_spelled n w c cue asks is = elim (cases_Bool (nat_lt c k.cluster.clients)) [
+    | inl there ↦
+        let lt = ltb-true c k.cluster.clients there in
+        let d = cued k proto w c cue lt in
+        let does = asks lt in
+        record {
+          made = more_made (is_faulty k.faulty (Client c)) (cli_makes k c (w.clis c) cue) w.made (at_cue k proto w c cue).made d.made is.made does.each;
+          reps = λ q less. subst (AriseAt q) (sym (d.reps q)) (is.reps q less);
+          clis = λ b. elim (cases_eq b c) [
+            | inl e ↦ subst (λ z. Sits (n + 1) ((at_cue k proto w c cue).clis z)) (sym e) (subst (Sits (n + 1)) (sym d.own) does.sits)
+            | inr ne ↦ subst (Sits (n + 1)) (sym (d.others b ne)) (later n (w.clis b) (is.clis b))
+          ];
+        }
+    | inr gone ↦ rw gone (still_spelled n w is)
+  ]
+
+  message_asks : (c n : ℕ) (s : Cli) (m : Msg) → IsMessage m → Sits n s → Asks c n s (cli_makes k c s (cue_message m)) (cli_after k c s (cue_message m))
+  message_asks c n s m is sits =
+      let idles = message_idles c s m is in
+      record {
+        each = λ t has. absurd (let gone : Contains [] t = subst (λ l. Contains l t) idles.none has in omega (arith, gone.1));
+        sits = record { at = idles.at ∙ sits.at; stamp = omega (arith, idles.stamp, sits.stamp) };
+      }
+
+  abbrev IsSpelledEvent : Event → Type 0
+  IsSpelledEvent (invoke c command) = (1 ≤ length command.items) × (length command.items ≤ 128)
+  IsSpelledEvent (to_replica r m) = IsMessage m
+  IsSpelledEvent (to_client c m) = IsMessage m
+  IsSpelledEvent (replica_time r) = ⊥
+  IsSpelledEvent (client_time c) = ⊥
+
+  event_spelled : (n : ℕ) (w : Run P) (e : Event) → n + 1 < 2 ^ 64 → IsSpelledEvent e → IsSpelled n w → IsSpelled (n + 1) (step k proto w e)
+  event_spelled n w (invoke c command) few built is = cue_spelled n w c (cue_command command) (λ lt. asking_asks c n (w.clis c) (w.clis c).phase command lt few built (is.clis c)) is
+  event_spelled n w (to_replica r m) few built is = call_spelled n w r (took m) built is
+  event_spelled n w (to_client c m) few built is = cue_spelled n w c (cue_message m) (λ lt. message_asks c n (w.clis c) m built (is.clis c)) is
+  event_spelled n w (replica_time r) few built is = absurd built
+  event_spelled n w (client_time c) few built is = absurd built
+
+  module _ (opens : Opener) (messages : OpensMessages opens) (first : IsTrue (serves (kind_of k.cluster.plan 1))) where
+    start_spelled : IsSpelled 0 (start k proto)
+    start_spelled = record {
+      made = λ c gone. absurd (omega (arith, gone.1));
+      reps = λ r lt. from_entry (entry_of [] None) first (omega arith, omega arith) lt (λ i j d e less. absurd (omega (arith, less))) (omega arith);
+      clis = λ c. record { at = refl; stamp = omega arith };
+    }
+
+    opened_spelled : (n : ℕ) (w : Run P) (events : List Event) (p : Party) (o : Option Msg) → w ≡ run k proto events → n + 1 < 2 ^ 64 → ((m : Msg) → o ≡ Some m → IsMessage m) → IsSpelled n w → IsSpelled (n + 1) (run k proto (opened p o ++ events))
+    opened_spelled n w events p None is few built was = subst (IsSpelled (n + 1)) is (still_spelled n w was)
+    opened_spelled n w events (Replica r) (Some m) is few built was = subst (λ v. IsSpelled (n + 1) (step k proto v (to_replica r m))) is (event_spelled n w (to_replica r m) few (built m refl) was)
+    opened_spelled n w events (Client c) (Some m) is few built was = subst (λ v. IsSpelled (n + 1) (step k proto v (to_client c m))) is (event_spelled n w (to_client c m) few (built m refl) was)
+
+    input_spelled : (g : Input) (inputs : List Input) (n : ℕ) → n + 1 < 2 ^ 64 → IsSpelledInput g → IsSpelled n (run k proto (events_in opens inputs)) → IsSpelled (n + 1) (run k proto (events_in opens (g ∷ inputs)))
+    input_spelled (told c command) inputs n few is was = event_spelled n (run k proto (events_in opens inputs)) (invoke c command) few is was
+    input_spelled (came p bytes) inputs n few is was = opened_spelled n (run k proto (events_in opens inputs)) (events_in opens inputs) p (opens p bytes) refl few (messages p bytes) was
+    input_spelled (rang p) inputs n few is was = absurd is
+    input_spelled elsewhere inputs n few is was = still_spelled n (run k proto (events_in opens inputs)) was
+
+    all_spelled : (inputs : List Input) → AreSpelledInputs inputs → length inputs < 2 ^ 64 → IsSpelled (length inputs) (run k proto (events_in opens inputs))
+    all_spelled [] are few = start_spelled
+    all_spelled (g ∷ inputs) are few =
+        let one : length inputs + 1 ≡ suc (length inputs) = omega arith in
+        subst (λ n. IsSpelled n (run k proto (events_in opens (g ∷ inputs)))) one
+        (input_spelled g inputs (length inputs) (omega (arith, few)) are.0 (all_spelled inputs are.1 (omega (arith, few))))
+
+    -- ---- what is checked
+
+    party_content : (bad : Bool) (p : Party) (m : Msg) → IsMessage m → (c : Content) → Contains (if bad then [] else claims k.cluster.f p m) c → IsContent c
+    party_content true p m is c gone = absurd (omega (arith, gone.1))
+    party_content false p m is c has = claims_content k.cluster.f p m is c has
+
+    opened_checked : (p : Party) (o : Option Msg) → ((m : Msg) → o ≡ Some m → IsMessage m) → (c : Content) → Contains (flat_map (checked k) (opened p o)) c → IsContent c
+    opened_checked p None built c gone = absurd (omega (arith, gone.1))
+    opened_checked (Replica r) (Some m) built c has = party_content (is_faulty k.faulty (Replica r)) (Replica r) m (built m refl) c (subst (λ l. Contains l c) (append-nil (checked k (to_replica r m))) has)
+    opened_checked (Client d) (Some m) built c has = party_content (is_faulty k.faulty (Client d)) (Client d) m (built m refl) c (subst (λ l. Contains l c) (append-nil (checked k (to_client d m))) has)
+
+    input_checked : (g : Input) → IsSpelledInput g → (c : Content) → Contains (flat_map (checked k) (event_in opens g)) c → IsContent c
+    input_checked (told d command) is c gone = absurd (omega (arith, gone.1))
+    input_checked (came p bytes) is c has = opened_checked p (opens p bytes) (messages p bytes) c has
+    input_checked (rang p) is c has = absurd is
+    input_checked elsewhere is c gone = absurd (omega (arith, gone.1))
+
+    each_checked : (inputs : List Input) → AreSpelledInputs inputs → (c : Content) → Contains (all_checked k (events_in opens inputs)) c → IsContent c
+    each_checked [] are c gone = absurd (omega (arith, gone.1))
+    each_checked (g ∷ inputs) are c has = elim (Contains-append_cases (flat_map (checked k) (event_in opens g)) (all_checked k (events_in opens inputs)) c (subst (λ l. Contains l c) (flat_map-append (checked k) (event_in opens g) (events_in opens inputs)) has)) [
+      | inl now ↦ input_checked g are.0 c now
+      | inr before ↦ each_checked inputs are.1 c before
+    ]
+
+pub spells_apart : {P : Type 0} (k : Setup) (proto : Proto P) (serves : Kind → Bool) (opens : Opener) (inputs : List Input) → KeepsForm proto serves → IsSpelledRun k serves opens inputs
+    → ((x y : Content) → IsContent x → IsContent y → spell_content x ≡ spell_content y → x ≡ y) → SpellsApart k proto spell_content (events_in opens inputs)
+spells_apart k proto serves opens inputs form is own s t made checked same =
+    own s t ((all_spelled k proto form is.unsigned opens is.opens_messages is.serves_first inputs is.each is.few).made s made)
+    (each_checked k proto form is.unsigned opens is.opens_messages is.serves_first inputs is.each t checked) same

@@ -21,7 +21,7 @@ use Rattle.ab_premise.proofs.Looks.{IsBuiltEvent, Looks, HasOwn, Seen, event_see
 mk : ℕ → Party → Collision
 mk n p = record { event = n; party = p }
 
-not_found : (o : Option Collision) (n : ℕ) (p : Party) → first_collision o n p false ≡ o
+pub not_found : (o : Option Collision) (n : ℕ) (p : Party) → first_collision o n p false ≡ o
 not_found None n p = refl
 not_found (Some c) n p = refl
 

@@ -9,6 +9,7 @@ use Rattle.ab_text.specs.declared.event.Event.TheVariants.{Invoke}
 use Rattle.ab_keys.specs.Keys.{is_party}
 use Rattle.ab_abs.specs.Ensembles.{Proto}
 use Rattle.ab_post.specs.Packets.{Packet, nth, total, most_bytes}
+use Rattle.ab_cast.specs.declared.effects.Effects.{Effects}
 use Rattle.ab_cast.specs.declared.place.Place.{Place}
 use Rattle.ab_cast.specs.Setups.{Setup, party_at, place_of, numbered_place}
 use Rattle.ab_run.specs.Replicas.{Rep}
@@ -52,7 +53,7 @@ module _ {P : Type 0} (proto : Proto P) (w : World P) where
       ∙ (ap (λ o. moved_at proto w at (message is.msg) o) (sym is.there) ∙ ap (λ r. after_taking proto w at (messages r)) (sym is.opens))
 
   -- a command that a core took
-  pub asked_is : (at : Place) (bytes : ArrayVec ℕ) (s : Core P) (new : Cast P) (effects : _) → core_at w.cast at ≡ Some s
+  pub asked_is : (at : Place) (bytes : ArrayVec ℕ) (s : Core P) (new : Cast P) (effects : Effects) → core_at w.cast at ≡ Some s
       → IsTaken proto w.cast at s (command bytes) new effects.outs effects.marks.items effects.spent
       → finished proto (record w { cast = new }) (party_at at) (standing proto w.cast (party_at at)) (Heard None None effects) ≡ after proto w (record { place = at; given = ask bytes })
   asked_is at bytes s new effects there taken =

@@ -29,5 +29,12 @@ returns-clause-handed g c =
       there = found.1;
       forged = c.forged_in-found.ensures ∙ (λ j. forged_in (run_setup (c.setup-2.ensures j)) spell_content c.args.made.now (claims (c.setup-2.ensures j).cluster.f (me j) c.in-Ok.checked.msg));
       requests = asks c.args.cast.now.setup.cluster.f p;
-      taken = subst (λ m. IsTaken g.P.Protocol.proto c.args.cast.now at found.0 (message m) c.hear.new.cast c.in_ok-effects.effects.outs c.in_ok-effects.effects.marks.items c.in_ok-effects.effects.spent) same (c.in_ok-effects.ensures.taken found.0 found.1);
+      taken = subst (λ m. IsTaken g.P.Protocol.proto c.args.cast.now at found.0 (message m) c.hear.new.self c.in_ok-effects.effects.outs c.in_ok-effects.effects.marks.items c.in_ok-effects.effects.spent) same (c.in_ok-effects.ensures.taken found.0 found.1);
     }
+
+pub returns-clause-drafts : goal.returns-clause-drafts
+returns-clause-drafts g c =
+    let at = c.args.place in
+    let place = c.requires.there in
+    let found = c.places_have_cores.ensures.cores (party_at at) place.0 at place.1 in
+    (c.in_ok-effects.ensures.taken found.0 found.1).drafts

@@ -1,5 +1,6 @@
 use Rattle.std.proofs.Common.{◌≡◌, ℕ, ◌≤◌, None, Some, Ok, Err, length, sym, ap, ◌∙◌, subst, refl, arith}
-use Rattle.std.specs.Prelude.{IsTrue, IfErr, OnOk}
+use Rattle.ab_client.specs.Drafts.{IsDraftOf}
+use Rattle.std.specs.Prelude.{All, IsTrue, IfErr, OnOk}
 use Rattle.std.proofs.lemmas.Result.{on_ok_weaker}
 use Rattle.arrayvec.specs.ArrayVec.{ArrayVec}
 use Rattle.ab_num.specs.declared.party.Party.{Party}
@@ -78,6 +79,37 @@ finish-requires-clause-party g c =
     let stays = ap (λ x. x.setup) taken.after ∙ core_setup w.cast at (core_after w.cast.setup proto (party_at at) s (command cmd)) in
     subst (λ (y : Setup). IsTrue (is_party y.cluster.f y.cluster.clients c.party-in-Ok.result)) (sym stays)
     (subst (λ (p : Party). IsTrue (is_party w.cast.setup.cluster.f w.cast.setup.cluster.clients p)) (sym c.party-in-Ok.ensures) (place_party w.cast.setup at (place_is w.cast.setup core.party core.twin at place)))
+
+pub finish-requires-clause-drafts : goal.finish-requires-clause-drafts
+finish-requires-clause-drafts g c =
+    let proto = g.P.Protocol.proto in
+    let core = c.args.core in
+    let cmd : ArrayVec ℕ = c.args.command.now in
+    let w : World g.row.P.Denot = record {
+      cast = c.self.inside.cast;
+      packets = c.self.inside.packets;
+      made = c.self.inside.made;
+      seen = c.self.inside.seen.items;
+      lines = c.self.inside.lines.items;
+      forged = forged_first c.self.inside.forged;
+      watch = record { kept = c.self.inside.digests; collided = c.self.inside.collided };
+      ended = c.self.inside.ended;
+    } in
+    let value : length c.as_slice-bytes.result.now ≡ length cmd.items = ap length c.as_slice-bytes.ensures.value in
+    let some : 1 ≤ length cmd.items = omega (arith, positive _ c.if-is_empty.ensures, value) in
+    let few : length cmd.items ≤ 128 = omega (arith, c.as_slice-bytes.ensures.fits, value) in
+    let at = c.in-Some.place in
+    let place : place_of w.cast.setup core.party core.twin ≡ Some at =
+    ap (λ y. place_of y core.party core.twin) (sym c.setup.ensures) ∙ (sym c.place.ensures ∙ c.in-Some.is) in
+    let found = c.places_have_cores.ensures.cores core.party core.twin at place in
+    let s = found.0 in
+    let there = found.1 in
+    let asks = asks_core proto w core cmd at s some few place there in
+    let same : record { items = c.as_slice-bytes.result.now } ≡ cmd = ap (λ xs. record { items = xs }) c.as_slice-bytes.ensures.value in
+    let taken = subst (λ (b : ArrayVec ℕ). IsTaken proto w.cast at s (command b) c.invoke.new.self c.in-Ok.effects.outs c.in-Ok.effects.marks.items c.in-Ok.effects.spent) same (c.in-Ok.ensures.taken s there) in
+    let stays = ap (λ x. x.setup) taken.after ∙ core_setup w.cast at (core_after w.cast.setup proto (party_at at) s (command cmd)) in
+    subst (λ (y : Setup). All (IsDraftOf y.cluster.f c.party-in-Ok.result) c.in-Ok.effects.outs) (sym stays)
+    (subst (λ (p : Party). All (IsDraftOf w.cast.setup.cluster.f p) c.in-Ok.effects.outs) (sym c.party-in-Ok.ensures) taken.drafts)
 
 pub returns-in-Ok-clause-ok : goal.returns-in-Ok-clause-ok
 returns-in-Ok-clause-ok g c =
