@@ -1,23 +1,22 @@
 -- The premise line of a run is the one that a program tells.
-use Rattle.std.proofs.Common.{◌≡◌, ℕ, zero, suc, ◌+◌, ◌≤◌, ◌<◌, ◌⊎◌, ◌↔◌, true, false, Bool, Some, None, Option, List, [], ◌∷◌, ◌++◌, length, map, refl, sym, ap, ◌∙◌, subst, inl, inr, arith, append_assoc, true≢false, length-append}
+use Rattle.std.proofs.Common.{◌≡◌, ℕ, zero, suc, ◌≤◌, ◌<◌, ◌↔◌, true, false, Bool, Some, None, Option, List, [], ◌∷◌, ◌++◌, length, map, refl, sym, ap, ◌∙◌, subst, inl, inr, arith, append_assoc, length-append}
 use Rattle.std.specs.Prelude.{Contains, nat_le, nat_lt, count_by, slice_get, if◌then◌else◌}
 use Rattle.std.specs.List.{filter}
 use Rattle.std.proofs.lemmas.Bool.{cases_Bool, cases_lt, leb-true, leb-false, le-leb, lt-leb, ltb-true}
 use Rattle.std.proofs.lemmas.Option.{slice_get_past}
 use Rattle.std.proofs.lemmas.List.Sums.{length-filter}
-use Rattle.std.proofs.lemmas.List.Elements.{Contains-append_left, Contains-append_right}
+use Rattle.std.proofs.lemmas.List.Elements.{Contains-append_right}
 use Rattle.ab_num.specs.declared.party.Party.{Party}
 use Rattle.ab_num.specs.declared.party.Party.TheVariants.{Replica, Client}
 use Rattle.ab_hist.specs.declared.request.Request.{Request}
-use Rattle.ab_text.specs.declared.line.Breach.TheVariants.{Faulty, Forged, Collision as Collided}
+use Rattle.ab_text.specs.declared.line.Breach.TheVariants.{Forged, Collision as Collided}
 use Rattle.ab_text.specs.declared.line.Premise.{Premise}
-use Rattle.ab_text.specs.declared.line.Premise.TheVariants.{Held, Broken}
+use Rattle.ab_text.specs.declared.line.Premise.TheVariants.{Broken}
 use Rattle.ab_msg.specs.Carried.{is_replica}
 use Rattle.ab_abs.specs.Messages.{Call, took, timed}
 use Rattle.ab_abs.specs.Ensembles.{Proto}
 use Rattle.ab_links.specs.Digested.{HasNoCollision}
-use Rattle.ab_links.proofs.ListLemmas.{HasSame, Contains-head}
-use Rattle.ab_links.proofs.DigestedLemmas.{fewer}
+use Rattle.ab_links.proofs.ListLemmas.{Contains-head}
 use Rattle.ab_run.specs.Setups.{Setup, replicas}
 use Rattle.ab_run.specs.Runs.{Event, invoke, to_replica, to_client, replica_time, client_time, Run, run, step}
 use Rattle.ab_run.specs.Local.{Cue, cue_command, cue_message, cue_time}
@@ -154,7 +153,7 @@ module _ {P : Type 0} (k : Setup) (proto : Proto P) where
       forged_sooner : (b : Forgery) (c : Collision) (fb : IsForgedAt k proto opens inputs b.event b.maker) (fc : IsCollidedAt k proto opens inputs c.event c.party) → b.event ≤ c.event → Free fb.earlier
       forged_sooner b c fb fc le =
           let (m, is) = shorter_end (fb.later ++ fb.input ∷ []) (fc.later ++ fc.input ∷ []) fb.earlier fc.earlier
-              (sym (seam fb.later fb.input fb.earlier) ∙ sym fb.place ∙ fc.place ∙ seam fc.later fc.input fc.earlier) (omega (arith, fb.number, fc.number)) in
+          (sym (seam fb.later fb.input fb.earlier) ∙ sym fb.place ∙ fc.place ∙ seam fc.later fc.input fc.earlier) (omega (arith, fb.number, fc.number)) in
           free_end m fb.earlier fc.earlier is fc.before
 
       collided_sooner : (b : Forgery) (c : Collision) (fb : IsForgedAt k proto opens inputs b.event b.maker) (fc : IsCollidedAt k proto opens inputs c.event c.party) → c.event < b.event → (m : List Input) × (fb.earlier ≡ m ++ (fc.input ∷ fc.earlier))

@@ -1,7 +1,6 @@
 -- What is looked at in an event is what the run then has.
-use Rattle.std.proofs.Common.{◌≡◌, ℕ, ◌<◌, ◌⊎◌, true, false, Bool, Some, None, Option, List, [], ◌∷◌, ◌++◌, length, map, take, refl, sym, ap, ◌∙◌, subst, inl, inr, arith, append-nil, append_assoc, true≢false}
+use Rattle.std.proofs.Common.{◌≡◌, ℕ, ◌<◌, ◌⊎◌, true, false, Bool, Some, None, Option, List, [], ◌∷◌, ◌++◌, length, map, refl, sym, ap, ◌∙◌, subst, inl, inr, arith, append-nil, true≢false}
 use Rattle.std.specs.Prelude.{Contains, nat_lt, ◌==◌, if◌then◌else◌}
-use Rattle.std.specs.List.{flat_map}
 use mathlib.Core.List.{IsPrefix}
 use Rattle.std.proofs.lemmas.Bool.{cases_Bool, cases_eq, ltb-true}
 use Rattle.std.proofs.lemmas.Grind.{flat_map-append}
@@ -10,27 +9,26 @@ use Rattle.ab_num.specs.declared.party.Party.{Party}
 use Rattle.ab_num.specs.declared.plan.Kind.{Kind}
 use Rattle.ab_num.specs.declared.party.Party.TheVariants.{Replica, Client}
 use Rattle.ab_hist.specs.declared.request.Request.{Request}
-use Rattle.ab_msg.specs.declared.content.Content.{Content}
 use Rattle.ab_msg.specs.declared.signed.Signed.{Signed}
 use Rattle.ab_msg.specs.declared.message.Msg.{Msg}
 use Rattle.ab_msg.specs.declared.message.Msg.TheVariants as msg
 use Rattle.ab_msg.specs.Claims.{instance_in, maker_of}
 use Rattle.ab_msg.specs.Grammar.{IsMessage}
 use Rattle.ab_abs.specs.Faults.{is_faulty}
-use Rattle.ab_abs.specs.Acts.{State, with_first}
+use Rattle.ab_abs.specs.Acts.{with_first}
 use Rattle.ab_abs.specs.Messages.{Call, took, timed}
 use Rattle.ab_abs.specs.Ensembles.{Proto}
-use Rattle.ab_abs.specs.Places.{KeepsForm, IsBlank}
+use Rattle.ab_abs.specs.Places.{KeepsForm}
 use Rattle.ab_abs.proofs.Prefixes.{prefix_is_take}
 use Rattle.ab_links.specs.Links.{Continues}
 use Rattle.ab_links.specs.Digested.{Item, history, request, item_histories, item_requests, histories_of, requests_of, BeginsIn}
 use Rattle.ab_links.proofs.ListLemmas.{HasSame, Contains-cons_cases, Contains-head, Contains-tail}
 use Rattle.ab_run.specs.Setups.{Setup, replicas}
 use Rattle.ab_run.specs.Replicas.{Rep, Turn, turn_call, turn_sign, turn_bring, turn_abort, state_at, after_turn, client_of, aborting, aborting_with, late, here, taken_in, due, is_spent, turns}
-use Rattle.ab_run.specs.Runs.{Event, invoke, to_replica, to_client, replica_time, client_time, Run, run, step, start, had_at, histories_for, requests_for}
+use Rattle.ab_run.specs.Runs.{Event, invoke, to_replica, to_client, replica_time, client_time, Run, step, start, had_at, histories_for, requests_for}
 use Rattle.ab_run.specs.Local.{after_turns, rep_after, cue_command, cue_message, cue_time, Cue}
 use Rattle.ab_run.specs.Stages.{had_in_turns, had_in_call, call_histories, call_requests}
-use Rattle.ab_run.proofs.Effects.{at_call, at_cue, called, cued, reps_stay, reps_apart}
+use Rattle.ab_run.proofs.Effects.{at_call, at_cue, called, reps_apart}
 use Rattle.ab_run.proofs.Shown.{grown, followed}
 use Rattle.ab_premise.specs.Collisions.{StaysEntered, checked_items, first_items, known_of, state_items, call_items, client_items, items_of}
 
@@ -112,6 +110,7 @@ module _ {P : Type 0} (k : Setup) (proto : Proto P) where
   quiet_one r t ts s signs = refl
   quiet_one r t ts s (brings c) = refl
   quiet_one r t ts s (aborts c) = refl
+
   quiet_stays : (r : ℕ) (ts : List Turn) (s : Rep P) → AllQuiet ts → Stays r ts s
   quiet_stays r [] s all = record { same = refl; each = λ h gone. absurd (omega (arith, gone.1)) }
   quiet_stays r (t ∷ ts) s all =
@@ -193,13 +192,16 @@ pub record Looks {P : Type 0} (w v : Run P) (items : List Item) : Type 0 where
   pub begins : (item : Item) → Contains items item → BeginsIn w.had item
 
 swap : {A : Type 0} (xs ys : List A) → HasSame (xs ++ ys) (ys ++ xs)
-swap xs ys a = (λ at. elim (Contains-append_cases xs ys a at) [
-  | inl one ↦ Contains-append_right ys xs a one
-  | inr other ↦ Contains-append_left ys xs a other
-], λ at. elim (Contains-append_cases ys xs a at) [
-  | inl one ↦ Contains-append_right xs ys a one
-  | inr other ↦ Contains-append_left xs ys a other
-])
+swap xs ys a = (
+  λ at. elim (Contains-append_cases xs ys a at) [
+    | inl one ↦ Contains-append_right ys xs a one
+    | inr other ↦ Contains-append_left ys xs a other
+  ],
+  λ at. elim (Contains-append_cases ys xs a at) [
+    | inl one ↦ Contains-append_right xs ys a one
+    | inr other ↦ Contains-append_left xs ys a other
+  ],
+)
 
 -- nothing is looked at
 nothing_looks : {P : Type 0} (w v : Run P) → v.had ≡ w.had → v.asked ≡ w.asked → Looks w v []

@@ -1,10 +1,9 @@
 -- What correct parties make in a run has bytes, as long as nobody can sign and no timer runs out.
-use Rattle.std.proofs.Common.{◌≡◌, ℕ, suc, ◌+◌, ◌*◌, ◌<◌, ◌≤◌, true, false, Bool, Some, None, Option, List, [], ◌∷◌, ◌++◌, length, refl, sym, ap, ◌∙◌, subst, inl, inr, arith, append-nil}
+use Rattle.std.proofs.Common.{◌≡◌, ℕ, suc, ◌+◌, ◌<◌, ◌≤◌, true, false, Bool, Some, None, Option, List, [], ◌∷◌, ◌++◌, length, refl, sym, ap, ◌∙◌, subst, inl, inr, arith, append-nil}
 use Rattle.std.proofs.lemmas.Grind.{flat_map-append}
 use Rattle.ab_num.specs.declared.party.Party.{Party}
 use Rattle.ab_num.specs.Places.{kind_of}
-use Rattle.std.specs.Prelude.{IsTrue, Contains, nat_lt, ◌==◌, ◌&&◌, ◌^◌, if◌then◌else◌, flat_map, map, All}
-use Rattle.std.specs.List.{filter}
+use Rattle.std.specs.Prelude.{IsTrue, Contains, nat_lt, ◌^◌, if◌then◌else◌, flat_map, map}
 use Rattle.arrayvec.specs.ArrayVec.{ArrayVec}
 use Rattle.std.proofs.lemmas.Bool.{cases_Bool, cases_eq, ltb-true, ltb-false}
 use Rattle.std.proofs.lemmas.List.Elements.{Contains-append_cases}
@@ -15,32 +14,31 @@ use Rattle.ab_msg.specs.declared.content.Content.{Content}
 use Rattle.ab_msg.specs.declared.content.Content.TheVariants as content
 use Rattle.ab_msg.specs.declared.message.Msg.{Msg}
 use Rattle.ab_msg.specs.declared.message.Msg.TheVariants as msg
-use Rattle.ab_msg.specs.declared.message.Out.{Out}
 use Rattle.ab_msg.specs.Claims.{fresh, maker_of, stated, claims}
 use Rattle.ab_num.specs.Parties.{party_eq}
 use Rattle.ab_msg.specs.Grammar.{IsContent, IsDraft, IsMessage, IsReq, IsResp, spell_content}
 use Rattle.ab_abs.specs.Faults.{is_faulty}
-use Rattle.ab_abs.specs.Messages.{Call, took, timed, IsFormed, IsKnown}
+use Rattle.ab_abs.specs.Messages.{Call, took, timed, IsFormed}
 use Rattle.ab_abs.specs.Ensembles.{Proto, entry_of}
 use Rattle.ab_abs.specs.Places.{KeepsForm, Arises, from_entry, by_call}
 use Rattle.ab_abs.proofs.Lists.{flat_map_cases, Contains-filter_cases}
 use Rattle.ab_links.proofs.ListLemmas.{Contains-cons_cases}
 use Rattle.ab_run.specs.Setups.{Setup, replicas, within}
-use Rattle.ab_run.specs.Replicas.{Rep, Turn, turn_call, turn_sign, turn_bring, turn_abort, after_turn, made_in_turn, pen_of, wanted, due, is_spent, turns}
-use Rattle.ab_run.specs.Clients.{Cli, Move, move_ask, move_vote, move_commit, asking, after_move, hears, hears_response, counting, if_open, moves, vote_claim}
+use Rattle.ab_run.specs.Replicas.{Rep, Turn, turn_call, turn_sign, turn_bring, turn_abort, made_in_turn, pen_of, wanted, due, is_spent, turns}
+use Rattle.ab_run.specs.Clients.{Cli, Move, move_vote, move_commit, asking, after_move, hears, hears_response, counting, if_open, moves, vote_claim}
 use Rattle.ab_run.specs.declared.phase.Phase.{Phase}
 use Rattle.ab_run.specs.declared.phase.Phase.TheVariants.{Idle, Waiting, Panicking}
 use Rattle.ab_abs.specs.declared.ballot.Ballot.{Ballot}
 use Rattle.ab_abs.specs.Votes.{has_voted, is_full_by}
 use Rattle.ab_abs.specs.Kinds.{rule_in}
 use Rattle.ab_run.specs.Runs.{Event, invoke, to_replica, to_client, replica_time, client_time, Run, run, step, start}
-use Rattle.ab_run.specs.Local.{after_turns, made_in_turns, rep_after, rep_makes, Cue, cue_command, cue_message, cue_time, after_moves, made_in_moves, moves_at, cli_after, cli_makes}
+use Rattle.ab_run.specs.Local.{after_turns, made_in_turns, rep_after, rep_makes, Cue, cue_command, cue_message, after_moves, made_in_moves, moves_at, cli_after, cli_makes}
 use Rattle.ab_run.specs.Premises.{checked}
 use Rattle.ab_run.specs.Inputs.{Input, told, came, rang, elsewhere, Opener, opened, event_in, events_in, all_checked, SpellsApart}
-use Rattle.ab_run.proofs.Effects.{at_call, at_cue, called, cued, reps_stay, reps_apart, clis_stay, clis_apart}
+use Rattle.ab_run.proofs.Effects.{at_call, at_cue, called, cued}
 use Rattle.ab_premise.specs.Collisions.{OpensMessages}
 use Rattle.ab_premise.specs.Spelled.{IsSpelledInput, AreSpelledInputs, IsSpelledRun}
-use Rattle.ab_premise.proofs.Looks.{IsBuilt, IsBuiltEvent, IsQuiet, signs, brings, aborts, AllQuiet, IsCalm, still, once, turns_calm, due_calm}
+use Rattle.ab_premise.proofs.Looks.{IsBuilt, AllQuiet, IsCalm, still, once, due_calm}
 
 -- ---- contents
 
@@ -89,10 +87,10 @@ module _ {P : Type 0} (k : Setup) (proto : Proto P) {serves : Kind → Bool} (fo
   quiet_makes r (turn_sign ∷ ts) s all none arises = absurd (omega (arith, none))
   quiet_makes r (turn_bring d ∷ ts) s all none arises =
       let rest = quiet_makes r ts s all.1 (omega (arith, none)) arises in
-      record { each = λ c has. elim (Contains-append_cases (made_in_turns k proto r s ts) [] c has) [ | inl one ↦ rest.each c one | inr gone ↦ absurd (omega (arith, gone.1)) ]; arises = rest.arises }
+      record { each = λ c has. elim (Contains-append_cases (made_in_turns k proto r s ts) [] c has) [ inl one ↦ rest.each c one | inr gone ↦ absurd (omega (arith, gone.1)) ]; arises = rest.arises }
   quiet_makes r (turn_abort d ∷ ts) s all none arises =
       let rest = quiet_makes r ts s all.1 (omega (arith, none)) arises in
-      record { each = λ c has. elim (Contains-append_cases (made_in_turns k proto r s ts) [] c has) [ | inl one ↦ rest.each c one | inr gone ↦ absurd (omega (arith, gone.1)) ]; arises = rest.arises }
+      record { each = λ c has. elim (Contains-append_cases (made_in_turns k proto r s ts) [] c has) [ inl one ↦ rest.each c one | inr gone ↦ absurd (omega (arith, gone.1)) ]; arises = rest.arises }
   quiet_makes r (_ ∷ ts) s all none arises = absurd (elim all.0 [ ])
 
   call_content : (r : ℕ) (s : Rep P) (call : Call) → IsBuilt call → AriseAt r s → (c : Content) → Contains (made_in_turn k proto r s (turn_call call)) c → IsContent c

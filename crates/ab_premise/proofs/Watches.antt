@@ -1,7 +1,6 @@
 -- The collision that a program finds is the earliest of the run.
 use Rattle.std.proofs.Common.{◌≡◌, ℕ, ◌+◌, ◌⊎◌, ◌↔◌, true, false, Bool, Some, None, Option, List, [], ◌∷◌, ◌++◌, length, refl, sym, ap, ◌∙◌, subst, inl, inr, arith, append-nil, true≢false}
-use Rattle.std.specs.Prelude.{flat_map, if◌then◌else◌}
-use Rattle.std.proofs.lemmas.Bool.{cases_Bool}
+use Rattle.std.specs.Prelude.{flat_map}
 use Rattle.ab_num.specs.declared.party.Party.{Party}
 use Rattle.ab_num.specs.declared.party.Party.TheVariants.{Replica, Client}
 use Rattle.ab_num.specs.declared.plan.Kind.{Kind}
@@ -9,14 +8,14 @@ use Rattle.ab_msg.specs.declared.message.Msg.{Msg}
 use Rattle.ab_msg.specs.Grammar.{IsMessage}
 use Rattle.ab_abs.specs.Ensembles.{Proto}
 use Rattle.ab_abs.specs.Places.{KeepsForm}
-use Rattle.ab_links.specs.Digested.{HasNoCollision, Digested, Item, history, keep_item, keep_items, any_found, nothing, histories_of, requests_of, IsDigested}
+use Rattle.ab_links.specs.Digested.{HasNoCollision, Item, history, keep_items, any_found, nothing, histories_of, requests_of, IsDigested}
 use Rattle.ab_links.proofs.DigestedLemmas.{all_free, none_found, all_kept, fewer, found_step, kept_step, nothing_is, nothing_free, HasNoCollision-same, IsDigested-same}
 use Rattle.ab_run.specs.Setups.{Setup}
 use Rattle.ab_run.specs.Runs.{Event, invoke, to_replica, to_client, replica_time, client_time, Run, run, step}
 use Rattle.ab_run.specs.Inputs.{Input, told, came, rang, elsewhere, Opener, opened, event_in, events_in}
 use Rattle.ab_premise.specs.declared.breach.Collision.{Collision}
 use Rattle.ab_premise.specs.Collisions.{taker_of, IsFree, IsCollidedAt, StaysEntered, OpensMessages, Watch, first_watch, first_collision, looked, looked_in, items_of, watched}
-use Rattle.ab_premise.proofs.Looks.{IsBuiltEvent, Looks, HasOwn, Seen, event_seen, start_own}
+use Rattle.ab_premise.proofs.Looks.{IsBuiltEvent, Looks, HasOwn, event_seen, start_own}
 
 mk : ℕ → Party → Collision
 mk n p = record { event = n; party = p }

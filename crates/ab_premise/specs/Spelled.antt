@@ -1,5 +1,5 @@
 -- Runs whose contents have bytes.
-use Rattle.std.specs.Prelude.{◌≡◌, ℕ, ◌<◌, ◌^◌, ◌≤◌, IsTrue, Bool, List, [], ◌∷◌, length}
+use Rattle.std.specs.Prelude.{◌≡◌, ◌<◌, ◌^◌, ◌≤◌, IsTrue, Bool, List, [], ◌∷◌, length}
 use Rattle.ab_num.specs.declared.plan.Kind.{Kind}
 use Rattle.ab_num.specs.Places.{kind_of}
 use Rattle.ab_run.specs.Setups.{Setup}

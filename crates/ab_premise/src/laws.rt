@@ -18,8 +18,6 @@ ghost use Rattle.ab_premise.specs.Collisions.{IsCollidedAt, IsFree, OpensMessage
 ghost use Rattle.ab_premise.specs.Spelled.{IsSpelledRun};
 ghost use Rattle.ab_premise.specs.Premises.{faulty_premise, first_premise, passing, IsPremise};
 
-
-
 /// At most f replicas are declared faulty exactly where none passes f.
 pub fn few_are_faulty()
     ensures { (f : ℕ) (faulty : List (TheParty × ℕ)) → (passing f faulty ≡ None) ↔ (count_by is_replica (map (λ e. e.0) faulty) ≤ f) }

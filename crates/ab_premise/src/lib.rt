@@ -5,7 +5,6 @@ mod breach;
 mod laws;
 mod line;
 
-
 pub use breach::{Collision, Forgery};
 pub use laws::{collisions_are_told, few_are_faulty, premise_is_told, spelled_runs_are_apart};
 pub use line::{first_collision, first_forgery, premise};

@@ -10,11 +10,7 @@ use ab_num::Party;
 use ab_text::{Breach, Premise};
 
 /// The first forgery, where in this event the name of a party was forged, if it was.
-pub fn first_forgery(
-    before: Option<Forgery>,
-    event: u32,
-    found: Option<Party>,
-) -> Option<Forgery>
+pub fn first_forgery(before: Option<Forgery>, event: u32, found: Option<Party>) -> Option<Forgery>
     ensures { forged_first result ≡ first_of (forged_first before) (forgery event found) }
 {
     match (before, found) {

@@ -112,11 +112,11 @@ module _ {P : Type 0} (proto : Proto P) (serves : Kind → Bool) (x : Setup) (bu
     pub line_told : (line : Premise) → (premise_of end ≡ line) ↔ IsPremise K proto (opener x) x.faulty came line
     line_told line =
         let told = premise_told K proto (opener x) x.faulty came end.forged end.watch.collided
-            (λ e. honest.0 (sym forged_is ∙ e), λ h. forged_is ∙ honest.1 h)
-            (λ b. (λ e. (first b).0 (sym forged_is ∙ e), λ h. forged_is ∙ (first b).1 h))
-            (λ e. (free_told K proto form stays (opener x) built came).0 (sym collided_is ∙ e), λ h. collided_is ∙ (free_told K proto form stays (opener x) built came).1 h)
-            (λ c. (λ e. (earliest_told K proto form stays (opener x) built came c).0 (sym collided_is ∙ e), λ h. collided_is ∙ (earliest_told K proto form stays (opener x) built came c).1 h))
-            line in
+        (λ e. honest.0 (sym forged_is ∙ e), λ h. forged_is ∙ honest.1 h)
+        (λ b. (λ e. (first b).0 (sym forged_is ∙ e), λ h. forged_is ∙ (first b).1 h))
+        (λ e. (free_told K proto form stays (opener x) built came).0 (sym collided_is ∙ e), λ h. collided_is ∙ (free_told K proto form stays (opener x) built came).1 h)
+        (λ c. (λ e. (earliest_told K proto form stays (opener x) built came c).0 (sym collided_is ∙ e), λ h. collided_is ∙ (earliest_told K proto form stays (opener x) built came c).1 h))
+        line in
         let same : premise_of end ≡ faulty_premise (passing K.cluster.f x.faulty) (first_premise end.forged end.watch.collided) =
         ap (λ (y : Setup). faulty_premise (passing y.cluster.f y.faulty) (first_premise end.forged end.watch.collided)) is.setup in
         (λ e. told.0 (sym same ∙ e), λ h. same ∙ told.1 h)

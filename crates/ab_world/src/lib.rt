@@ -14,6 +14,5 @@ mod world;
 
 pub use fault::WorldFault;
 pub use laws::{premise_is_exact, worlds_are_runs, worlds_keep_promises};
-
 pub use lines::entries;
 pub use world::World;

@@ -22,10 +22,7 @@ use ab_num::{OutOfMemory, Party};
 use ab_svc::Service;
 
 /// The instance of a party's own core and the length of its log, where the party is a replica.
-pub(crate) fn standing<S: Service, P: Protocol<S>>(
-    cast: &Cast<S, P>,
-    party: Party,
-) -> (u32, usize)
+pub(crate) fn standing<S: Service, P: Protocol<S>>(cast: &Cast<S, P>, party: Party) -> (u32, usize)
     ensures { result ≡ standing P.proto cast.now party }
 {
     let Party::Replica(r) = party else {

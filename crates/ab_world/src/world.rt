@@ -303,7 +303,12 @@ impl<S: Service, P: Protocol<S>> World<S, P> {
         let before = standing(&self.cast, place.party());
         match self.cast.invoke(alloc, place, bytes) {
             Ok(effects) => {
-                self.finish(alloc, place.party(), before, Handed::Heard(None, None, effects))
+                self.finish(
+                    alloc,
+                    place.party(),
+                    before,
+                    Handed::Heard(None, None, effects),
+                )
             }
             Err(CommandFault::NoClient) => Err(WorldFault::BadParty),
             Err(CommandFault::Busy) => Err(WorldFault::Busy),

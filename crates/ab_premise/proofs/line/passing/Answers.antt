@@ -5,7 +5,6 @@ use Rattle.std.proofs.lemmas.Iterator.Adapters.{option_map_id}
 use Rattle.ab_msg.specs.Carried.{is_replica}
 use Rattle.ab_premise.proofs.line.passing.Goals as goal
 
-
 pub returns : goal.returns
 returns c =
     sym (option_map_id c.nth.result)
