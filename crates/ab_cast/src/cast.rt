@@ -1,6 +1,6 @@
 //! The cores of all parties.
 
-ghost use Rattle.std.specs.Prelude.{◌≡◌, ◌+◌, ◌*◌, ◌<◌, ◌≤◌, ℕ, IsTrue, IfOk, IfErr, OnOk, OnErr, Option, Some, None, length, slice_get};
+ghost use Rattle.std.specs.Prelude.{option_and_then, ◌≡◌, ◌+◌, ◌*◌, ◌<◌, ◌≤◌, ℕ, IsTrue, IfOk, IfErr, OnOk, OnErr, Option, Some, None, length, slice_get};
 ghost use Rattle.std.specs.Option.{option_map};
 ghost use Rattle.ab_num.specs.declared.party.Party.{Party as TheParty};
 ghost use Rattle.ab_num.specs.Places.{kind_of};
@@ -104,6 +104,15 @@ impl<S: Service, P: Protocol<S>> Cast<S, P> {
     {
         let replica = self.replicas.get(r as usize)?;
         Some(replica.log())
+    }
+
+    /// The history that replica `r` accepted in slot 0 in its present view. None where there is no
+    /// such replica, too.
+    pub fn first_of(&self, r: u8) -> Option<&History>
+        ensures { option_map (λ h. h.now) result ≡ option_and_then (λ s. (P.proto.state s.value).first) (slice_get self.now.replicas r) }
+    {
+        let replica = self.replicas.get(r as usize)?;
+        replica.first()
     }
 
     /// The instance in which replica `r` is. None exactly where there is no such replica.

@@ -1,6 +1,7 @@
 //! One replica.
 
 ghost use Rattle.std.specs.Prelude.{◌≡◌, ℕ, ◌<◌, ◌+◌, ◌*◌, All, IsTrue, IfOk, OnOk, OnErr};
+ghost use Rattle.std.specs.Option.{option_map};
 ghost use Rattle.ab_num.specs.declared.cluster.Cluster.{Cluster as TheCluster};
 ghost use Rattle.ab_num.specs.declared.party.Party.TheVariants.{Replica as ReplicaParty};
 ghost use Rattle.ab_num.specs.Places.{kind_of};
@@ -84,6 +85,13 @@ impl<S: Service, P: Protocol<S>> Replica<S, P> {
         ensures { result.now ≡ (P.proto.state self.now.value).log }
     {
         self.value.log()
+    }
+
+    /// The history that it accepted in slot 0 in its present view, where its kind has slots.
+    pub(crate) fn first(&self) -> Option<&History>
+        ensures { option_map (λ h. h.now) result ≡ (P.proto.state self.now.value).first }
+    {
+        self.value.first()
     }
 
     /// Takes a message. One that wants a signature, as a request to a stopped replica that has not

@@ -5,3 +5,5 @@ pub mod LinkLemmas
 pub mod CollisionLemmas
 pub mod OriginLemmas
 pub mod FoundLemmas
+pub mod ApartLemmas
+pub mod DigestedLemmas

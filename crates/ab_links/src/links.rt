@@ -13,7 +13,7 @@ use std::marker::Model;
 /// The links of histories, one for each digest, so that two beginnings of histories with one digest
 /// are found without comparing histories.
 #[derive(Drop)]
-pub struct Links {
+pub(crate) struct Links {
     origins: IndexMap<[u8; 32], Origin>,
 }
 
@@ -30,7 +30,7 @@ impl Model for Links {
 
 impl Links {
     /// No links.
-    pub fn new(alloc: Global) -> Links
+    pub(crate) fn new(alloc: Global) -> Links
         ensures { result ≡ [] }
     {
         Links {
@@ -40,14 +40,13 @@ impl Links {
 
     /// Keeps the links of the entries behind the first `from`, and answers whether one of them shows
     /// two beginnings of histories with one digest.
-    pub fn add(&mut self, history: &History, from: usize) -> Result<bool, OutOfMemory>
-        requires { from ≤ length history.now }
+    pub(crate) fn add(&mut self, history: &History, from: usize) -> Result<bool, OutOfMemory>
         ensures answer { IfOk result (λ found. found ≡ any_collides self.old (drop from (links_of history.now))) }
         ensures ok { OnOk result (self.new ≡ keep_links self.old (drop from (links_of history.now))) }
         ensures err { OnErr result (self.new ≡ self.old) }
-        ensures nothing { from ≡ length history.now → IsOk result }
     {
-        self.origins.reserve(history.len() - from)?;
-        Ok(keep_all(&mut self.origins, history, from))
+        let known = from.min(history.len());
+        self.origins.reserve(history.len() - known)?;
+        Ok(keep_all(&mut self.origins, history, known))
     }
 }

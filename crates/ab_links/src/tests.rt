@@ -4,6 +4,7 @@
 ghost use Rattle.std.specs.Prelude.{◌≡◌, length, IfOk};
 
 use super::*;
+use crate::links::Links;
 use crate::origins::keep;
 use ab_hist::{History, Request};
 use arrayvec::ArrayVec;
@@ -83,5 +84,20 @@ fn digests_made_up_collide(rt: HostRuntime) -> Result<(), Fail> {
     assert_eq!(rt; keep(&mut origins, [1; 32], [0; 32], &get), true);
     assert_eq!(rt; keep(&mut origins, [0; 32], [1; 32], &get), true);
     assert_eq!(rt; origins.len(), 2);
+    Ok(())
+}
+
+#[test]
+fn requests_and_bases_do_not_collide(rt: HostRuntime) -> Result<(), Fail> {
+    let alloc = rt.alloc();
+    let mut whole = history(alloc, b"put a 2")?;
+    let mut digests = Digests::new(alloc);
+    assert_eq!(rt; digests.add_request(&request(0, 1, b"put a 1")), Ok(false));
+    assert_eq!(rt; digests.add_request(&request(0, 1, b"get a")), Ok(false));
+    assert_eq!(rt; digests.add_request(&request(0, 1, b"put a 1")), Ok(false));
+    assert_eq!(rt; digests.add_history(&whole, 0), Ok(false));
+    whole.push(alloc, request(2, 7, b"del a"))?;
+    assert_eq!(rt; digests.add_history(&whole, 3), Ok(false));
+    assert_eq!(rt; digests.add_history(&whole, 4), Ok(false));
     Ok(())
 }

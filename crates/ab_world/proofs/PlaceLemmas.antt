@@ -1,5 +1,5 @@
 -- What is given to a core where an event happens, and that the core's place is one of the cluster.
-use Rattle.std.proofs.Common.{◌≡◌, ℕ, ◌+◌, ◌*◌, ◌<◌, Bool, true, false, Option, Some, None, List, [], ◌∷◌, length, refl, subst}
+use Rattle.std.proofs.Common.{◌≡◌, ℕ, ◌+◌, ◌*◌, ◌<◌, ◌≤◌, Bool, true, false, Option, Some, None, List, [], ◌∷◌, length, refl, subst}
 use Rattle.std.specs.Prelude.{◌==◌, ◌&&◌, nat_lt, nat_le, Result, Ok, Err, position, slice_get, if◌then◌else◌}
 use Rattle.std.specs.Option.{option_map}
 use Rattle.std.proofs.lemmas.Bool.{ltb-true, leb-true}
@@ -13,7 +13,6 @@ use Rattle.ab_text.specs.declared.event.Event.{Event}
 use Rattle.ab_text.specs.declared.event.Event.TheVariants.{Invoke, Deliver, Timeout, Inject}
 use Rattle.ab_keys.specs.Keys.{is_party}
 use Rattle.ab_run.specs.Replicas.{Rep}
-use Rattle.ab_run.specs.Inputs.{IsCommand, FormedInput}
 use Rattle.ab_post.specs.Packets.{Packet, nth}
 use Rattle.ab_cast.specs.declared.fault.CommandFault.{CommandFault}
 use Rattle.ab_cast.specs.declared.fault.CommandFault.TheVariants as command_fault
@@ -25,19 +24,19 @@ use Rattle.ab_cast.specs.Casts.{core_at, command_refusal}
 use Rattle.ab_world.specs.declared.fault.WorldFault.{WorldFault}
 use Rattle.ab_world.specs.declared.fault.WorldFault.TheVariants.{EventLimit, NotBuilt}
 use Rattle.ab_world.specs.Worlds.{World}
-use Rattle.ab_world.specs.Steps.{Given, ask, hand, Happening, refuse_command, asked_at, asked, handed, addressed, delivered, happening, ready_in, ready, input_at}
+use Rattle.ab_world.specs.Steps.{Given, ask, hand, Happening, refuse_command, asked_at, asked, handed, addressed, delivered, happening, ready_in, ready}
 
 -- a place of the cluster. Further cores are those of faulty parties
 abbrev pub IsAt : Setup → Place → Type 0
-IsAt x (place.Replica r) = r < 3 * x.f + 1
-IsAt x (place.Client c) = c < x.clients
+IsAt x (place.Replica r) = r < 3 * x.cluster.f + 1
+IsAt x (place.Client c) = c < x.cluster.clients
 IsAt x (place.ReplicaTwin r i) = (is_bad x (Replica r) ≡ true) × (i < length (replica_twins x.faulty))
 IsAt x (place.ClientTwin c i) = (is_bad x (Client c) ≡ true) × (i < length (client_twins x.faulty))
 
 -- what the core at a place takes: an own replica is given no command, and a client's has 1 to 128 bytes
 abbrev pub Takes : Place → Given → Type 0
 Takes (place.Replica r) (ask bytes) = ⊥
-Takes (place.Client c) (ask bytes) = IsCommand bytes
+Takes (place.Client c) (ask bytes) = (1 ≤ length bytes.items) × (length bytes.items ≤ 128)
 Takes (place.ReplicaTwin r i) (ask bytes) = Unit {0}
 Takes (place.ClientTwin c i) (ask bytes) = Unit {0}
 Takes at (hand bytes) = Unit {0}
@@ -47,25 +46,15 @@ pub record Happens {P : Type 0} (w : World P) (h : Happening) : Type 0 where
   pub there : IsAt w.cast.setup h.place
   pub takes : Takes h.place h.given
 
-pub takes_formed : (at : Place) (g : Given) → Takes at g → FormedInput (input_at at g)
-takes_formed (place.Replica r) (ask bytes) is = tt
-takes_formed (place.Client c) (ask bytes) is = is
-takes_formed (place.ReplicaTwin r i) (ask bytes) is = tt
-takes_formed (place.ClientTwin c i) (ask bytes) is = tt
-takes_formed (place.Replica r) (hand bytes) is = tt
-takes_formed (place.Client c) (hand bytes) is = tt
-takes_formed (place.ReplicaTwin r i) (hand bytes) is = tt
-takes_formed (place.ClientTwin c i) (hand bytes) is = tt
-
 -- ---- places
 
 position_within : {A : Type 0} (p : A → Bool) (xs : List A) (i : ℕ) → position p xs ≡ Some i → i < length xs
 position_within p [] i e = absurd (cc)
 position_within p (x ∷ xs) i e = (position-Some p (x ∷ xs) i x e).0
 
-own_there : (x : Setup) (p : Party) → is_party x.f x.clients p ≡ true → IsAt x (own_place p)
-own_there x (Replica r) is = ltb-true r (3 * x.f + 1) is
-own_there x (Client c) is = ltb-true c x.clients is
+own_there : (x : Setup) (p : Party) → is_party x.cluster.f x.cluster.clients p ≡ true → IsAt x (own_place p)
+own_there x (Replica r) is = ltb-true r (3 * x.cluster.f + 1) is
+own_there x (Client c) is = ltb-true c x.cluster.clients is
 
 replica_mapped : (x : Setup) (r : ℕ) (o : Option ℕ) (at : Place) → is_bad x (Replica r) ≡ true → ((i : ℕ) → o ≡ Some i → i < length (replica_twins x.faulty)) → option_map (place.ReplicaTwin r) o ≡ Some at → IsAt x at
 replica_mapped x r None at bad within e = absurd (cc)
@@ -83,18 +72,18 @@ pub test_there : {A : Type 0} (b : Bool) (o : Option A) (x : A) → (if b then o
 test_there true o x e = (refl, e)
 test_there false o x e = absurd (cc)
 
-either_there : (x : Setup) (p : Party) (twin : ℕ) (first : Bool) (at : Place) → is_party x.f x.clients p ≡ true → is_bad x p ≡ true → (if first then Some (own_place p) else twin_place x.faulty p twin) ≡ Some at → IsAt x at
+either_there : (x : Setup) (p : Party) (twin : ℕ) (first : Bool) (at : Place) → is_party x.cluster.f x.cluster.clients p ≡ true → is_bad x p ≡ true → (if first then Some (own_place p) else twin_place x.faulty p twin) ≡ Some at → IsAt x at
 either_there x p twin true at is bad e = let e' : own_place p ≡ at = cc in subst (IsAt x) e' (own_there x p is)
 either_there x p twin false at is bad e = twin_there x p twin at bad e
 
-numbered_there : (x : Setup) (p : Party) (twin : Option ℕ) (at : Place) → is_party x.f x.clients p ≡ true → numbered_place x p twin ≡ Some at → IsAt x at
+numbered_there : (x : Setup) (p : Party) (twin : Option ℕ) (at : Place) → is_party x.cluster.f x.cluster.clients p ≡ true → numbered_place x p twin ≡ Some at → IsAt x at
 numbered_there x p None at is e = let e' : own_place p ≡ at = cc in subst (IsAt x) e' (own_there x p is)
 numbered_there x p (Some twin) at is e =
     let bad = test_there (is_bad x p) _ at e in
     either_there x p twin (twin == 1) at is bad.0 bad.1
 
 pub place_there : (x : Setup) (p : Party) (twin : Option ℕ) (at : Place) → place_of x p twin ≡ Some at → IsAt x at
-place_there x p twin at e = let is = test_there (is_party x.f x.clients p) (numbered_place x p twin) at e in numbered_there x p twin at is.0 is.1
+place_there x p twin at e = let is = test_there (is_party x.cluster.f x.cluster.clients p) (numbered_place x p twin) at e in numbered_there x p twin at is.0 is.1
 
 addressed_there : (x : Setup) (to : Party) (core : Option CoreName) (at : Place) → addressed x to core ≡ Some at → IsAt x at
 addressed_there x to None at e = place_there x to None at e
@@ -138,13 +127,13 @@ module _ {P : Type 0} where
       let was : Happens w (record { place = at; given = ask bytes }) = record { few = few; there = there; takes = takes } in
       subst (Happens w) (not_refused (command_refusal s) at bytes h e).1 was
 
-  asks_at : (w : World P) (bytes : ArrayVec ℕ) (at : Place) (h : Happening) → w.cast.events < 100000 → IsCommand bytes → IsAt w.cast.setup at → asked_at at bytes (core_at w.cast at) ≡ Ok h → Happens w h
+  asks_at : (w : World P) (bytes : ArrayVec ℕ) (at : Place) (h : Happening) → w.cast.events < 100000 → (1 ≤ length bytes.items) × (length bytes.items ≤ 128) → IsAt w.cast.setup at → asked_at at bytes (core_at w.cast at) ≡ Ok h → Happens w h
   asks_at w bytes (place.Replica r) h few is there e = absurd (no_replica (slice_get w.cast.replicas r) (place.Replica r) bytes h e)
   asks_at w bytes (place.Client c) h few is there e = asks_place w bytes (place.Client c) (core_at w.cast (place.Client c)) h few there is e
   asks_at w bytes (place.ReplicaTwin r i) h few is there e = asks_place w bytes (place.ReplicaTwin r i) (core_at w.cast (place.ReplicaTwin r i)) h few there tt e
   asks_at w bytes (place.ClientTwin c i) h few is there e = asks_place w bytes (place.ClientTwin c i) (core_at w.cast (place.ClientTwin c i)) h few there tt e
 
-  asks : (w : World P) (bytes : ArrayVec ℕ) (o : Option Place) (h : Happening) → w.cast.events < 100000 → IsCommand bytes → ((at : Place) → o ≡ Some at → IsAt w.cast.setup at) → asked w bytes o ≡ Ok h → Happens w h
+  asks : (w : World P) (bytes : ArrayVec ℕ) (o : Option Place) (h : Happening) → w.cast.events < 100000 → (1 ≤ length bytes.items) × (length bytes.items ≤ 128) → ((at : Place) → o ≡ Some at → IsAt w.cast.setup at) → asked w bytes o ≡ Ok h → Happens w h
   asks w bytes None h few is there e = absurd (cc)
   asks w bytes (Some at) h few is there e = asks_at w bytes at h few is (there at refl) e
 

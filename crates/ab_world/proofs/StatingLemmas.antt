@@ -1,39 +1,40 @@
 -- What a correct party states in its drafts.
-use Rattle.std.proofs.Common.{◌≡◌, ℕ, false, List, [], ◌∷◌, ◌++◌, All, map, refl, sym, ap, ◌∙◌}
-use Rattle.std.specs.Prelude.{if◌then◌else◌, flat_map}
-use Rattle.std.specs.List.{AllByRecursion, filter, fold}
-use Rattle.std.proofs.lemmas.List.Elements.{recursion_from_All}
+use Rattle.std.proofs.Common.{◌≡◌, ℕ, true, false, Bool, List, [], ◌∷◌, ◌++◌, All, map, take, refl, sym, ap, ◌∙◌, subst}
+use Rattle.std.proofs.lemmas.List.{map-append}
+use Rattle.std.proofs.lemmas.List.Sums.{fold_push}
+use Rattle.std.specs.Prelude.{Contains, if◌then◌else◌, flat_map}
+use Rattle.std.specs.List.{filter, fold}
+use Rattle.std.proofs.lemmas.Grind.{flat_map-append}
 use Rattle.ab_num.specs.declared.party.Party.{Party}
 use Rattle.ab_num.specs.Parties.{party_eq}
-use Rattle.ab_msg.specs.declared.message.Msg.{Msg}
-use Rattle.ab_msg.specs.declared.message.Msg.TheVariants as msg
+use Rattle.ab_msg.specs.declared.content.Content.{Content}
 use Rattle.ab_msg.specs.declared.message.Out.{Out}
-use Rattle.ab_msg.specs.Claims.{claims_of, content_of, maker_of}
+use Rattle.ab_msg.specs.Claims.{fresh, maker_of}
 use Rattle.ab_msg.specs.Grammar.{spell_content}
 use Rattle.ab_abs.proofs.Facts.{party_eq-Decides}
 use Rattle.ab_abs.specs.Faults.{is_faulty}
-use Rattle.ab_run.specs.Clusters.{Cluster}
+use Rattle.ab_run.specs.Setups.{Setup}
 use Rattle.ab_run.specs.Stages.{keep, stated_by, made_after}
+use Rattle.ab_client.specs.Drafts.{IsDraftOf}
+use Rattle.ab_links.proofs.ListLemmas.{Contains-head}
 
--- a message claims its content
-claims_one : (m : Msg) → claims_of m ≡ content_of m ∷ []
-claims_one (msg.Req content tags) = refl
-claims_one (msg.Resp content tag) = refl
+-- what a party states of a draft that has one content of its own
+pub states_one : (k : Setup) (p : Party) (o : Out) (s : Content) → IsDraftOf k.cluster.f p o → fresh k.cluster.f p o.msg ≡ s ∷ [] → stated_by k p (o ∷ []) ≡ s ∷ []
+states_one k p o s draft is =
+    let own : maker_of s ≡ p = draft.own s (ap_contains (sym is)) in
+    ap (λ xs. filter (λ c. party_eq (maker_of c) p) xs ++ []) is
+    ∙ ap (λ (b : Bool). (if b then s ∷ [] else []) ++ []) ((party_eq-Decides (maker_of s) p).1 own)
+  where
+    ap_contains : {l : List Content} → s ∷ [] ≡ l → Contains l s
+    ap_contains {l} e = subst (λ xs. Contains xs s) e (Contains-head s [])
 
--- a party states each content that it sends
-stated_texts : (p : Party) (outs : List Out) → AllByRecursion (λ o. maker_of (content_of o.msg) ≡ p) outs
-    → map spell_content (stated_by p outs) ≡ map (λ o. spell_content (content_of o.msg)) outs
-stated_texts p [] own = refl
-stated_texts p (o ∷ outs) own =
-    let x = content_of o.msg in
-    let rest = stated_by p outs in
-    let first : stated_by p (o ∷ outs) ≡ x ∷ rest =
-    ap (λ xs. filter (λ s. party_eq (maker_of s) p) (xs ++ flat_map (λ q. claims_of q.msg) outs)) (claims_one o.msg)
-    ∙ ap (λ b. if b then x ∷ rest else rest) ((party_eq-Decides (maker_of x) p).1 own.0) in
-    ap (map spell_content) first ∙ ap (λ texts. spell_content x ∷ texts) (stated_texts p outs own.1)
+pub states_more : (k : Setup) (p : Party) (made : List (List ℕ)) (outs : List Out) (o : Out) (s : Content) → stated_by k p (o ∷ []) ≡ s ∷ []
+    → fold keep made (map spell_content (stated_by k p (outs ++ o ∷ []))) ≡ keep (fold keep made (map spell_content (stated_by k p outs))) (spell_content s)
+states_more k p made outs o s one =
+    ap (λ l. fold keep made (map spell_content l)) (flat_map-append (λ q. filter (λ c. party_eq (maker_of c) p) (fresh k.cluster.f p q.msg)) outs (o ∷ []) ∙ ap (λ l. stated_by k p outs ++ l) one)
+    ∙ ap (fold keep made) (map-append spell_content (stated_by k p outs) (s ∷ []))
+    ∙ fold_push keep made (map spell_content (stated_by k p outs)) (spell_content s)
 
-pub made_correct : (k : Cluster) (p : Party) (made : List (List ℕ)) (outs : List Out) → is_faulty k.faulty p ≡ false → All (λ o. maker_of (content_of o.msg) ≡ p) outs
-    → fold keep made (map (λ o. spell_content (content_of o.msg)) outs) ≡ made_after k p made outs
-made_correct k p made outs good own =
-    ap (fold keep made) (sym (stated_texts p outs (recursion_from_All _ outs own)))
-    ∙ sym (ap (λ b. if b then made else fold keep made (map spell_content (stated_by p outs))) good)
+pub of_correct : (k : Setup) (p : Party) (made : List (List ℕ)) (outs : List Out) → is_faulty k.faulty p ≡ false
+    → fold keep made (map spell_content (stated_by k p outs)) ≡ made_after k spell_content p made outs
+of_correct k p made outs good = ap (λ (b : Bool). if b then made else fold keep made (map spell_content (stated_by k p outs))) (sym good)

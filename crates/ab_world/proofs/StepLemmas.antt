@@ -1,5 +1,5 @@
 -- One step of a world: what is handed to a core is the event that happens, and what comes of it is what the step says.
-use Rattle.std.proofs.Common.{◌≡◌, ℕ, ◌<◌, ◌≤◌, Option, Some, None, List, Result, Ok, Err, length, arith, inl, inr, refl, sym, ap, ◌∙◌, subst}
+use Rattle.std.proofs.Common.{◌≡◌, ℕ, ◌<◌, ◌≤◌, Option, Some, None, List, [], Result, Ok, Err, length, arith, inl, inr, refl, sym, ap, ◌∙◌, subst}
 use Rattle.std.specs.Prelude.{IsTrue, IfErr, OnOk, if◌then◌else◌, nat_le, ◌&&◌}
 use Rattle.std.proofs.lemmas.Bool.{le-leb, leb-true, cases_Bool}
 use Rattle.arrayvec.specs.ArrayVec.{ArrayVec}
@@ -9,20 +9,21 @@ use Rattle.ab_text.specs.declared.event.Event.TheVariants.{Invoke}
 use Rattle.ab_keys.specs.Keys.{is_party}
 use Rattle.ab_abs.specs.Ensembles.{Proto}
 use Rattle.ab_post.specs.Packets.{Packet, nth, total, most_bytes}
+use Rattle.ab_cast.specs.declared.effects.Effects.{Effects}
 use Rattle.ab_cast.specs.declared.place.Place.{Place}
 use Rattle.ab_cast.specs.Setups.{Setup, party_at, place_of, numbered_place}
 use Rattle.ab_run.specs.Replicas.{Rep}
 use Rattle.ab_client.specs.Clients.{Seat}
 use Rattle.ab_cast.specs.declared.place.Place.TheVariants as place
-use Rattle.ab_cast.specs.Cores.{Core, replica, client, command, message, core_after, core_sends, core_marks}
-use Rattle.ab_cast.specs.Casts.{Cast, core_at, command_refusal, with_core, with_replica, with_client, next}
+use Rattle.ab_cast.specs.Cores.{Core, replica, client, command, message, core_after}
+use Rattle.ab_cast.specs.Casts.{Cast, IsTaken, core_at, command_refusal, with_core, with_replica, with_client, next}
 use Rattle.ab_cast.proofs.PlaceLemmas.{owner_of_place}
 use Rattle.ab_world.specs.declared.fault.WorldFault.{WorldFault}
 use Rattle.ab_world.specs.declared.fault.WorldFault.TheVariants.{EventLimit, PacketLimit, NotBuilt, NoPacket, BadParty, Busy, OutOfMemory}
 use Rattle.ab_world.specs.declared.handing.Handed.{Handed}
 use Rattle.ab_world.specs.declared.handing.Handed.TheVariants.{Missed, Heard}
 use Rattle.ab_world.specs.Worlds.{World}
-use Rattle.ab_world.specs.Steps.{Happening, ask, hand, addressed, handed, delivered, asked, asked_at, refuse_command, messages, own_log, settled, missed, moved_at, after_taking, after, stepped_by, happening, CauseIn, SettleCause, HasEnded, Leaves}
+use Rattle.ab_world.specs.Steps.{Happening, ask, hand, addressed, handed, delivered, asked, asked_at, refuse_command, messages, standing, settled, missed, moved_at, after_taking, after, stepped_by, happening, CauseIn, SettleCause, HasEnded, Leaves}
 use Rattle.ab_world.specs.Handing.{IsHanded, finished}
 use Rattle.ab_world.proofs.PlaceLemmas.{test_there}
 
@@ -36,29 +37,28 @@ addressed_is x to None at e = place_is x to None at e
 addressed_is x to (Some core) at e = place_is x core.party core.twin at (test_there _ _ at e).1
 
 -- the party of a place is one of the cluster
-pub place_party : (x : Setup) (at : Place) → (t : Option ℕ) × (place_of x (party_at at) t ≡ Some at) → IsTrue (is_party x.f x.clients (party_at at))
-place_party x at there = (test_there (is_party x.f x.clients (party_at at)) (numbered_place x (party_at at) there.0) at there.1).0
+pub place_party : (x : Setup) (at : Place) → (t : Option ℕ) × (place_of x (party_at at) t ≡ Some at) → IsTrue (is_party x.cluster.f x.cluster.clients (party_at at))
+place_party x at there = (test_there (is_party x.cluster.f x.cluster.clients (party_at at)) (numbered_place x (party_at at) there.0) at there.1).0
 
 -- ---- what comes of an event
 
 module _ {P : Type 0} (proto : Proto P) (w : World P) where
   -- bytes that were handed to a core
   pub handed_is : (at : Place) (bytes : List ℕ) (new : Cast P) (h : Handed) → IsHanded proto w.made bytes at w.cast new h
-      → finished proto (record w { cast = new }) (party_at at) (length (own_log proto w.cast (party_at at))) h ≡ after proto w (record { place = at; given = hand bytes })
+      → finished proto (record w { cast = new }) (party_at at) (standing proto w.cast (party_at at)) h ≡ after proto w (record { place = at; given = hand bytes })
   handed_is at bytes new (Missed cause) is =
       (λ j. missed (record w { cast = is.next j }) (party_at at) (is.is j)) ∙ ap (λ r. after_taking proto w at (messages r)) (sym is.opens)
-  handed_is at bytes new (Heard found effects) is =
-      (λ j. settled proto (record w { cast = is.moves j }) (party_at at) (length (own_log proto w.cast (party_at at))) (is.forged j) (is.sends j) (is.shows j))
+  handed_is at bytes new (Heard found asked effects) is =
+      (λ j. settled proto (record w { cast = is.taken.after j }) (party_at at) (standing proto w.cast (party_at at)) (is.forged j) (is.requests j) (is.taken.sends j) (is.taken.shows j) (is.taken.spends j))
       ∙ (ap (λ o. moved_at proto w at (message is.msg) o) (sym is.there) ∙ ap (λ r. after_taking proto w at (messages r)) (sym is.opens))
 
   -- a command that a core took
-  pub asked_is : (at : Place) (bytes : ArrayVec ℕ) (s : Core P) (new : Cast P) (h : Handed) (effects : _) → h ≡ Heard None effects → core_at w.cast at ≡ Some s
-      → new ≡ next (with_core w.cast at (core_after proto (party_at at) s (command bytes)))
-      → effects.outs ≡ core_sends proto (party_at at) s (command bytes) → effects.marks.items ≡ core_marks proto (party_at at) s (command bytes)
-      → finished proto (record w { cast = new }) (party_at at) (length (own_log proto w.cast (party_at at))) h ≡ after proto w (record { place = at; given = ask bytes })
-  asked_is at bytes s new h effects is there moves sends shows =
-      ap (λ x. finished proto (record w { cast = new }) (party_at at) (length (own_log proto w.cast (party_at at))) x) is
-      ∙ ((λ j. settled proto (record w { cast = moves j }) (party_at at) (length (own_log proto w.cast (party_at at))) None (sends j) (shows j)) ∙ ap (λ o. moved_at proto w at (command bytes) o) (sym there))
+  pub asked_is : (at : Place) (bytes : ArrayVec ℕ) (s : Core P) (new : Cast P) (effects : Effects) → core_at w.cast at ≡ Some s
+      → IsTaken proto w.cast at s (command bytes) new effects.outs effects.marks.items effects.spent
+      → finished proto (record w { cast = new }) (party_at at) (standing proto w.cast (party_at at)) (Heard None None effects) ≡ after proto w (record { place = at; given = ask bytes })
+  asked_is at bytes s new effects there taken =
+      (λ j. settled proto (record w { cast = taken.after j }) (party_at at) (standing proto w.cast (party_at at)) None [] (taken.sends j) (taken.shows j) (taken.spends j))
+      ∙ ap (λ o. moved_at proto w at (command bytes) o) (sym there)
 
   pub within_is : (v : World P) (h : Happening) → v ≡ after proto w h → total v.packets ≤ most_bytes → stepped_by proto w (Ok h) ≡ Ok v
   within_is v h is few =
@@ -138,7 +138,7 @@ module _ {P : Type 0} where
 
   pub handed_setup : (proto : Proto P) (made : List (List ℕ)) (bytes : List ℕ) (at : Place) (old new : Cast P) (h : Handed) → IsHanded proto made bytes at old new h → new.setup ≡ old.setup
   handed_setup proto made bytes at old new (Missed cause) is = ap (λ x. x.setup) is.next
-  handed_setup proto made bytes at old new (Heard found effects) is = ap (λ x. x.setup) is.moves ∙ core_setup old at (core_after proto (party_at at) is.core (message is.msg))
+  handed_setup proto made bytes at old new (Heard found asked effects) is = ap (λ x. x.setup) is.taken.after ∙ core_setup old at (core_after old.setup proto (party_at at) is.core (message is.msg))
 
   -- where the world has ended, that is all that a refusal leaves
   pub ended_leaves : (f : WorldFault) (w v x : World P) (new : Cast P) → new.setup ≡ w.cast.setup → SettleCause f x → HasEnded f (record w { cast = new }) v → Leaves f w v

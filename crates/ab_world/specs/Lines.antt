@@ -1,5 +1,7 @@
 -- The lines of a report.
-use Rattle.std.specs.Prelude.{ℕ, List, map}
+use Rattle.std.specs.Prelude.{ℕ, Bool, true, false, List, [], ◌∷◌, map, if◌then◌else◌}
+use Rattle.ab_num.specs.declared.party.Party.{Party}
+use Rattle.ab_num.specs.declared.party.Party.TheVariants.{Replica, Client}
 use Rattle.ab_hist.specs.declared.request.Request.{Request}
 use Rattle.ab_hist.specs.Requests.{key_of}
 use Rattle.ab_text.specs.declared.line.Cause.{Cause}
@@ -28,6 +30,24 @@ abbrev pub cause_of : OpenFault → Cause
 cause_of (fault.Bad bad) = cause.Bad
 cause_of fault.NotMine = cause.Kind
 cause_of (fault.BadTag place) = cause.Tag
+
+-- what is written of an event of party p that was spent, if it was
+abbrev pub spent_lines : ℕ → Party → Bool → List Line
+spent_lines e (Replica r) spent = if spent then line.Spent e r ∷ [] else []
+spent_lines e (Client c) spent = []
+
+-- a line of an observation, or of an event that was spent
+abbrev pub is_observed : Line → Bool
+is_observed (line.Refused e p cause) = false
+is_observed (line.Spent e r) = false
+is_observed _ = true
+
+abbrev pub is_spent_line : Line → Bool
+is_spent_line (line.Spent e r) = true
+is_spent_line _ = false
+
+abbrev pub line_of_noted : Noted → Line
+line_of_noted n = line_of n.event n.what
 
 -- an observation of an event
 abbrev pub note : ℕ → Seen → Noted

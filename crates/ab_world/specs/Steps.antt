@@ -1,11 +1,11 @@
 -- What an event does to a world.
-use Rattle.std.specs.Prelude.{◌≡◌, ℕ, ◌<◌, nat_lt, nat_le, ◌&&◌, if◌then◌else◌, Bool, Option, None, Some, List, [], ◌∷◌, ◌++◌, drop, length, map, slice_get, Result, Ok, Err}
+use Rattle.std.specs.Prelude.{◌≡◌, ℕ, ◌<◌, ◌==◌, nat_lt, nat_le, ◌&&◌, if◌then◌else◌, Bool, Option, None, Some, List, [], ◌∷◌, ◌++◌, flat_map, length, map, slice_get, Result, Ok, Err}
 use Rattle.arrayvec.specs.ArrayVec.{ArrayVec}
 use Rattle.ab_num.specs.declared.party.Party.{Party}
 use Rattle.ab_num.specs.declared.party.Party.TheVariants.{Replica, Client}
 use Rattle.ab_num.specs.Parties.{party_eq}
 use Rattle.ab_hist.specs.declared.request.Request.{Request}
-use Rattle.ab_links.specs.Links.{Link, links_of, keep_links, any_collides}
+use Rattle.ab_links.specs.Digested.{Item, history, request}
 use Rattle.ab_text.specs.declared.line.Cause.{Cause as TextCause}
 use Rattle.ab_text.specs.declared.event.Core.{Core as CoreName}
 use Rattle.ab_text.specs.declared.event.Event.{Event}
@@ -14,25 +14,28 @@ use Rattle.ab_text.specs.declared.line.Line.{Line}
 use Rattle.ab_text.specs.declared.line.Line.TheVariants.{Refused}
 use Rattle.ab_msg.specs.declared.message.Msg.{Msg}
 use Rattle.ab_msg.specs.declared.message.Out.{Out}
+use Rattle.ab_msg.specs.Claims.{claims}
+use Rattle.ab_msg.specs.Carried.{stated_request, value_requests, values_in}
+use Rattle.ab_msg.specs.Grammar.{spell_content}
 use Rattle.ab_seal.specs.declared.fault.OpenFault.{OpenFault}
 use Rattle.ab_seal.specs.Sealing.{sealed}
 use Rattle.ab_abs.specs.declared.seen.Seen.{Seen}
 use Rattle.ab_abs.specs.Ensembles.{Proto}
-use Rattle.ab_run.specs.States.{noted, log_at}
-use Rattle.ab_run.specs.Stages.{Forgery, made_after, forged_in, forgery, first_of}
+use Rattle.ab_run.specs.Replicas.{Rep}
+use Rattle.ab_run.specs.Stages.{Forgery, noted, made_after, forged_in, forgery, first_of}
 use Rattle.ab_run.specs.Inputs.{Input, told, came, elsewhere}
 use Rattle.ab_post.specs.Packets.{Packet, nth, total, most_bytes}
 use Rattle.ab_cast.specs.declared.fault.CommandFault.{CommandFault}
 use Rattle.ab_cast.specs.declared.fault.CommandFault.TheVariants as command_fault
 use Rattle.ab_cast.specs.declared.place.Place.{Place}
 use Rattle.ab_cast.specs.declared.place.Place.TheVariants as place
-use Rattle.ab_cast.specs.Setups.{Setup, cluster_of, is_bad, party_at, place_of, ring_at}
-use Rattle.ab_cast.specs.Cores.{Core, Taken, rules, command, message, claims_in, core_after, core_sends, core_marks}
+use Rattle.ab_cast.specs.Setups.{Setup, run_setup, is_bad, party_at, place_of, ring_at}
+use Rattle.ab_cast.specs.Cores.{Core, Taken, command, message, taken_claims, core_after, core_sends, core_marks, core_spends}
 use Rattle.ab_cast.specs.Casts.{Cast, core_at, with_core, next, command_refusal}
-use Rattle.ab_world.specs.declared.collision.Collision.{Collision}
+use Rattle.ab_premise.specs.Collisions.{looked, first_items}
 use Rattle.ab_world.specs.declared.fault.WorldFault.{WorldFault}
 use Rattle.ab_world.specs.declared.fault.WorldFault.TheVariants.{EventLimit, PacketLimit, NotBuilt, NoPacket, BadParty, Busy, OutOfMemory}
-use Rattle.ab_world.specs.Lines.{line_of, cause_of}
+use Rattle.ab_world.specs.Lines.{line_of, spent_lines, cause_of}
 use Rattle.ab_world.specs.Worlds.{World, opening_at}
 
 -- ---- which core takes what
@@ -117,34 +120,48 @@ written x p lines more = if is_bad x p then lines else lines ++ more
 abbrev pub forged_now : Setup → Party → ℕ → Option Forgery → Option Party → Option Forgery
 forged_now x p e before found = if is_bad x p then before else first_of before (forgery e found)
 
--- the log of a party's own core, where the party is a replica
-abbrev pub own_log : {P : Type 0} → Proto P → Cast P → Party → List Request
-own_log proto x (Replica r) = log_at (rules proto) (slice_get x.replicas r)
-own_log proto x (Client c) = []
+-- the instance of a party's own core and the length of its log, where the party is a replica
+abbrev pub standing_of : {P : Type 0} → Proto P → Option (Rep P) → ℕ × ℕ
+standing_of proto None = (0, 0)
+standing_of proto (Some s) = (s.at, length (proto.state s.value).log)
 
--- the links of its entries behind the first n
-abbrev pub new_links : {P : Type 0} → Proto P → Cast P → Party → ℕ → List Link
-new_links proto x p n = drop n (links_of (own_log proto x p))
+abbrev pub standing : {P : Type 0} → Proto P → Cast P → Party → ℕ × ℕ
+standing proto x (Replica r) = standing_of proto (slice_get x.replicas r)
+standing proto x (Client c) = (0, 0)
 
-abbrev pub first_collision : Option Collision → ℕ → Party → Bool → Option Collision
-first_collision (Some k) e p found = Some k
-first_collision None e p found = if found then Some (record { event = e; party = p }) else None
+-- what is looked at of a replica that stood there before: its log, of which the entries behind those of before are new in the same
+-- instance, and the history that it accepted first
+abbrev pub replica_items : {P : Type 0} → Proto P → ℕ × ℕ → Option (Rep P) → List Item
+replica_items proto before None = []
+replica_items proto before (Some s) =
+    history (proto.state s.value).log (if before.0 == s.at then before.1 else 0) ∷ first_items (proto.state s.value).first
 
--- the world where in its present event a core of party p, whose log had n entries, has taken such a claim, sends this and
--- shows this
-abbrev pub settled : {P : Type 0} → Proto P → World P → Party → ℕ → Option Party → List Out → List Seen → World P
-settled proto w p n found outs marks =
+-- the requests that are taken, and then the replica
+abbrev pub own_items : {P : Type 0} → Proto P → Cast P → Party → ℕ × ℕ → List Item
+own_items proto x (Replica r) before = replica_items proto before (slice_get x.replicas r)
+own_items proto x (Client c) before = []
+
+abbrev pub items_now : {P : Type 0} → Proto P → Cast P → Party → ℕ × ℕ → List Request → List Item
+items_now proto x p before asked = map request asked ++ own_items proto x p before
+
+-- the requests that party p checks in what comes
+abbrev pub taken_requests : ℕ → Party → Taken → List Request
+taken_requests f p (command bytes) = []
+taken_requests f p (message m) = flat_map stated_request (claims f p m) ++ flat_map value_requests (values_in m)
+
+-- the world where in its present event a core of party p, whose own core stood there before, has taken such a claim and these requests,
+-- sends this, shows this, and was spent or not
+abbrev pub settled : {P : Type 0} → Proto P → World P → Party → ℕ × ℕ → Option Party → List Request → List Out → List Seen → Bool → World P
+settled proto w p before found asked outs marks spent =
     let x = w.cast.setup in
     let e = w.cast.events in
-    let fresh = new_links proto w.cast p n in
     record w {
       packets = w.packets ++ posted x p outs;
-      made = made_after (cluster_of x) p w.made outs;
-      seen = noted (cluster_of x) p e w.seen marks;
-      lines = written x p w.lines (map (line_of e) marks);
+      made = made_after (run_setup x) spell_content p w.made outs;
+      seen = noted (run_setup x) p e w.seen marks;
+      lines = written x p w.lines (spent_lines e p spent ++ map (line_of e) marks);
       forged = forged_now x p e w.forged found;
-      links = if is_bad x p then w.links else keep_links w.links fresh;
-      collided = if is_bad x p then w.collided else first_collision w.collided e p (any_collides w.links fresh);
+      watch = if is_bad x p then w.watch else looked w.watch e p (items_now proto w.cast p before asked);
     }
 
 -- the world where in its present event bytes came to party p that did not open
@@ -155,8 +172,10 @@ module _ {P : Type 0} (proto : Proto P) where
   -- the core s of party p at a place takes what comes
   abbrev pub moved : World P → Place → Party → Taken → Core P → World P
   moved w at p t s =
-      settled proto (record w { cast = next (with_core w.cast at (core_after proto p s t)) })
-      p (length (own_log proto w.cast p)) (forged_in (cluster_of w.cast.setup) w.made (claims_in t)) (core_sends proto p s t) (core_marks proto p s t)
+      let x = w.cast.setup in
+      settled proto (record w { cast = next (with_core w.cast at (core_after x proto p s t)) }) p
+      (standing proto w.cast p) (forged_in (run_setup x) spell_content w.made (taken_claims x.cluster.f p t)) (taken_requests x.cluster.f p t)
+      (core_sends x proto p s t) (core_marks x proto p s t) (core_spends x proto p s t)
 
   abbrev pub moved_at : World P → Place → Taken → Option (Core P) → World P
   moved_at w at t None = w
@@ -219,7 +238,7 @@ pub record HasEnded {P : Type 0} (f : WorldFault) (old new : World P) : Type 0 w
   pub seen : new.seen ≡ old.seen
   pub lines : new.lines ≡ old.lines
   pub forged : new.forged ≡ old.forged
-  pub collided : new.collided ≡ old.collided
+  pub collided : new.watch.collided ≡ old.watch.collided
 
 -- a refusal leaves the world as it was, or ended
 abbrev pub Leaves : {P : Type 0} → WorldFault → World P → World P → Type 0

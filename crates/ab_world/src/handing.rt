@@ -1,16 +1,15 @@
 //! Bytes that come to a core.
 
 ghost use Rattle.std.specs.Prelude.{◌≡◌, ◌<◌, ℕ, All, IfOk, OnErr, Option, Some};
-ghost use Rattle.ab_msg.specs.Claims.{content_of, maker_of};
-ghost use Rattle.ab_msg.specs.Grammar.{IsDraft};
-ghost use Rattle.ab_abs.specs.Places.{SendsDrafts, SendsOwn};
+ghost use Rattle.ab_client.specs.Drafts.{IsDraftOf};
 ghost use Rattle.ab_cast.specs.Setups.{party_at, place_of};
-ghost use Rattle.ab_cast.specs.Signing.{SignsNothing};
 ghost use Rattle.ab_world.specs.Handing.{IsHanded, EachOut};
 
+use crate::looking::asked;
 use crate::opening::{cause_of, forged_in, open_at};
 use ab_abs::Protocol;
 use ab_cast::{Cast, Effects, Place, places_have_cores};
+use ab_hist::Request;
 use ab_num::{OutOfMemory, Party};
 use ab_post::Statements;
 use ab_svc::Service;
@@ -23,8 +22,8 @@ pub(crate) enum Handed {
     /// They don't open.
     Missed(Cause),
     /// They open, with the maker of the first claim that its maker, a correct party, didn't make
-    /// before, and the core takes the message.
-    Heard(Option<Party>, Effects),
+    /// before, and the request that is checked in them, and the core takes the message.
+    Heard(Option<Party>, Option<Request>, Effects),
 }
 
 /// Hands bytes to the core at a place of the cluster. Each message is opened once, and its parts stay
@@ -36,14 +35,10 @@ pub(crate) fn hand<S: Service, P: Protocol<S>>(
     place: Place,
     bytes: &[u8],
 ) -> Result<Handed, OutOfMemory>
-    requires quiet { SignsNothing P.proto }
-    requires own { SendsOwn P.proto }
-    requires drafts { SendsDrafts P.proto }
     requires few { cast.old.events < 100000 }
     requires there { (twin : Option ℕ) × (place_of cast.old.setup (party_at place) twin ≡ Some place) }
     ensures handed { IfOk result (IsHanded P.proto made.now bytes.now place cast.old cast.new) }
-    ensures drafts { IfOk result (EachOut (λ o. IsDraft o.msg)) }
-    ensures makers { IfOk result (EachOut (λ o. maker_of (content_of o.msg) ≡ party_at place)) }
+    ensures drafts { IfOk result (EachOut (IsDraftOf cast.old.setup.cluster.f (party_at place))) }
     ensures err { OnErr result (cast.new ≡ cast.old) }
 {
     let checked = match open_at(cast.setup(), place.party(), bytes) {
@@ -54,7 +49,8 @@ pub(crate) fn hand<S: Service, P: Protocol<S>>(
         }
     };
     let found = forged_in(cast.setup(), made, &checked);
+    let request = asked(checked.msg());
     places_have_cores(cast);
     let effects = cast.hear(alloc, place, checked.msg())?;
-    Ok(Handed::Heard(found, effects))
+    Ok(Handed::Heard(found, request, effects))
 }

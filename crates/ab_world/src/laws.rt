@@ -1,75 +1,75 @@
 //! What holds of worlds, whatever events come.
 
-ghost use Rattle.std.specs.Prelude.{◌≡◌, ◌≤◌, ◌+◌, ◌*◌, ◌<◌, ◌^◌, ◌↔◌, ℕ, List, None, Ok, count_by, length, reverse};
-ghost use Rattle.ab_num.specs.Bounds.{IsInBounds};
+ghost use Rattle.std.specs.Prelude.{◌≡◌, ◌↔◌, ℕ, List, IsTrue, Ok, map};
+ghost use Rattle.std.specs.List.{filter};
+ghost use Rattle.ab_num.specs.Places.{kind_of};
 ghost use Rattle.ab_text.specs.declared.event.Event.{Event as TheEvent};
+ghost use Rattle.ab_text.specs.declared.line.Premise.{Premise as TheLine};
 ghost use Rattle.ab_text.specs.declared.line.Premise.TheVariants.{Held};
-ghost use Rattle.ab_abs.specs.Acts.{is_replica};
-ghost use Rattle.ab_abs.specs.Instances.{IsAbstract};
-ghost use Rattle.ab_abs.specs.Observations.{history_at};
-ghost use Rattle.ab_abs.specs.Places.{LogsGrow, SendsDrafts};
-ghost use Rattle.ab_run.specs.Premises.{IsHonestRun};
-ghost use Rattle.ab_run.specs.Inputs.{events_in};
-ghost use Rattle.ab_run.specs.Stages.{all_seen, stage_log, stage_over};
-ghost use Rattle.ab_cast.specs.Setups.{Setup as TheSetup, cluster_of};
-ghost use Rattle.ab_cast.specs.Cores.{rules};
-ghost use Rattle.ab_world.specs.Worlds.{World as TheWorld, start, stage_of, opener};
-ghost use Rattle.ab_world.specs.Premises.{passing, premise_of};
-ghost use Rattle.ab_world.specs.Runs.{outcome, inputs_of, HasNoCollision};
+ghost use Rattle.ab_msg.specs.Grammar.{spell_content};
+ghost use Rattle.ab_abs.specs.Instances.{EachIsAbstract};
+ghost use Rattle.ab_abs.specs.Order.{Ordered};
+ghost use Rattle.ab_abs.specs.Promises.{ServesAll};
+ghost use Rattle.ab_run.specs.Stages.{all_seen, named_on, stage_over};
+ghost use Rattle.ab_premise.specs.Collisions.{StaysEntered};
+ghost use Rattle.ab_premise.specs.Premises.{IsPremise};
+ghost use Rattle.ab_cast.specs.Setups.{Setup as TheSetup, run_setup};
+ghost use Rattle.ab_world.specs.Lines.{is_observed, line_of_noted};
+ghost use Rattle.ab_world.specs.Worlds.{World as TheWorld, start, shown_on, opener, premise_of};
+ghost use Rattle.ab_world.specs.Runs.{came_to, inputs_of, outcome};
 
 use ab_abs::Protocol;
-use ab_links::{beginnings_add_nothing, collisions_are_found};
 use ab_run::{bytes_keep_promises, forgeries_are_told};
 use ab_seal::{contents_have_their_own_bytes, opened_messages_are_of_the_grammar};
 use ab_svc::Service;
 
-/// A world is where the run of what came to its parties' own cores is. What comes to further cores of
-/// faulty parties is no event of the run but for what they send.
+/// A world shows the stage of the run of what came to its parties' own cores: where the parties are,
+/// what was made and seen, the first forgery, and how many events there were. What comes to further
+/// cores of faulty parties is no event of the run but for what they send. The lines of its report that
+/// tell of observations are those of the run's observations, in their order.
 pub fn worlds_are_runs<S: Service, P: Protocol<S>>()
-    ensures { (x : TheSetup) (es : List TheEvent) (end : TheWorld P) → IsInBounds x.f x.clients
+    ensures stage { (x : TheSetup) (es : List TheEvent) (end : TheWorld P) → IsTrue (P.serves (kind_of x.cluster.plan 1))
         → outcome P.proto 1 (start P.proto x) es ≡ Ok end
-        → stage_of end ≡ stage_over (cluster_of x) (rules P.proto) (opener x) (inputs_of P.proto (start P.proto x) es) }
-{}
-
-/// At most f replicas are declared faulty exactly where none passes f.
-pub fn few_are_faulty()
-    ensures { (x : TheSetup) → (passing x.f x.faulty ≡ None) ↔ (count_by is_replica (cluster_of x).faulty ≤ x.f) }
-{}
-
-/// No collision was found exactly where no two different beginnings of histories that correct
-/// replicas had have one digest, where logs only grow.
-pub fn collisions_are_told<S: Service, P: Protocol<S>>()
-    ensures { (x : TheSetup) (es : List TheEvent) (end : TheWorld P) → LogsGrow P.proto
+        → let s = stage_over (run_setup x) P.proto spell_content (opener x) (inputs_of P.proto (start P.proto x) es) in
+        shown_on end s ≡ s }
+    ensures lines { (x : TheSetup) (es : List TheEvent) (end : TheWorld P) → IsTrue (P.serves (kind_of x.cluster.plan 1))
         → outcome P.proto 1 (start P.proto x) es ≡ Ok end
-        → (end.collided ≡ None) ↔ HasNoCollision P.proto x es }
-{
-    collisions_are_found();
-    beginnings_add_nothing();
-}
-
-/// The premise holds exactly where at most f replicas are faulty, nothing was forged (each claim of a
-/// correct party that a correct party checked was made before), and no two histories have one digest.
-pub fn premise_is_exact<S: Service, P: Protocol<S>>()
-    ensures { (x : TheSetup) (es : List TheEvent) (end : TheWorld P) → IsInBounds x.f x.clients → SendsDrafts P.proto
-        → LogsGrow P.proto → outcome P.proto 1 (start P.proto x) es ≡ Ok end
-        → (premise_of end ≡ Held)
-        ↔ ((count_by is_replica (cluster_of x).faulty ≤ x.f)
-        × IsHonestRun (cluster_of x) (rules P.proto) (events_in (opener x) (reverse (inputs_of P.proto (start P.proto x) es)))
-        × HasNoCollision P.proto x es) }
+        → let s = stage_over (run_setup x) P.proto spell_content (opener x) (inputs_of P.proto (start P.proto x) es) in
+        filter is_observed end.lines ≡ map line_of_noted s.seen }
 {
     contents_have_their_own_bytes();
     opened_messages_are_of_the_grammar();
-    forgeries_are_told::<S, P>();
-    collisions_are_told::<S, P>();
 }
 
-/// Where the premise holds, instance 1 keeps what Abstract promises, whatever came: packets in any
-/// order, twice or never, bytes of anyone, twins of faulty parties.
-pub fn worlds_keep_promises<S: Service, P: Protocol<S>>()
-    ensures { (x : TheSetup) (es : List TheEvent) (end : TheWorld P) → IsInBounds x.f x.clients → SendsDrafts P.proto
-        → LogsGrow P.proto → outcome P.proto 1 (start P.proto x) es ≡ Ok end → premise_of end ≡ Held
-        → IsAbstract S.machine (all_seen (stage_of end)) (history_at (cluster_of x).faulty (3 * x.f + 1) (stage_log (rules P.proto) (stage_of end))) (cluster_of x).faulty 1 }
+/// The premise line of a world is that of the run, to the letter: the earliest event at which a premise
+/// of the run fails, which one, and whose, by the run's own definitions; and `held` exactly where each
+/// is met.
+pub fn premise_is_exact<S: Service, P: Protocol<S>>()
+    ensures { (x : TheSetup) (es : List TheEvent) (end : TheWorld P) → IsTrue (P.serves (kind_of x.cluster.plan 1)) → StaysEntered P.proto
+        → outcome P.proto 1 (start P.proto x) es ≡ Ok end
+        → (line : TheLine) → (premise_of end ≡ line) ↔ IsPremise (run_setup x) P.proto (opener x) x.faulty (came_to P.proto x es) line }
 {
+    contents_have_their_own_bytes();
+    opened_messages_are_of_the_grammar();
+    forgeries_are_told::<P>();
+}
+
+/// Where the premise line says `held`, the run keeps what Abstract promises, in each instance and from
+/// each to every later one, whatever came: packets in any order, twice or never, bytes of anyone, twins
+/// of faulty parties.
+pub fn worlds_keep_promises<S: Service, P: Protocol<S>>()
+    ensures ordered { (x : TheSetup) (es : List TheEvent) (end : TheWorld P) → ServesAll P.serves x.cluster → StaysEntered P.proto
+        → outcome P.proto 1 (start P.proto x) es ≡ Ok end → premise_of end ≡ Held
+        → let s = stage_over (run_setup x) P.proto spell_content (opener x) (inputs_of P.proto (start P.proto x) es) in
+        Ordered S.machine (all_seen s) (named_on (run_setup x) s) (run_setup x).faulty }
+    ensures instances { (x : TheSetup) (es : List TheEvent) (end : TheWorld P) → ServesAll P.serves x.cluster → StaysEntered P.proto
+        → outcome P.proto 1 (start P.proto x) es ≡ Ok end → premise_of end ≡ Held
+        → let s = stage_over (run_setup x) P.proto spell_content (opener x) (inputs_of P.proto (start P.proto x) es) in
+        EachIsAbstract S.machine (all_seen s) (named_on (run_setup x) s) (run_setup x).faulty }
+{
+    contents_have_their_own_bytes();
+    opened_messages_are_of_the_grammar();
+    forgeries_are_told::<P>();
     premise_is_exact::<S, P>();
     bytes_keep_promises::<S, P>();
 }

@@ -2,22 +2,17 @@
 //! events, with what was seen of the correct ones.
 #![tactic(auto)]
 
-mod collision;
 mod fault;
-mod forgery;
 mod handing;
 mod laws;
 mod lines;
-mod linking;
+mod looking;
 mod opening;
 mod posting;
-mod premise;
 mod recording;
 mod world;
 
 pub use fault::WorldFault;
-pub use laws::{
-    collisions_are_told, few_are_faulty, premise_is_exact, worlds_are_runs, worlds_keep_promises,
-};
+pub use laws::{premise_is_exact, worlds_are_runs, worlds_keep_promises};
 pub use lines::entries;
 pub use world::World;

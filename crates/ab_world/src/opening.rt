@@ -1,10 +1,10 @@
 //! What is looked at as bytes come to a party.
 
 ghost use Rattle.std.specs.Prelude.{◌≡◌, ℕ, Ok, Err, MatchResult, IfOk, IsTrue};
-ghost use Rattle.ab_msg.specs.Grammar.{IsMessage};
-ghost use Rattle.ab_abs.specs.Messages.{heard, heard_claims};
+ghost use Rattle.ab_msg.specs.Grammar.{IsMessage, spell_content};
+ghost use Rattle.ab_msg.specs.Claims.{claims};
 ghost use Rattle.ab_run.specs.Stages.{forged_in};
-ghost use Rattle.ab_cast.specs.Setups.{cluster_of};
+ghost use Rattle.ab_cast.specs.Setups.{run_setup};
 ghost use Rattle.ab_world.specs.Lines.{cause_of};
 ghost use Rattle.ab_world.specs.Worlds.{opening_at};
 ghost use Rattle.ab_keys.specs.Keys.{is_party};
@@ -21,7 +21,7 @@ pub(crate) fn open_at<'a>(
     party: Party,
     bytes: &'a [u8],
 ) -> Result<Checked<'a>, OpenFault>
-    requires { IsTrue (is_party setup.now.f setup.now.clients party) }
+    requires { IsTrue (is_party setup.now.cluster.f setup.now.cluster.clients party) }
     ensures opening { MatchResult result (λ c. opening_at setup.now party bytes.now ≡ Ok c.msg) (λ e. opening_at setup.now party bytes.now ≡ Err e) }
     ensures grammar { IfOk result (λ c. IsMessage c.msg) }
     ensures me { IfOk result (λ c. c.me ≡ party) }
@@ -33,7 +33,7 @@ pub(crate) fn open_at<'a>(
 /// before.
 pub(crate) fn forged_in(setup: &Setup, made: &Statements, checked: &Checked<'_>) -> Option<Party>
     requires { IsMessage checked.now.msg }
-    ensures { result ≡ forged_in (cluster_of setup.now) made.now (heard_claims (heard checked.now.msg)) }
+    ensures { result ≡ forged_in (run_setup setup.now) spell_content made.now (claims setup.now.cluster.f checked.now.me checked.now.msg) }
 {
     for (maker, bytes) in checked.stated() {
         if !setup.is_faulty(maker) && !made.contains(bytes) {

@@ -1,35 +1,29 @@
 //! The cluster as a whole.
 
 ghost use Rattle.std.specs.Prelude.{◌≡◌, ◌⊎◌, ◌+◌, ◌<◌, ◌≤◌, ℕ, All, length, IsTrue, OnOk, OnErr, IfErr, IfOk, IfSome, MatchOption, Ok, Some, None, Option, is_some, slice_get};
-ghost use Rattle.std.specs.Option.{option_map};
+ghost use Rattle.std.specs.Option.{option_map, option_to_list};
 ghost use Rattle.ab_num.specs.Places.{kind_of};
 ghost use Rattle.ab_keys.specs.Keys.{is_party};
-ghost use Rattle.ab_msg.specs.Claims.{content_of, maker_of};
-ghost use Rattle.ab_msg.specs.Grammar.{IsDraft};
-ghost use Rattle.ab_abs.specs.Places.{SendsDrafts, SendsOwn};
+ghost use Rattle.ab_client.specs.Drafts.{IsDraftOf};
 ghost use Rattle.ab_post.specs.Packets.{total, most_bytes};
 ghost use Rattle.ab_cast.specs.Setups.{place_of, party_at};
 ghost use Rattle.ab_cast.specs.Casts.{is_free};
-ghost use Rattle.ab_cast.specs.Signing.{SignsNothing};
-ghost use Rattle.ab_world.specs.Worlds.{start};
-ghost use Rattle.ab_world.specs.Premises.{premise_of};
+ghost use Rattle.ab_world.specs.Worlds.{premise_of, start};
 ghost use Rattle.ab_world.specs.Steps.{addressed, handed, settled, missed, stepped, stepped_by, happening, Cause, CauseIn, HasEnded, Leaves, SettleCause};
 ghost use Rattle.ab_world.specs.Handing.{finished, EachOut};
 
-use crate::collision::Collision;
 use crate::fault::WorldFault;
-use crate::forgery::Forgery;
 use crate::handing::{Handed, hand};
-use crate::linking::{link, logged};
+use crate::looking::{look, standing};
 use crate::posting::{post, state};
-use crate::premise::premise;
-use crate::recording::{add_lines, add_seen, first_collision, first_forgery, lines_of};
+use crate::recording::{add_lines, add_seen, lines_of};
 use ab_abs::{Marks, Protocol};
 use ab_cast::{Cast, CommandFault, Effects, Place, Setup, places_have_cores};
-use ab_hist::History;
-use ab_links::Links;
+use ab_hist::{History, Request};
+use ab_links::Digests;
 use ab_num::{OutOfMemory, Party};
 use ab_post::{Packets, Statements};
+use ab_premise::{Collision, Forgery, first_collision, first_forgery, premise};
 use ab_run::Noted;
 use ab_svc::Service;
 use ab_text::{Cause as TextCause, Core, Event, Line, Premise};
@@ -50,7 +44,7 @@ pub struct World<S: Service, P: Protocol<S>> {
     seen: Vec<Noted>,
     lines: Vec<Line>,
     forged: Option<Forgery>,
-    links: Links,
+    digests: Digests,
     collided: Option<Collision>,
     ended: Option<WorldFault>,
 }
@@ -58,7 +52,7 @@ pub struct World<S: Service, P: Protocol<S>> {
 impl<S: Service, P: Protocol<S>> Model for World<S, P> {
     ghost use Rattle.std.specs.Prelude.{◌≤◌};
     ghost use Rattle.ab_post.specs.Packets.{total, most_bytes};
-    ghost use Rattle.ab_world.specs.Forgeries.{forged_first};
+    ghost use Rattle.ab_premise.specs.Premises.{forged_first};
     ghost use Rattle.ab_world.specs.Worlds.{World as TheWorld};
 
     ghost Value = { TheWorld P };
@@ -70,8 +64,7 @@ impl<S: Service, P: Protocol<S>> Model for World<S, P> {
       seen = w.seen.items;
       lines = w.lines.items;
       forged = forged_first w.forged;
-      links = w.links;
-      collided = w.collided;
+      watch = record { kept = w.digests; collided = w.collided };
       ended = w.ended;
     } };
 
@@ -98,9 +91,11 @@ impl<S: Service, P: Protocol<S>> World<S, P> {
     /// A cluster before the first event, where P serves the kind that the cluster's plan gives to
     /// instance 1.
     pub fn new(alloc: Global, setup: Setup) -> Result<Self, OutOfMemory>
-        requires { IsTrue (P.serves (kind_of setup.plan 1)) }
+        requires { IsTrue (P.serves (kind_of setup.cluster.plan 1)) }
         ensures { IfOk result (λ w. w ≡ start P.proto setup) }
     {
+        let mut digests = Digests::new(alloc);
+        digests.add_history(&History::new(alloc), 0)?;
         Ok(World {
             cast: Cast::new(alloc, setup)?,
             packets: Packets::new(alloc),
@@ -108,7 +103,7 @@ impl<S: Service, P: Protocol<S>> World<S, P> {
             seen: Vec::new(alloc),
             lines: Vec::new(alloc),
             forged: None,
-            links: Links::new(alloc),
+            digests,
             collided: None,
             ended: None,
         })
@@ -202,22 +197,22 @@ impl<S: Service, P: Protocol<S>> World<S, P> {
     }
 
     /// Adds what a party of the cluster sends and shows in the present event, the name in which
-    /// something was forged that it took, and the entries of its log behind those of before. After an
-    /// `Err` all that is shown is as before.
+    /// something forged was taken and the request that was checked in it. The party's own core stood
+    /// there before. After an `Err` all that is shown is as before.
     fn add(
         &mut self,
         alloc: Global,
         party: Party,
-        before: usize,
+        before: (u32, usize),
         found: Option<Party>,
+        asked: &Option<Request>,
         effects: Effects,
     ) -> Result<(), WorldFault>
-        requires party { IsTrue (is_party self.old.cast.setup.f self.old.cast.setup.clients party) }
-        requires drafts { All (λ o. IsDraft o.msg) effects.outs }
-        requires makers { All (λ o. maker_of (content_of o.msg) ≡ party) effects.outs }
-        ensures ok { OnOk result ((self.new ≡ settled P.proto self.old party before found effects.outs effects.marks.items) × (total self.new.packets ≤ most_bytes)) }
-        ensures cause { IfErr result (λ f. SettleCause f (settled P.proto self.old party before found effects.outs effects.marks.items)) }
-        ensures err { OnErr result (self.new ≡ record self.old { made = self.new.made; links = self.new.links }) }
+        requires party { IsTrue (is_party self.old.cast.setup.cluster.f self.old.cast.setup.cluster.clients party) }
+        requires drafts { All (IsDraftOf self.old.cast.setup.cluster.f party) effects.outs }
+        ensures ok { OnOk result ((self.new ≡ settled P.proto self.old party before found (option_to_list asked.now) effects.outs effects.marks.items effects.spent) × (total self.new.packets ≤ most_bytes)) }
+        ensures cause { IfErr result (λ f. SettleCause f (settled P.proto self.old party before found (option_to_list asked.now) effects.outs effects.marks.items effects.spent)) }
+        ensures err { OnErr result (self.new ≡ record self.old { made = self.new.made; watch = record { kept = self.new.watch.kept; collided = self.old.watch.collided } }) }
     {
         let event = self.cast.events();
         let setup = self.cast.setup();
@@ -226,11 +221,11 @@ impl<S: Service, P: Protocol<S>> World<S, P> {
             self.packets.send(alloc, packets)?;
             return Ok(());
         }
-        let lines = lines_of(alloc, event, effects.marks.as_slice())?;
+        let lines = lines_of(alloc, event, party, effects.spent, effects.marks.as_slice())?;
         self.lines.reserve(lines.len())?;
         self.seen.reserve(effects.marks.len())?;
         state(alloc, setup, party, &mut self.made, effects.outs.as_slice())?;
-        let collides = link(&self.cast, &mut self.links, party, before)?;
+        let collides = look(&self.cast, &mut self.digests, party, before, asked)?;
         self.packets.send(alloc, packets)?;
         add_lines(&mut self.lines, lines);
         add_seen(&mut self.seen, event, effects.marks);
@@ -264,19 +259,20 @@ impl<S: Service, P: Protocol<S>> World<S, P> {
         &mut self,
         alloc: Global,
         party: Party,
-        before: usize,
+        before: (u32, usize),
         handed: Handed,
     ) -> Result<(), WorldFault>
-        requires party { IsTrue (is_party self.old.cast.setup.f self.old.cast.setup.clients party) }
-        requires drafts { EachOut (λ o. IsDraft o.msg) handed }
-        requires makers { EachOut (λ o. maker_of (content_of o.msg) ≡ party) handed }
+        requires party { IsTrue (is_party self.old.cast.setup.cluster.f self.old.cast.setup.cluster.clients party) }
+        requires drafts { EachOut (IsDraftOf self.old.cast.setup.cluster.f party) handed }
         ensures ok { OnOk result ((self.new ≡ finished P.proto self.old party before handed) × (total self.new.packets ≤ most_bytes)) }
         ensures cause { IfErr result (λ f. SettleCause f (finished P.proto self.old party before handed)) }
         ensures err { IfErr result (λ f. HasEnded f self.old self.new) }
     {
         let finished = match handed {
             Handed::Missed(cause) => self.refuse(party, cause),
-            Handed::Heard(found, effects) => self.add(alloc, party, before, found, effects),
+            Handed::Heard(found, asked, effects) => {
+                self.add(alloc, party, before, found, &asked, effects)
+            }
         };
         match finished {
             Ok(()) => Ok(()),
@@ -304,11 +300,16 @@ impl<S: Service, P: Protocol<S>> World<S, P> {
             return Err(WorldFault::BadParty);
         };
         places_have_cores(&self.cast);
-        let before = logged(&self.cast, place.party());
+        let before = standing(&self.cast, place.party());
         match self.cast.invoke(alloc, place, bytes) {
             Ok(effects) => {
-                self.finish(alloc, place.party(), before, Handed::Heard(None, effects))
-            },
+                self.finish(
+                    alloc,
+                    place.party(),
+                    before,
+                    Handed::Heard(None, None, effects),
+                )
+            }
             Err(CommandFault::NoClient) => Err(WorldFault::BadParty),
             Err(CommandFault::Busy) => Err(WorldFault::Busy),
             Err(CommandFault::OutOfMemory) => Err(self.end(WorldFault::OutOfMemory)),
@@ -317,9 +318,6 @@ impl<S: Service, P: Protocol<S>> World<S, P> {
 
     /// The packet of this number is handed to its addressee, or to the core of it that is named.
     fn deliver(&mut self, alloc: Global, number: u64, core: Option<Core>) -> Result<(), WorldFault>
-        requires quiet { SignsNothing P.proto }
-        requires own { SendsOwn P.proto }
-        requires drafts { SendsDrafts P.proto }
         requires few { self.old.cast.events < 100000 }
         ensures ok { OnOk result (stepped_by P.proto self.old (happening self.old (Event.Deliver number core)) ≡ Ok self.new) }
         ensures cause { IfErr result (λ f. CauseIn P.proto f self.old (happening self.old (Event.Deliver number core))) }
@@ -331,7 +329,7 @@ impl<S: Service, P: Protocol<S>> World<S, P> {
         let Some(place) = addressed(self.cast.setup(), packet.to(), core) else {
             return Err(WorldFault::BadParty);
         };
-        let before = logged(&self.cast, place.party());
+        let before = standing(&self.cast, place.party());
         match hand(alloc, &mut self.cast, &self.made, place, packet.bytes()) {
             Ok(handed) => self.finish(alloc, place.party(), before, handed),
             Err(_) => Err(self.end(WorldFault::OutOfMemory)),
@@ -340,9 +338,6 @@ impl<S: Service, P: Protocol<S>> World<S, P> {
 
     /// Bytes are handed to a core.
     fn inject(&mut self, alloc: Global, core: Core, bytes: &[u8]) -> Result<(), WorldFault>
-        requires quiet { SignsNothing P.proto }
-        requires own { SendsOwn P.proto }
-        requires drafts { SendsDrafts P.proto }
         requires few { self.old.cast.events < 100000 }
         ensures ok { OnOk result (stepped_by P.proto self.old (handed bytes.now (place_of self.old.cast.setup core.party core.twin)) ≡ Ok self.new) }
         ensures cause { IfErr result (λ f. CauseIn P.proto f self.old (handed bytes.now (place_of self.old.cast.setup core.party core.twin))) }
@@ -351,7 +346,7 @@ impl<S: Service, P: Protocol<S>> World<S, P> {
         let Some(place) = self.cast.setup().place(core.party, core.twin) else {
             return Err(WorldFault::BadParty);
         };
-        let before = logged(&self.cast, place.party());
+        let before = standing(&self.cast, place.party());
         match hand(alloc, &mut self.cast, &self.made, place, bytes) {
             Ok(handed) => self.finish(alloc, place.party(), before, handed),
             Err(_) => Err(self.end(WorldFault::OutOfMemory)),
@@ -361,9 +356,6 @@ impl<S: Service, P: Protocol<S>> World<S, P> {
     /// One event. A refused event changes nothing, but for the limits and want of memory: after
     /// these the world has ended, and each further step answers the same.
     pub fn step(&mut self, alloc: Global, e: &Event) -> Result<(), WorldFault>
-        requires quiet { SignsNothing P.proto }
-        requires own { SendsOwn P.proto }
-        requires drafts { SendsDrafts P.proto }
         ensures ok { OnOk result (stepped P.proto self.old e.now ≡ Ok self.new) }
         ensures cause { IfErr result (λ f. Cause P.proto f self.old e.now) }
         ensures err { IfErr result (λ f. Leaves f self.old self.new) }

@@ -9,27 +9,27 @@ use Rattle.ab_text.specs.Heads.{Script}
 use Rattle.ab_text.specs.Schedules.{ReadsText, script_of}
 use Rattle.ab_text.specs.declared.schedule.Head.{Head}
 use Rattle.ab_seal.specs.declared.fault.OpenFault.{OpenFault}
-use Rattle.ab_abs.specs.Acts.{is_replica}
 use Rattle.ab_abs.specs.Ensembles.{Proto}
 use Rattle.ab_abs.specs.Members.{Member}
-use Rattle.ab_abs.specs.Places.{LogsGrow, SendsDrafts}
-use Rattle.ab_run.specs.Inputs.{events_in}
-use Rattle.ab_run.specs.Premises.{IsHonestRun}
-use Rattle.ab_run.specs.States.{first_reps}
+use Rattle.ab_num.specs.declared.cluster.Cluster.{Cluster}
+use Rattle.ab_num.specs.declared.plan.Plan.{Plan}
+use Rattle.ab_svc.specs.Machines.{Machine}
+use Rattle.ab_quorum.specs.Rules.{quorum}
+use Rattle.ab_run.proofs.Shown.{first_length}
+use Rattle.ab_premise.specs.Collisions.{StaysEntered}
 use Rattle.ab_cast.specs.declared.place.Place.{Place}
 use Rattle.ab_cast.specs.declared.place.Place.TheVariants as place
-use Rattle.ab_cast.specs.Setups.{Setup, cluster_of, party_at}
-use Rattle.ab_cast.specs.Cores.{Core, Taken, replica, client, rules, core_after}
+use Rattle.ab_cast.specs.Setups.{Setup, run_setup, party_at}
+use Rattle.ab_cast.specs.Cores.{Core, Taken, replica, client, core_after}
 use Rattle.ab_cast.specs.Casts.{Cast, with_core, core_at}
 use Rattle.ab_world.specs.declared.fault.WorldFault.{WorldFault}
 use Rattle.ab_world.specs.declared.fault.WorldFault.TheVariants.{PacketLimit}
-use Rattle.ab_world.specs.Premises.{premise_of}
-use Rattle.ab_world.specs.Runs.{outcome, refused_or, inputs_of, HasNoCollision}
+use Rattle.ab_world.specs.Runs.{outcome, refused_or}
 use Rattle.ab_world.specs.Steps.{Happening, ready, after, after_taking, moved_at, stepped, stepped_by, taken_from}
-use Rattle.ab_world.specs.Worlds.{World, start, opener}
+use Rattle.ab_world.specs.Worlds.{World, start}
 use Rattle.abstract_bft.specs.declared.replay.ReplayFault.{ReplayFault}
 use Rattle.abstract_bft.specs.declared.replay.ReplayFault.TheVariants.{Read, TooLong, Refused, TooManyEvents, TooManyPackets, OutOfMemory}
-use Rattle.abstract_bft.specs.Replays.{MeetsPremises, run_of, run_under, setup_of, head_lines, EventsCause, TextCause}
+use Rattle.abstract_bft.specs.Replays.{IsClusterOf, RunsTo, Runs, run_in, setup_in, proto_of, head_lines, EventsCause, TextCause}
 
 -- ---- how many replicas a world has
 
@@ -60,7 +60,7 @@ module _ (proto : Proto Member) where
   move_stays : (w : World Member) (at : Place) (t : Taken) (s : Option (Core Member)) → Stays w.cast (moved_at proto w at t s).cast
   move_stays w at t None = record { setup = refl; replicas = refl }
   move_stays w at t (Some s) =
-      let stays = core_stays w.cast at (core_after proto (party_at at) s t) in record { setup = stays.setup; replicas = stays.replicas }
+      let stays = core_stays w.cast at (core_after w.cast.setup proto (party_at at) s t) in record { setup = stays.setup; replicas = stays.replicas }
 
   taking_stays : (w : World Member) (at : Place) (t : Result Taken OpenFault) → Stays w.cast (after_taking proto w at t).cast
   taking_stays w at (Ok t) = move_stays w at t (core_at w.cast at)
@@ -92,67 +92,76 @@ module _ (proto : Proto Member) where
   run_stays (e ∷ es) n w t is =
       rest_stays w t n (stepped proto w e) (λ v. outcome proto (n + 1) v es) (λ v. step_stays w v (ready w e)) (λ v. run_stays es (n + 1) v t) is
 
-  count_first : (n : ℕ) → length (first_reps (rules proto) 0 n) ≡ n
-  count_first zero = refl
-  count_first (suc n) =
-      let more = length-append (first_reps (rules proto) 0 n) _ in
-      more ∙ (let same = count_first n in omega (arith, same))
-
   -- a world at the end of a run has the replicas of its cluster
-  pub all_replicas : (s : Script) (end : World Member) → run_under proto s ≡ Ok end → length end.cast.replicas ≡ 3 * end.cast.setup.f + 1
-  all_replicas s end runs =
-      let stays = run_stays s.events 1 (start proto (setup_of s)) end runs in
-      stays.replicas ∙ count_first (3 * s.f + 1) ∙ ap (λ (x : Setup). 3 * x.f + 1) (sym stays.setup)
+  pub all_replicas : (c : Cluster) (s : Script) (end : World Member) → run_in proto c s ≡ Ok end → length end.cast.replicas ≡ 3 * end.cast.setup.cluster.f + 1
+  all_replicas c s end runs =
+      let stays = run_stays s.events 1 (start proto (setup_in c s)) end runs in
+      stays.replicas ∙ first_length (run_setup (setup_in c s)) proto (3 * c.f + 1) ∙ ap (λ (x : Setup). 3 * x.cluster.f + 1) (sym stays.setup)
+
+-- ---- clusters of one size
+
+bounds_once : (f n : ℕ) (a b : IsInBounds f n) → a ≡ b
+bounds_once f n = hlevel
+
+of_size : (f n : ℕ) → Plan → IsInBounds f n → Cluster
+of_size f n plan bounds = record { f = f; clients = n; plan = plan; in_bounds = bounds }
+
+one_cluster : (c d : Cluster) → c.f ≡ d.f → c.clients ≡ d.clients → c.plan ≡ d.plan → c ≡ d
+one_cluster c d f n plan =
+    subst (λ (g : ℕ). (b : IsInBounds g d.clients) → c ≡ of_size g d.clients d.plan b) f
+    (subst (λ (m : ℕ). (b : IsInBounds c.f m) → c ≡ of_size c.f m d.plan b) n
+    (subst (λ (q : Plan). (b : IsInBounds c.f c.clients) → c ≡ of_size c.f c.clients q b) plan
+    (λ b. ap (of_size c.f c.clients c.plan) (bounds_once c.f c.clients c.in_bounds b)))) d.in_bounds
+
+-- the run of a schedule has one end
+pub one_end : (proto : Proto Member) (s : Script) (r q : Result (World Member) (ℕ × WorldFault)) → RunsTo proto s r → RunsTo proto s q → r ≡ q
+one_end proto s r q a b =
+    sym a.runs
+    ∙ ap (λ (c : Cluster). run_in proto c s) (one_cluster a.cluster b.cluster (a.sized.f ∙ sym b.sized.f) (a.sized.clients ∙ sym b.sized.clients) (a.sized.plan ∙ sym b.sized.plan))
+    ∙ b.runs
 
 -- ---- the run of a schedule
 
 -- a run from the world that the head of a schedule sets up, through its events
 pub runs_schedule : (proto : Proto Member) (head : Head) (events es : List Event) (found : List (Party × ℕ)) (x : Setup) (w : World Member) (end : Result (World Member) (ℕ × WorldFault))
-    → found ≡ head.faulty → x ≡ record { f = head.cluster.f; clients = head.cluster.clients; plan = head.cluster.plan; faulty = found } → w ≡ start proto x → es ≡ events
-    → outcome proto 1 w es ≡ end → run_under proto (script_of head events) ≡ end
+    → found ≡ head.faulty → x ≡ record { cluster = head.cluster; faulty = found } → w ≡ start proto x → es ≡ events
+    → outcome proto 1 w es ≡ end → run_in proto head.cluster (script_of head events) ≡ end
 runs_schedule proto head events es found x w end faulty sets starts same is =
-    let begins : (ys : List (Party × ℕ)) → Setup = λ ys. record { f = head.cluster.f; clients = head.cluster.clients; plan = head.cluster.plan; faulty = ys } in
+    let begins : (ys : List (Party × ℕ)) → Setup = λ ys. record { cluster = head.cluster; faulty = ys } in
     ap (λ y. outcome proto 1 (start proto y) events) (sym (sets ∙ ap begins faulty))
     ∙ ap (λ v. outcome proto 1 v events) (sym starts)
     ∙ ap (outcome proto 1 w) (sym same)
     ∙ is
 
--- ---- premises
+pub sized_so : (head : Head) (events : List Event) → IsClusterOf head.cluster (script_of head events)
+sized_so head events = record { f = refl; clients = refl; plan = refl }
 
--- the law of the premise of a world, for the run of a schedule
-pub premises_met : (proto : Proto Member)
-    (law : (x : Setup) (es : List Event) (end : World Member) → IsInBounds x.f x.clients → SendsDrafts proto → LogsGrow proto → outcome proto 1 (start proto x) es ≡ Ok end
-    → (premise_of end ≡ Held)
-    ↔ ((count_by is_replica (cluster_of x).faulty ≤ x.f)
-    × IsHonestRun (cluster_of x) (rules proto) (events_in (opener x) (reverse (inputs_of proto (start proto x) es))) × HasNoCollision proto x es))
-    → SendsDrafts proto → LogsGrow proto → (s : Script) (end : World Member) → IsInBounds s.f s.clients → run_under proto s ≡ Ok end
-    → (premise_of end ≡ Held) ↔ MeetsPremises proto s
-premises_met proto law drafts grow s end bounds runs =
-    let exact = law (setup_of s) s.events end bounds drafts grow runs in
-    ((λ held. let met = exact.0 held in record { few = met.0; honest = met.1; apart = met.2 }), (λ met. exact.1 (met.few, met.honest, met.apart)))
+-- a replica of Quorum stays with the history with which it entered
+pub quorum_stays : {S : Type 0} (machine : Machine S) → StaysEntered (quorum machine)
+quorum_stays machine = record { called = λ pen p call. refl; halted = λ p. refl }
 
 -- ---- refusals
 
 -- what stops the events of a schedule stops the text
-pub stops_text : (e : ReplayFault) (text : List ℕ) (s : Script) (line : ℕ) → ReadsText text (Ok s) → length s.events < 100001 → line ≡ head_lines s
-    → EventsCause e line (run_of s) → TextCause e text
-stops_text (Refused r) text s line reads few at (n, f, stopped, refuses) = inr (record {
+pub stops_text : (e : ReplayFault) (text : List ℕ) (s : Script) (c : Cluster) (line : ℕ) → IsClusterOf c s → ReadsText text (Ok s) → length s.events < 100001 → line ≡ head_lines s
+    → EventsCause e line (run_in (proto_of s.service) c s) → TextCause e text
+stops_text (Refused r) text s c line sized reads few at (n, f, stopped, refuses) = inr (record {
   schedule = s;
   event = n;
   fault = f;
   reads = reads;
   few = few;
-  runs = stopped;
+  runs = record { cluster = c; sized = sized; runs = stopped };
   refuses = rw at at refuses;
 })
-stops_text TooManyPackets text s line reads few at (n, stopped) = record {
+stops_text TooManyPackets text s c line sized reads few at (n, stopped) = record {
   schedule = s;
   event = n;
   reads = reads;
   few = few;
-  runs = stopped;
+  runs = record { cluster = c; sized = sized; runs = stopped };
 }
-stops_text OutOfMemory text s line reads few at cause = tt
-stops_text TooManyEvents text s line reads few at cause = absurd cause
-stops_text Read text s line reads few at cause = absurd cause
-stops_text TooLong text s line reads few at cause = absurd cause
+stops_text OutOfMemory text s c line sized reads few at cause = tt
+stops_text TooManyEvents text s c line sized reads few at cause = absurd cause
+stops_text Read text s c line sized reads few at cause = absurd cause
+stops_text TooLong text s c line sized reads few at cause = absurd cause

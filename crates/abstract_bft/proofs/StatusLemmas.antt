@@ -20,20 +20,21 @@ use Rattle.abstract_bft.specs.Streams.{IsAllOf, IsTooLong}
 use Rattle.ab_io.specs.Causes.{Rose}
 use Rattle.ab_world.specs.declared.fault.WorldFault.{WorldFault}
 use Rattle.ab_world.specs.declared.fault.WorldFault.TheVariants.{PacketLimit}
-use Rattle.ab_world.specs.Premises.{premise_of}
-use Rattle.ab_world.specs.Worlds.{World}
-use Rattle.abstract_bft.specs.Replays.{Performs, PerformsAs, IsRefused, proto_of, run_of, run_under}
+use Rattle.ab_world.specs.Worlds.{World, premise_of}
+use Rattle.abstract_bft.specs.Replays.{Performs, PerformsAs, IsRefused, RunsTo, proto_of, Runs}
+use Rattle.abstract_bft.proofs.RunLemmas.{one_end}
 use Rattle.abstract_bft.specs.Statuses.{Call, IsReplay, StatusCause, Says, HasCauseOf, HasFront, HasReport, IsClear, premise_code}
 
 -- a run has one end
-said_at : {S : Type 0} (machine : Machine S) (s : Script) (report : List ℕ) (held : Bool) (end : World Member) → Performs machine s report held → run_under (quorum machine) s ≡ Ok end
+said_at : {S : Type 0} (machine : Machine S) (s : Script) (report : List ℕ) (held : Bool) (end : World Member) → Performs machine s report held → RunsTo (quorum machine) s (Ok end)
     → IsTrue held ↔ (premise_of end ≡ Held)
 said_at machine s report held end performs runs =
-    let same : performs.end ≡ end = (let both : Ok performs.end ≡ Ok end = sym performs.runs ∙ runs in cc) in
+    let both : ◌≡◌ {A = Result (World Member) (ℕ × WorldFault)} (Ok performs.end) (Ok end) = one_end (quorum machine) s (Ok performs.end) (Ok end) (record { cluster = performs.cluster; sized = performs.sized; runs = performs.runs }) runs in
+    let same : performs.end ≡ end = cc (both) in
     subst (λ (w : World Member). IsTrue held ↔ (premise_of w ≡ Held)) same performs.says
 
 said_of : (service : ServiceName) (s : Script) (report : List ℕ) (held : Bool) (end : World Member) → PerformsAs service s report held
-    → run_under (proto_of service) s ≡ Ok end → IsTrue held ↔ (premise_of end ≡ Held)
+    → RunsTo (proto_of service) s (Ok end) → IsTrue held ↔ (premise_of end ≡ Held)
 said_of Echo s report held end performs runs = said_at _ s report held end performs runs
 said_of Kv s report held end performs runs = said_at _ s report held end performs runs
 
@@ -46,11 +47,11 @@ module _ (one : (text : List ℕ) (r q : Result Script TextFault) → ReadsText 
   same_text : (text : List ℕ) → IsAllOf c.left text → text ≡ clear.text
   same_text text all = sym (subst (λ left. IsAllOf left text) clear.input all)
 
-  not_ended : (text : List ℕ) (s : Script) (n : ℕ) (f : WorldFault) → text ≡ clear.text → ReadsText text (Ok s) → run_of s ≡ Err (n, f) → ⊥
+  not_ended : (text : List ℕ) (s : Script) (n : ℕ) (f : WorldFault) → text ≡ clear.text → ReadsText text (Ok s) → Runs s (Err (n, f)) → ⊥
   not_ended text s n f same reads ends =
       let e : Ok s ≡ Ok clear.schedule = one clear.text (Ok s) (Ok clear.schedule) (subst (λ t. ReadsText t (Ok s)) same reads) clear.reads in
       let is : s ≡ clear.schedule = cc in
-      let o : ◌≡◌ {A = Result (World Member) (ℕ × WorldFault)} (Err (n, f)) (Ok clear.end) = sym ends ∙ (ap run_of is ∙ clear.runs) in cc
+      let o : ◌≡◌ {A = Result (World Member) (ℕ × WorldFault)} (Err (n, f)) (Ok clear.end) = one_end (proto_of clear.schedule.service) clear.schedule (Err (n, f)) (Ok clear.end) (subst (λ (q : Script). Runs q (Err (n, f))) is ends) clear.runs in cc (o)
 
   not_refused : (text : List ℕ) (r : Refusal) → text ≡ clear.text → IsRefused text r → ⊥
   not_refused text r same refused =
@@ -65,7 +66,7 @@ module _ (one : (text : List ℕ) (r q : Result Script TextFault) → ReadsText 
       let s = replays.schedule in
       let e : Ok s ≡ Ok clear.schedule = one clear.text (Ok s) (Ok clear.schedule) (subst (λ t. ReadsText t (Ok s)) (same_text text all) replays.reads) clear.reads in
       let is : s ≡ clear.schedule = cc in
-      said_of s.service s report held clear.end replays.performs (ap run_of is ∙ clear.runs)
+      said_of s.service s report held clear.end replays.performs (subst (λ (q : Script). Runs q (Ok clear.end)) (sym is) clear.runs)
 
   clear_status : (s : Status) → StatusCause s c → (code_of s ≡ premise_code (premise_of clear.end)) ⊎ (code_of s ≡ 9)
   clear_status Done (words, report, kept) = inl (ap premise_code (sym ((says_clear true report).0 refl)))

@@ -1,5 +1,5 @@
 -- Replays of schedules.
-use Rattle.std.specs.Prelude.{◌≡◌, ◌⊎◌, ◌↔◌, ⊤, ℕ, ◌+◌, ◌*◌, ◌<◌, ◌≤◌, Bool, IsTrue, if◌then◌else◌, Option, None, Some, List, [], ◌∷◌, Result, Ok, Err, count_by, length, reverse}
+use Rattle.std.specs.Prelude.{◌≡◌, ◌⊎◌, ◌↔◌, ⊤, ℕ, ◌+◌, ◌*◌, ◌<◌, ◌≤◌, Bool, IsTrue, if◌then◌else◌, Option, None, Some, List, [], ◌∷◌, Result, Ok, Err, length}
 use Rattle.ab_num.specs.declared.party.Party.TheVariants.{Replica}
 use Rattle.ab_num.specs.declared.plan.ServiceName.{ServiceName}
 use Rattle.ab_num.specs.declared.plan.ServiceName.TheVariants.{Echo, Kv}
@@ -12,24 +12,23 @@ use Rattle.ab_text.specs.Schedules.{ReadsText}
 use Rattle.ab_svc.specs.Machines.{Machine}
 use Rattle.ab_svc.specs.Echoes.{echo_machine}
 use Rattle.ab_kv.specs.KvMachines.{kv_machine}
-use Rattle.ab_abs.specs.Acts.{is_replica}
+use Rattle.ab_num.specs.declared.cluster.Cluster.{Cluster}
+use Rattle.ab_text.specs.declared.line.Premise.{Premise}
+use Rattle.ab_msg.specs.Grammar.{spell_content}
 use Rattle.ab_abs.specs.Ensembles.{Proto}
-use Rattle.ab_abs.specs.Instances.{IsAbstract}
+use Rattle.ab_abs.specs.Instances.{EachIsAbstract}
 use Rattle.ab_abs.specs.Members.{Member, member_state}
-use Rattle.ab_abs.specs.Observations.{history_at}
+use Rattle.ab_abs.specs.Order.{Ordered}
 use Rattle.ab_quorum.specs.Rules.{quorum}
-use Rattle.ab_run.specs.Inputs.{events_in}
-use Rattle.ab_run.specs.Premises.{IsHonestRun}
 use Rattle.ab_run.specs.Replicas.{Rep}
-use Rattle.ab_run.specs.Stages.{all_seen, stage_log}
-use Rattle.ab_cast.specs.Setups.{Setup, cluster_of, is_bad}
-use Rattle.ab_cast.specs.Cores.{rules}
+use Rattle.ab_run.specs.Stages.{all_seen, named_on, stage_over}
+use Rattle.ab_premise.specs.Premises.{IsPremise}
+use Rattle.ab_cast.specs.Setups.{Setup, run_setup, is_bad}
 use Rattle.ab_world.specs.declared.fault.WorldFault.{WorldFault}
 use Rattle.ab_world.specs.declared.fault.WorldFault.TheVariants as world_fault
 use Rattle.ab_world.specs.Lines.{entries_of}
-use Rattle.ab_world.specs.Premises.{premise_of}
-use Rattle.ab_world.specs.Runs.{outcome, inputs_of, HasNoCollision}
-use Rattle.ab_world.specs.Worlds.{World, start, stage_of, opener}
+use Rattle.ab_world.specs.Runs.{outcome, inputs_of, came_to}
+use Rattle.ab_world.specs.Worlds.{World, start, opener, premise_of}
 use Rattle.abstract_bft.specs.declared.status.Cause.TheVariants.{BadLine, NoEnd, NotBuilt, NoPacket, BadParty, Busy}
 use Rattle.abstract_bft.specs.declared.status.Refusal.{Refusal}
 use Rattle.abstract_bft.specs.declared.replay.ReplayFault.{ReplayFault}
@@ -44,15 +43,27 @@ abbrev pub proto_of : ServiceName → Proto Member
 proto_of Echo = quorum echo_machine
 proto_of Kv = quorum kv_machine
 
-abbrev pub setup_of : Script → Setup
-setup_of s = record { f = s.f; clients = s.clients; plan = s.plan; faulty = s.faulty }
+-- the cluster of a schedule
+pub record IsClusterOf (c : Cluster) (s : Script) : Type 0 where
+  pub f : c.f ≡ s.f
+  pub clients : c.clients ≡ s.clients
+  pub plan : c.plan ≡ s.plan
 
--- the world after all events of a schedule, under a protocol, or the first refusal with its event's number
-abbrev pub run_under : Proto Member → Script → Result (World Member) (ℕ × WorldFault)
-run_under proto s = outcome proto 1 (start proto (setup_of s)) s.events
+abbrev pub setup_in : Cluster → Script → Setup
+setup_in c s = record { cluster = c; faulty = s.faulty }
 
-abbrev pub run_of : Script → Result (World Member) (ℕ × WorldFault)
-run_of s = run_under (proto_of s.service) s
+-- the world after all events of a schedule in a cluster, under a protocol, or the first refusal with its event's number
+abbrev pub run_in : Proto Member → Cluster → Script → Result (World Member) (ℕ × WorldFault)
+run_in proto c s = outcome proto 1 (start proto (setup_in c s)) s.events
+
+-- the run of a schedule, in its cluster, comes to this
+pub record RunsTo (proto : Proto Member) (s : Script) (r : Result (World Member) (ℕ × WorldFault)) : Type 0 where
+  pub cluster : Cluster
+  pub sized : IsClusterOf cluster s
+  pub runs : run_in proto cluster s ≡ r
+
+abbrev pub Runs : Script → Result (World Member) (ℕ × WorldFault) → Type 0
+Runs s r = RunsTo (proto_of s.service) s r
 
 -- ---- reports
 
@@ -69,30 +80,28 @@ report_of w = report_text w.lines (logs_from w.cast.setup 0 w.cast.replicas) (pr
 
 -- ---- what a run promises
 
--- at most f replicas are declared faulty; nothing is forged: each claim of a correct party that a correct party checked in an
--- event was made by it before; and no two different beginnings of histories that correct replicas had have one digest
-pub record MeetsPremises (proto : Proto Member) (s : Script) : Type 0 where
-  pub few : count_by is_replica (cluster_of (setup_of s)).faulty ≤ s.f
-  pub honest : IsHonestRun (cluster_of (setup_of s)) (rules proto)
-      (events_in (opener (setup_of s)) (reverse (inputs_of proto (start proto (setup_of s)) s.events)))
-  pub apart : HasNoCollision proto (setup_of s) s.events
+-- the observations of the run are ordered, and each instance keeps what Abstract promises of the service, under the last log of each
+-- replica in each instance. In its cluster the run is that of the stage
+pub record KeepsPromises {S : Type 0} (machine : Machine S) (c : Cluster) (s : Script) : Type 0 where
+  pub ordered : let x = setup_in c s in
+      let end = stage_over (run_setup x) (quorum machine) spell_content (opener x) (inputs_of (quorum machine) (start (quorum machine) x) s.events) in
+      Ordered machine (all_seen end) (named_on (run_setup x) end) (run_setup x).faulty
+  pub instances : let x = setup_in c s in
+      let end = stage_over (run_setup x) (quorum machine) spell_content (opener x) (inputs_of (quorum machine) (start (quorum machine) x) s.events) in
+      EachIsAbstract machine (all_seen end) (named_on (run_setup x) end) (run_setup x).faulty
 
--- instance 1 keeps what Abstract promises of the service: Validity, Commit Order and Commit Agreement among it, for the
--- observations of the run and the logs that its correct replicas have
-abbrev pub KeepsPromises : {S : Type 0} → Machine S → Script → World Member → Type 0
-KeepsPromises machine s w =
-    let faulty = (cluster_of (setup_of s)).faulty in
-    IsAbstract machine (all_seen (stage_of w)) (history_at faulty (3 * s.f + 1) (stage_log (rules (quorum machine)) (stage_of w))) faulty 1
-
--- the run of a schedule with a service leads here, and this is its report. The premise line says `held` exactly where the
--- premises are met, and then the run keeps what Abstract promises
+-- the run of a schedule with a service leads here, and this is its report. Its premise line is that of the run, to the letter, and
+-- where it says `held` the run keeps what Abstract promises
 pub record Performs {S : Type 0} (machine : Machine S) (s : Script) (report : List ℕ) (held : Bool) : Type 0 where
+  pub cluster : Cluster
+  pub sized : IsClusterOf cluster s
   pub end : World Member
-  pub runs : run_under (quorum machine) s ≡ Ok end
+  pub runs : run_in (quorum machine) cluster s ≡ Ok end
   pub reports : report ≡ report_of end
   pub says : IsTrue held ↔ (premise_of end ≡ Held)
-  pub exact : (premise_of end ≡ Held) ↔ MeetsPremises (quorum machine) s
-  pub promises : premise_of end ≡ Held → KeepsPromises machine s end
+  pub exact : (line : Premise) → (premise_of end ≡ line)
+      ↔ IsPremise (run_setup (setup_in cluster s)) (quorum machine) (opener (setup_in cluster s)) s.faulty (came_to (quorum machine) (setup_in cluster s) s.events) line
+  pub promises : premise_of end ≡ Held → KeepsPromises machine cluster s
 
 -- the same with the service that is named
 abbrev pub PerformsAs : ServiceName → Script → List ℕ → Bool → Type 0
@@ -147,7 +156,7 @@ pub record IsBadEvent (text : List ℕ) (r : Refusal) : Type 0 where
   pub fault : WorldFault
   pub reads : ReadsText text (Ok schedule)
   pub few : length schedule.events < 100001
-  pub runs : run_of schedule ≡ Err (event, fault)
+  pub runs : Runs schedule (Err (event, fault))
   pub refuses : step_refusal (head_lines schedule + event) fault ≡ Some r
 
 -- the first line that is refused, and why
@@ -164,7 +173,7 @@ pub record HasTooManyBytes (text : List ℕ) : Type 0 where
   pub event : ℕ
   pub reads : ReadsText text (Ok schedule)
   pub few : length schedule.events < 100001
-  pub runs : run_of schedule ≡ Err (event, world_fault.PacketLimit)
+  pub runs : Runs schedule (Err (event, world_fault.PacketLimit))
 
 -- when each fault of a run over events comes, where the first of them stands in the line after this one
 abbrev pub EventsCause : ReplayFault → ℕ → Result (World Member) (ℕ × WorldFault) → Type 0

@@ -12,9 +12,8 @@ use Rattle.ab_text.specs.Heads.{Script}
 use Rattle.ab_text.specs.Schedules.{ReadsText}
 use Rattle.ab_text.specs.declared.line.Premise.{Premise}
 use Rattle.ab_text.specs.declared.line.Premise.TheVariants as premise
-use Rattle.ab_world.specs.Premises.{premise_of}
-use Rattle.ab_world.specs.Worlds.{World}
-use Rattle.abstract_bft.specs.Replays.{Replays, IsRefused, HasTooManyEvents, HasTooManyBytes, run_of}
+use Rattle.ab_world.specs.Worlds.{World, premise_of}
+use Rattle.abstract_bft.specs.Replays.{Replays, IsRefused, HasTooManyEvents, HasTooManyBytes, Runs}
 
 -- what a call of the program met: its words, what was left of the input, what out and err held before and after, and the
 -- counts of faults before and after
@@ -80,7 +79,7 @@ pub record IsClear (c : Call) : Type 0 where
   pub short : length text ≤ 67108864
   pub reads : ReadsText text (Ok schedule)
   pub few : length schedule.events ≤ 100000
-  pub runs : run_of schedule ≡ Ok end
+  pub runs : Runs schedule (Ok end)
   pub read : Rose c.read_before c.read_now → ⊥
   pub out : Rose c.out_before c.out_now → ⊥
   pub err : Rose c.err_before c.err_now → ⊥

@@ -6,7 +6,7 @@ ghost use Rattle.ab_num.specs.Places.{kind_of};
 ghost use Rattle.ab_quorum.specs.Rules.{quorum, is_quorum};
 ghost use Rattle.ab_keys.specs.Keys.{is_party};
 ghost use Rattle.ab_world.specs.Runs.{outcome};
-ghost use Rattle.abstract_bft.specs.Replays.{run_under, Performs, Replays, EventsCause, TextCause, ReplayCause, fault_from, text_refusal, step_refusal};
+ghost use Rattle.abstract_bft.specs.Replays.{run_in, Performs, Replays, EventsCause, TextCause, ReplayCause, fault_from, text_refusal, step_refusal};
 ghost use Rattle.abstract_bft.specs.Streams.{IsAllOf};
 
 use crate::report::report;
@@ -16,7 +16,7 @@ use ab_cast::Setup;
 use ab_io::Source;
 use ab_kv::Kv;
 use ab_num::{OutOfMemory, ServiceName};
-use ab_quorum::{Quorum, quorum_logs_grow, quorum_sends_drafts, quorum_sends_its_own};
+use ab_quorum::Quorum;
 use ab_svc::{Echo, Service};
 use ab_text::{Event, Premise, Schedule, TextFault, read_is_in_form, read_schedule};
 use ab_world::{World, WorldFault, premise_is_exact, worlds_keep_promises};
@@ -111,8 +111,6 @@ fn run_events<S: Service>(
     ensures ok { OnOk result (outcome (quorum S.machine) 1 world.old events.now ≡ Ok world.new) }
     ensures cause { IfErr result (λ e. EventsCause e line (outcome (quorum S.machine) 1 world.old events.now)) }
 {
-    quorum_sends_its_own::<S>();
-    quorum_sends_drafts::<S>();
     for (i, e) in events.iter().enumerate() {
         match world.step(alloc, e) {
             Ok(()) => {}
@@ -145,19 +143,17 @@ fn perform<S: Service>(
     schedule: &Schedule,
     line: u32,
 ) -> Result<Replayed, ReplayFault>
-    requires served { IsTrue (is_quorum (kind_of schedule.now.head.cluster.plan 1)) }
+    requires served { (i : ℕ) → IsTrue (is_quorum (kind_of schedule.now.head.cluster.plan i)) }
     requires parties { All (λ e. IsTrue (is_party schedule.now.head.cluster.f schedule.now.head.cluster.clients e.0)) schedule.now.head.faulty }
     requires few { length schedule.now.events < 100001 }
     requires short { line < 2 ^ 31 }
     ensures ok { IfOk result (λ v. Performs S.machine (script_of schedule.now.head schedule.now.events) v.report.items v.held) }
-    ensures cause { IfErr result (λ e. EventsCause e line (run_under (quorum S.machine) (script_of schedule.now.head schedule.now.events))) }
+    ensures cause { IfErr result (λ e. EventsCause e line (run_in (quorum S.machine) schedule.now.head.cluster (script_of schedule.now.head schedule.now.events))) }
 {
     let head = &schedule.head;
     let setup = Setup::new(alloc, &head.cluster, head.faulty.as_slice())?;
     let mut world = QuorumWorld::<S>::new(alloc, setup)?;
     run_events(alloc, &mut world, schedule.events.as_slice(), line)?;
-    quorum_sends_drafts::<S>();
-    quorum_logs_grow::<S>();
     premise_is_exact::<S, Quorum<S>>();
     worlds_keep_promises::<S, Quorum<S>>();
     Ok(Replayed {

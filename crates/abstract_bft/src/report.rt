@@ -47,7 +47,7 @@ fn write_logs<S: Service>(
     out: &mut Vec<u8>,
     world: &QuorumWorld<S>,
 ) -> Result<(), OutOfMemory>
-    requires { length world.now.cast.replicas ≡ 3 * world.now.cast.setup.f + 1 }
+    requires { length world.now.cast.replicas ≡ 3 * world.now.cast.setup.cluster.f + 1 }
     ensures { OnOk result (out.new.items ≡ out.old.items ++ flat_map log_text (logs_from world.now.cast.setup 0 world.now.cast.replicas)) }
 {
     for r in 0..world.setup().cluster().replicas() {
@@ -63,7 +63,7 @@ pub(crate) fn report<S: Service>(
     alloc: Global,
     world: &QuorumWorld<S>,
 ) -> Result<Vec<u8>, OutOfMemory>
-    requires { length world.now.cast.replicas ≡ 3 * world.now.cast.setup.f + 1 }
+    requires { length world.now.cast.replicas ≡ 3 * world.now.cast.setup.cluster.f + 1 }
     ensures { IfOk result (λ v. v.items ≡ report_of world.now) }
 {
     let mut out = Vec::new(alloc);

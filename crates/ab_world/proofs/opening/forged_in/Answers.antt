@@ -1,19 +1,20 @@
 use Rattle.std.proofs.Common.{ap, sym, ◌∙◌}
-use Rattle.ab_cast.specs.Setups.{cluster_of}
-use Rattle.ab_world.proofs.ClaimLemmas.{forged_of, forged_stated, faulty_skipped, made_skipped}
+use Rattle.ab_msg.specs.Claims.{claims}
+use Rattle.ab_cast.specs.Setups.{run_setup}
+use Rattle.ab_world.proofs.ClaimLemmas.{forged_of, forged_spelled, faulty_skipped, made_skipped}
 use Rattle.ab_world.proofs.opening.forged_in.Goals.{else-not-is_faulty-via-then-not-is_faulty+else-not-contains, else-not-is_faulty-via-else-not-is_faulty}
 use Rattle.ab_world.proofs.opening.forged_in.Goals as goal
 
 -- src/opening.rt:34:5
 pub loop-maker-init : goal.loop-maker-init
 loop-maker-init c =
-    ap (forged_of (cluster_of c.args.setup.now) c.args.made.now) (c.into_iter-maker-iterator.ensures.into_iter_gives ∙ c.stated-maker-items.ensures)
-    ∙ forged_stated (cluster_of c.args.setup.now) c.args.made.now c.args.checked.now.me c.args.checked.now.msg c.requires
+    ap (forged_of (run_setup c.args.setup.now) c.args.made.now) (c.into_iter-maker-iterator.ensures.into_iter_gives ∙ c.stated-maker-items.ensures c.args.setup.now.cluster.f)
+    ∙ forged_spelled (run_setup c.args.setup.now) c.args.made.now (claims c.args.setup.now.cluster.f c.args.checked.now.me c.args.checked.now.msg)
 
 -- src/opening.rt:34:5
 pub loop-maker-preserved : goal.loop-maker-preserved
 loop-maker-preserved c =
-    let k = cluster_of c.args.setup.now in
+    let k = run_setup c.args.setup.now in
     let made = c.args.made.now in
     let left = ap (forged_of k made) (sym c.in-Some.ensures.steps) ∙ c.loop-maker.invariant in
     elim c.else-not-is_faulty.branch [
@@ -25,4 +26,4 @@ loop-maker-preserved c =
 
 -- src/opening.rt:30:1
 pub returns : goal.returns
-returns c = sym (ap (forged_of (cluster_of c.args.setup.now) c.args.made.now) c.in-None.ensures.steps.0) ∙ c.loop-maker.invariant
+returns c = sym (ap (forged_of (run_setup c.args.setup.now) c.args.made.now) c.in-None.ensures.steps.0) ∙ c.loop-maker.invariant

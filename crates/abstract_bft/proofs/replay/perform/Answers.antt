@@ -8,8 +8,8 @@ use Rattle.ab_text.specs.declared.line.Premise.{Premise}
 use Rattle.ab_text.specs.declared.line.Premise.TheVariants.{Held}
 use Rattle.ab_text.specs.Schedules.{script_of}
 use Rattle.ab_quorum.specs.Rules.{quorum}
-use Rattle.abstract_bft.specs.Replays.{run_under, setup_of, EventsCause}
-use Rattle.abstract_bft.proofs.RunLemmas.{all_replicas, premises_met, runs_schedule}
+use Rattle.abstract_bft.specs.Replays.{run_in, setup_in, EventsCause}
+use Rattle.abstract_bft.proofs.RunLemmas.{all_replicas, quorum_stays, runs_schedule, sized_so}
 use Rattle.abstract_bft.proofs.replay.perform.Goals as goal
 
 pub report-requires : goal.report-requires
@@ -18,7 +18,7 @@ report-requires g c =
     let head = c.args.schedule.now.head in
     let events = c.args.schedule.now.events in
     let end = c.run_events.new.world in
-    all_replicas proto (script_of head events) end
+    all_replicas proto head.cluster (script_of head events) end
     (runs_schedule proto head events c.as_slice-2.result.now c.as_slice.result.now c.in_ok-setup.setup c.in_ok-world.world (Ok end) c.as_slice.ensures c.in_ok-setup.ensures c.in_ok-world.ensures c.as_slice-2.ensures c.in_ok-run_events.ensures.ok)
 
 pub returns-clause-ok : goal.returns-clause-ok
@@ -28,18 +28,23 @@ returns-clause-ok g c =
     let events = c.args.schedule.now.events in
     let s = script_of head events in
     let end = c.run_events.new.world in
-    let bounds = head.cluster.in_bounds in
-    let drafts = c.quorum_sends_drafts.ensures in
-    let grow = c.quorum_logs_grow.ensures in
-    let runs : run_under proto s ≡ Ok end =
+    let serves = c.requires.served in
+    let stays = quorum_stays g.S.Service.machine in
+    let x = setup_in head.cluster s in
+    let runs : run_in proto head.cluster s ≡ Ok end =
     runs_schedule proto head events c.as_slice-2.result.now c.as_slice.result.now c.in_ok-setup.setup c.in_ok-world.world (Ok end) c.as_slice.ensures c.in_ok-setup.ensures c.in_ok-world.ensures c.as_slice-2.ensures c.in_ok-run_events.ensures.ok in
     record {
+      cluster = head.cluster;
+      sized = sized_so head events;
       end = end;
       runs = runs;
       reports = c.in_ok-report.ensures;
       says = subst (λ (p : Premise). IsTrue c.is_held.result ↔ (p ≡ Held)) c.premise.ensures c.is_held.ensures;
-      exact = premises_met proto c.premise_is_exact.ensures drafts grow s end bounds runs;
-      promises = c.worlds_keep_promises.ensures (setup_of s) s.events end bounds drafts grow runs;
+      exact = c.premise_is_exact.ensures x s.events end (serves 1) stays runs;
+      promises = λ holds. record {
+        ordered = c.worlds_keep_promises.ensures.ordered x s.events end (λ i one. serves i) stays runs holds;
+        instances = c.worlds_keep_promises.ensures.instances x s.events end (λ i one. serves i) stays runs holds;
+      };
     }
 
 pub returns-in_err-run_events-clause-cause : goal.returns-in_err-run_events-clause-cause

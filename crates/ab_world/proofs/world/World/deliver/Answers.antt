@@ -7,8 +7,8 @@ use Rattle.ab_keys.specs.Keys.{is_party}
 use Rattle.ab_post.specs.Packets.{nth}
 use Rattle.ab_cast.specs.Setups.{Setup, party_at}
 use Rattle.ab_world.specs.Worlds.{World}
-use Rattle.ab_world.specs.Forgeries.{forged_first}
-use Rattle.ab_world.specs.Steps.{own_log, addressed, delivered, hand, after, stepped_by}
+use Rattle.ab_premise.specs.Premises.{forged_first}
+use Rattle.ab_world.specs.Steps.{standing, addressed, delivered, hand, after, stepped_by}
 use Rattle.ab_world.specs.Handing.{finished}
 use Rattle.ab_world.proofs.StepLemmas.{addressed_is, place_party, handed_setup, handed_is, within_is, delivered_is}
 use Rattle.ab_world.proofs.world.World.deliver.Goals as goal
@@ -26,8 +26,8 @@ finish-requires-clause-party g c =
     let there = addressed_is x c.to.result c.args.core at
     (ap (λ y. addressed y c.to.result c.args.core) (sym c.setup.ensures) ∙ (sym c.addressed.ensures ∙ c.in-Some-addressed.is)) in
     let same = handed_setup g.P.Protocol.proto _ _ at c.self.inside.cast c.hand.new.cast c.in-Ok.handed c.in-Ok.ensures.handed in
-    subst (λ (y : Setup). IsTrue (is_party y.f y.clients c.party-in-Ok.result)) (sym same)
-    (subst (λ (p : Party). IsTrue (is_party x.f x.clients p)) (sym c.party-in-Ok.ensures) (place_party x at there))
+    subst (λ (y : Setup). IsTrue (is_party y.cluster.f y.cluster.clients c.party-in-Ok.result)) (sym same)
+    (subst (λ (p : Party). IsTrue (is_party x.cluster.f x.cluster.clients p)) (sym c.party-in-Ok.ensures) (place_party x at there))
 
 pub returns-in-Ok-clause-ok : goal.returns-in-Ok-clause-ok
 returns-in-Ok-clause-ok g c =
@@ -43,8 +43,7 @@ returns-in-Ok-clause-ok g c =
       seen = c.self.inside.seen.items;
       lines = c.self.inside.lines.items;
       forged = forged_first c.self.inside.forged;
-      links = c.self.inside.links;
-      collided = c.self.inside.collided;
+      watch = record { kept = c.self.inside.digests; collided = c.self.inside.collided };
       ended = c.self.inside.ended;
     } in
     let there : nth w.packets number ≡ Some packet = sym c.get.ensures ∙ ap (option_map (λ p. p.now)) c.in-Some.is in
@@ -52,7 +51,7 @@ returns-in-Ok-clause-ok g c =
     ap (λ p. addressed w.cast.setup p core) (sym c.to.ensures)
     ∙ (ap (λ y. addressed y c.to.result core) (sym c.setup.ensures) ∙ (sym c.addressed.ensures ∙ c.in-Some-addressed.is)) in
     let happens = delivered_is proto w number core packet at there to in
-    let before : c.logged-before.result ≡ length (own_log proto w.cast (party_at at)) = c.logged-before.ensures ∙ ap (λ p. length (own_log proto w.cast p)) c.party.ensures in
+    let before : c.standing-before.result ≡ standing proto w.cast (party_at at) = c.standing-before.ensures ∙ ap (λ p. standing proto w.cast p) c.party.ensures in
     let is = (λ j. finished proto (record w { cast = c.hand.new.cast }) (c.party-in-Ok.ensures j) (before j) c.in-Ok.handed)
     ∙ (handed_is proto w at c.bytes.result.now c.hand.new.cast c.in-Ok.handed c.in-Ok.ensures.handed
     ∙ ap (λ bytes. after proto w (record { place = at; given = hand bytes })) c.bytes.ensures) in

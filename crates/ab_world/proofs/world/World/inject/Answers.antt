@@ -5,8 +5,8 @@ use Rattle.ab_num.specs.declared.party.Party.{Party}
 use Rattle.ab_keys.specs.Keys.{is_party}
 use Rattle.ab_cast.specs.Setups.{Setup, party_at, place_of}
 use Rattle.ab_world.specs.Worlds.{World}
-use Rattle.ab_world.specs.Forgeries.{forged_first}
-use Rattle.ab_world.specs.Steps.{own_log, hand, handed, stepped_by}
+use Rattle.ab_premise.specs.Premises.{forged_first}
+use Rattle.ab_world.specs.Steps.{standing, hand, handed, stepped_by}
 use Rattle.ab_world.specs.Handing.{finished}
 use Rattle.ab_world.proofs.StepLemmas.{place_is, place_party, handed_setup, handed_is, within_is}
 use Rattle.ab_world.proofs.world.World.inject.Goals as goal
@@ -23,8 +23,8 @@ finish-requires-clause-party g c =
     let there = place_is x c.args.core.party c.args.core.twin at
     (ap (λ y. place_of y c.args.core.party c.args.core.twin) (sym c.setup.ensures) ∙ (sym c.place.ensures ∙ c.in-Some.is)) in
     let same = handed_setup g.P.Protocol.proto _ _ at c.self.inside.cast c.hand.new.cast c.in-Ok.handed c.in-Ok.ensures.handed in
-    subst (λ (y : Setup). IsTrue (is_party y.f y.clients c.party-in-Ok.result)) (sym same)
-    (subst (λ (p : Party). IsTrue (is_party x.f x.clients p)) (sym c.party-in-Ok.ensures) (place_party x at there))
+    subst (λ (y : Setup). IsTrue (is_party y.cluster.f y.cluster.clients c.party-in-Ok.result)) (sym same)
+    (subst (λ (p : Party). IsTrue (is_party x.cluster.f x.cluster.clients p)) (sym c.party-in-Ok.ensures) (place_party x at there))
 
 pub returns-in-Ok-clause-ok : goal.returns-in-Ok-clause-ok
 returns-in-Ok-clause-ok g c =
@@ -39,13 +39,12 @@ returns-in-Ok-clause-ok g c =
       seen = c.self.inside.seen.items;
       lines = c.self.inside.lines.items;
       forged = forged_first c.self.inside.forged;
-      links = c.self.inside.links;
-      collided = c.self.inside.collided;
+      watch = record { kept = c.self.inside.digests; collided = c.self.inside.collided };
       ended = c.self.inside.ended;
     } in
     let there : place_of w.cast.setup core.party core.twin ≡ Some at =
     ap (λ y. place_of y core.party core.twin) (sym c.setup.ensures) ∙ (sym c.place.ensures ∙ c.in-Some.is) in
-    let before : c.logged-before.result ≡ length (own_log proto w.cast (party_at at)) = c.logged-before.ensures ∙ ap (λ p. length (own_log proto w.cast p)) c.party.ensures in
+    let before : c.standing-before.result ≡ standing proto w.cast (party_at at) = c.standing-before.ensures ∙ ap (λ p. standing proto w.cast p) c.party.ensures in
     let is = (λ j. finished proto (record w { cast = c.hand.new.cast }) (c.party-in-Ok.ensures j) (before j) c.in-Ok.handed)
     ∙ handed_is proto w at bytes c.hand.new.cast c.in-Ok.handed c.in-Ok.ensures.handed in
     subst (λ (v : World g.row.P.Denot). OnOk c.finish.result (stepped_by proto v (handed bytes (place_of v.cast.setup core.party core.twin)) ≡ Ok c.finish.new.self)) c.self.view_is

@@ -1,0 +1,5 @@
+-- Lemmas of this crate.
+pub mod Looks
+pub mod Watches
+pub mod Lines
+pub mod Spelled

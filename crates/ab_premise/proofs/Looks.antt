@@ -1,0 +1,427 @@
+-- What is looked at in an event is what the run then has.
+use Rattle.std.proofs.Common.{◌≡◌, ℕ, ◌<◌, ◌⊎◌, true, false, Bool, Some, None, Option, List, [], ◌∷◌, ◌++◌, length, map, refl, sym, ap, ◌∙◌, subst, inl, inr, arith, append-nil, true≢false}
+use Rattle.std.specs.Prelude.{Contains, nat_lt, ◌==◌, if◌then◌else◌}
+use mathlib.Core.List.{IsPrefix}
+use Rattle.std.proofs.lemmas.Bool.{cases_Bool, cases_eq, ltb-true}
+use Rattle.std.proofs.lemmas.Grind.{flat_map-append}
+use Rattle.std.proofs.lemmas.List.Elements.{Contains-append_left, Contains-append_right, Contains-append_cases}
+use Rattle.ab_num.specs.declared.party.Party.{Party}
+use Rattle.ab_num.specs.declared.plan.Kind.{Kind}
+use Rattle.ab_num.specs.declared.party.Party.TheVariants.{Replica, Client}
+use Rattle.ab_hist.specs.declared.request.Request.{Request}
+use Rattle.ab_msg.specs.declared.signed.Signed.{Signed}
+use Rattle.ab_msg.specs.declared.message.Msg.{Msg}
+use Rattle.ab_msg.specs.declared.message.Msg.TheVariants as msg
+use Rattle.ab_msg.specs.Claims.{instance_in, maker_of}
+use Rattle.ab_msg.specs.Grammar.{IsMessage}
+use Rattle.ab_abs.specs.Faults.{is_faulty}
+use Rattle.ab_abs.specs.Acts.{with_first}
+use Rattle.ab_abs.specs.Messages.{Call, took, timed}
+use Rattle.ab_abs.specs.Ensembles.{Proto}
+use Rattle.ab_abs.specs.Places.{KeepsForm}
+use Rattle.ab_abs.proofs.Prefixes.{prefix_is_take}
+use Rattle.ab_links.specs.Links.{Continues}
+use Rattle.ab_links.specs.Digested.{Item, history, request, item_histories, item_requests, histories_of, requests_of, BeginsIn}
+use Rattle.ab_links.proofs.ListLemmas.{HasSame, Contains-cons_cases, Contains-head, Contains-tail}
+use Rattle.ab_run.specs.Setups.{Setup, replicas}
+use Rattle.ab_run.specs.Replicas.{Rep, Turn, turn_call, turn_sign, turn_bring, turn_abort, state_at, after_turn, client_of, aborting, aborting_with, late, here, taken_in, due, is_spent, turns}
+use Rattle.ab_run.specs.Runs.{Event, invoke, to_replica, to_client, replica_time, client_time, Run, step, start, had_at, histories_for, requests_for}
+use Rattle.ab_run.specs.Local.{after_turns, rep_after, cue_command, cue_message, cue_time, Cue}
+use Rattle.ab_run.specs.Stages.{had_in_turns, had_in_call, call_histories, call_requests}
+use Rattle.ab_run.proofs.Effects.{at_call, at_cue, called, reps_apart}
+use Rattle.ab_run.proofs.Shown.{grown, followed}
+use Rattle.ab_premise.specs.Collisions.{StaysEntered, checked_items, first_items, known_of, state_items, call_items, client_items, items_of}
+
+-- a call that is a message whose bytes are known, or the timer
+abbrev pub IsBuilt : Call → Type 0
+IsBuilt (took m) = IsMessage m
+IsBuilt timed = Unit {0}
+
+abbrev pub IsBuiltEvent : Event → Type 0
+IsBuiltEvent (invoke c command) = Unit {0}
+IsBuiltEvent (to_replica r m) = IsMessage m
+IsBuiltEvent (to_client c m) = IsMessage m
+IsBuiltEvent (replica_time r) = Unit {0}
+IsBuiltEvent (client_time c) = Unit {0}
+
+-- ---- the turns of an event
+
+-- turns that leave the value where it is, or one call
+pub data IsQuiet : Turn → Type 0 where
+  signs : IsQuiet turn_sign
+  brings : (c : ℕ) → IsQuiet (turn_bring c)
+  aborts : (c : ℕ) → IsQuiet (turn_abort c)
+
+abbrev pub AllQuiet : List Turn → Type 0
+AllQuiet [] = Unit {0}
+AllQuiet (t ∷ ts) = IsQuiet t × AllQuiet ts
+
+pub data IsCalm : List Turn → Type 0 where
+  still : (ts : List Turn) → AllQuiet ts → IsCalm ts
+  once : (call : Call) → IsBuilt call → IsCalm (turn_call call ∷ [])
+
+calm_if : (b : Bool) (ts us : List Turn) → IsCalm ts → IsCalm us → IsCalm (if b then ts else us)
+calm_if true ts us one other = one
+calm_if false ts us one other = other
+
+aborting_calm : (c : ℕ) (o : Option Signed) → IsCalm (aborting_with c o)
+aborting_calm c None = still (turn_sign ∷ turn_abort c ∷ []) (signs, (aborts c, tt))
+aborting_calm c (Some abort) = still (turn_abort c ∷ []) (aborts c, tt)
+
+module _ {P : Type 0} (k : Setup) (proto : Proto P) where
+  here_calm : (s : Rep P) (m : Msg) → IsMessage m → IsCalm (here k proto s m)
+  here_calm s (msg.Req content tags) is =
+      calm_if (state_at k proto s).stopped (aborting k proto (client_of (maker_of content)) s) (turn_call (took (msg.Req content tags)) ∷ []) (aborting_calm (client_of (maker_of content)) s.abort) (once (took (msg.Req content tags)) is)
+  here_calm s (msg.Resp content tag) is = once (took (msg.Resp content tag)) is
+  here_calm s _ is = absurd (is)
+
+  late_calm : (m : Msg) → IsMessage m → IsCalm (late m)
+  late_calm (msg.Req content tags) is = still (turn_bring (client_of (maker_of content)) ∷ []) (brings (client_of (maker_of content)), tt)
+  late_calm (msg.Resp content tag) is = still [] tt
+  late_calm _ is = absurd (is)
+
+  taken_calm : (s : Rep P) (m : Msg) (i : Option ℕ) → IsMessage m → IsCalm (taken_in k proto s m i)
+  taken_calm s m None is = still [] tt
+  taken_calm s m (Some i) is =
+      calm_if (i == s.at) (here k proto s m) (if nat_lt i s.at then late m else []) (here_calm s m is) (calm_if (nat_lt i s.at) (late m) [] (late_calm m is) (still [] tt))
+
+  pub due_calm : (r : ℕ) (s : Rep P) (call : Call) → IsBuilt call → IsCalm (due k proto r s call)
+  due_calm r s (took (msg.Req content tags)) is = taken_calm s (msg.Req content tags) (instance_in (msg.Req content tags)) is
+  due_calm r s (took (msg.Resp content tag)) is = taken_calm s (msg.Resp content tag) (instance_in (msg.Resp content tag)) is
+  due_calm r s (took _) is = absurd (is)
+  due_calm r s timed is = once timed tt
+
+  pub turns_calm : (r : ℕ) (s : Rep P) (call : Call) → IsBuilt call → IsCalm (turns k proto r s call)
+  turns_calm r s call is = calm_if (is_spent k proto r s call) [] (due k proto r s call) (still [] tt) (due_calm r s call is)
+
+  -- a replica went from s to now, and had these on the way
+  record Went (s now : Rep P) (had : List (List Request)) : Type 0 where
+    entered : (state_at k proto now).entered ≡ (state_at k proto s).entered
+    grows : IsPrefix (state_at k proto s).log (state_at k proto now).log
+    each : (h : List Request) → Contains had h → Contains (had_at (state_at k proto s)) h ⊎ Contains (had_at (state_at k proto now)) h
+    last : (h : List Request) → Contains (had_at (state_at k proto now)) h → Contains had h ⊎ Contains (had_at (state_at k proto s)) h
+
+  -- the value stays
+  record Stays (r : ℕ) (ts : List Turn) (s : Rep P) : Type 0 where
+    same : (after_turns k proto r s ts).value ≡ s.value
+    each : (h : List Request) → Contains (had_in_turns k proto r s ts) h → Contains (had_at (state_at k proto s)) h
+
+  quiet_one : (r : ℕ) (t : Turn) (ts : List Turn) (s : Rep P) → IsQuiet t → (after_turn k proto r s t).value ≡ s.value
+  quiet_one r t ts s signs = refl
+  quiet_one r t ts s (brings c) = refl
+  quiet_one r t ts s (aborts c) = refl
+
+  quiet_stays : (r : ℕ) (ts : List Turn) (s : Rep P) → AllQuiet ts → Stays r ts s
+  quiet_stays r [] s all = record { same = refl; each = λ h gone. absurd (omega (arith, gone.1)) }
+  quiet_stays r (t ∷ ts) s all =
+      let now = after_turn k proto r s t in
+      let rest = quiet_stays r ts now all.1 in
+      let one = quiet_one r t ts s all.0 in
+      record {
+        same = rest.same ∙ one;
+        each = λ h has.
+            subst (λ (v : P). Contains (had_at (proto.state v)) h) one
+            (elim (Contains-append_cases (had_in_turns k proto r now ts) (had_at (state_at k proto now)) h has) [
+              | inl later ↦ rest.each h later
+              | inr first ↦ first
+            ]);
+      }
+
+  module _ {serves : Kind → Bool} (form : KeepsForm proto serves) (stays : StaysEntered proto) where
+    calm_went : (r : ℕ) (ts : List Turn) (s : Rep P) → IsCalm ts → Went s (after_turns k proto r s ts) (had_in_turns k proto r s ts)
+    calm_went r ts s (still _ all) =
+        let is = quiet_stays r ts s all in
+        record {
+          entered = ap (λ (v : P). (proto.state v).entered) is.same;
+          grows = subst (λ (v : P). IsPrefix (state_at k proto s).log (proto.state v).log) (sym is.same) ([], append-nil (state_at k proto s).log);
+          each = λ h has. inl (is.each h has);
+          last = λ h has. inr (subst (λ (v : P). Contains (had_at (proto.state v)) h) is.same has);
+        }
+    calm_went r ts s (once call built) = record {
+      entered = stays.called (record { used = s.used; sig = k.sig r }) s.value call;
+      grows = form.grows (record { used = s.used; sig = k.sig r }) s.value call;
+      each = λ h has. inr has;
+      last = λ h has. inl has;
+    }
+
+    call_went : (r : ℕ) (s : Rep P) (call : Call) → IsBuilt call → Went s (rep_after k proto r s call) (had_in_turns k proto r s (turns k proto r s call))
+    call_went r s call is = calm_went r (turns k proto r s call) s (turns_calm r s call is)
+
+-- ---- what items hold
+
+requests_none : (hs : List (List Request)) (ms : List Request) → requests_of (checked_items hs ms) ≡ ms
+requests_none [] [] = refl
+requests_none [] (m ∷ ms) = ap (λ l. m ∷ l) (requests_none [] ms)
+requests_none (h ∷ hs) ms = requests_none hs ms
+
+histories_all : (hs : List (List Request)) (ms : List Request) → histories_of (checked_items hs ms) ≡ hs
+histories_all [] [] = refl
+histories_all [] (m ∷ ms) = histories_all [] ms
+histories_all (h ∷ hs) ms = ap (λ l. h ∷ l) (histories_all hs ms)
+
+checked_begin : (had hs : List (List Request)) (ms : List Request) (item : Item) → Contains (checked_items hs ms) item → BeginsIn had item
+checked_begin had [] [] item gone = absurd (omega (arith, gone.1))
+checked_begin had [] (m ∷ ms) item has = elim (Contains-cons_cases (request m) (map request ms) item has) [
+  | inl e ↦ subst (BeginsIn had) e tt
+  | inr more ↦ checked_begin had [] ms item more
+]
+checked_begin had (h ∷ hs) ms item has = elim (Contains-cons_cases (history h 0) (checked_items hs ms) item has) [
+  | inl e ↦ subst (BeginsIn had) e (λ some. absurd (omega (arith, some)))
+  | inr more ↦ checked_begin had hs ms item more
+]
+
+histories_first : (o : Option (List Request)) → histories_of (first_items o) ≡ with_first o
+histories_first None = refl
+histories_first (Some h) = refl
+
+requests_first : (o : Option (List Request)) → requests_of (first_items o) ≡ []
+requests_first None = refl
+requests_first (Some h) = refl
+
+first_begin : (had : List (List Request)) (o : Option (List Request)) (item : Item) → Contains (first_items o) item → BeginsIn had item
+first_begin had None item gone = absurd (omega (arith, gone.1))
+first_begin had (Some h) item has = elim (Contains-cons_cases (history h 0) [] item has) [
+  | inl e ↦ subst (BeginsIn had) e (λ some. absurd (omega (arith, some)))
+  | inr gone ↦ absurd (omega (arith, gone.1))
+]
+
+-- what a run has after an event is what it had, and what was looked at in it
+pub record Looks {P : Type 0} (w v : Run P) (items : List Item) : Type 0 where
+  pub histories : HasSame (w.had ++ histories_of items) v.had
+  pub requests : HasSame (w.asked ++ requests_of items) v.asked
+  pub begins : (item : Item) → Contains items item → BeginsIn w.had item
+
+swap : {A : Type 0} (xs ys : List A) → HasSame (xs ++ ys) (ys ++ xs)
+swap xs ys a = (
+  λ at. elim (Contains-append_cases xs ys a at) [
+    | inl one ↦ Contains-append_right ys xs a one
+    | inr other ↦ Contains-append_left ys xs a other
+  ],
+  λ at. elim (Contains-append_cases ys xs a at) [
+    | inl one ↦ Contains-append_right xs ys a one
+    | inr other ↦ Contains-append_left xs ys a other
+  ],
+)
+
+-- nothing is looked at
+nothing_looks : {P : Type 0} (w v : Run P) → v.had ≡ w.had → v.asked ≡ w.asked → Looks w v []
+nothing_looks w v had asked = record {
+  histories = subst (λ l. HasSame (w.had ++ []) l) (sym had) (subst (λ l. HasSame l w.had) (sym (append-nil w.had)) (λ h. (λ at. at, λ at. at)));
+  requests = subst (λ l. HasSame (w.asked ++ []) l) (sym asked) (subst (λ l. HasSame l w.asked) (sym (append-nil w.asked)) (λ h. (λ at. at, λ at. at)));
+  begins = λ item gone. absurd (omega (arith, gone.1));
+}
+
+-- what is checked alone
+checked_looks : {P : Type 0} (w v : Run P) (hs : List (List Request)) (ms : List Request) → v.had ≡ hs ++ w.had → v.asked ≡ ms ++ w.asked → Looks w v (checked_items hs ms)
+checked_looks w v hs ms had asked = record {
+  histories = subst (λ l. HasSame (w.had ++ histories_of (checked_items hs ms)) l) (sym had) (subst (λ l. HasSame (w.had ++ l) (hs ++ w.had)) (sym (histories_all hs ms)) (swap w.had hs));
+  requests = subst (λ l. HasSame (w.asked ++ requests_of (checked_items hs ms)) l) (sym asked) (subst (λ l. HasSame (w.asked ++ l) (ms ++ w.asked)) (sym (requests_none hs ms)) (swap w.asked ms));
+  begins = checked_begin w.had hs ms;
+}
+
+module _ {P : Type 0} (k : Setup) (proto : Proto P) {serves : Kind → Bool} (form : KeepsForm proto serves) (stays : StaysEntered proto) where
+  -- what each correct replica has, the run has
+  abbrev pub HasOwn : Run P → Type 0
+  HasOwn w = (r : ℕ) → r < replicas k → is_faulty k.faulty (Replica r) ≡ false → (h : List Request) → Contains (had_at (state_at k proto (w.reps r))) h → Contains w.had h
+
+  state_histories : (s now : Rep P) → histories_of (state_items k proto s now) ≡ (state_at k proto now).log ∷ with_first (state_at k proto now).first
+  state_histories s now = ap (λ l. (state_at k proto now).log ∷ l) (histories_first (state_at k proto now).first)
+
+  known_begins : (had : List (List Request)) (s now : Rep P) (b : Bool) → IsPrefix (state_at k proto s).log (state_at k proto now).log → Contains had (state_at k proto s).log
+      → Continues had (state_at k proto now).log (if b then length (state_at k proto s).log else 0)
+  known_begins had s now true grows has some =
+      ((state_at k proto s).log, has, subst (λ l. IsPrefix l (state_at k proto s).log) (prefix_is_take (state_at k proto s).log (state_at k proto now).log grows) ([], append-nil (state_at k proto s).log))
+  known_begins had s now false grows has some = absurd (omega (arith, some))
+
+  state_begins : (had : List (List Request)) (s now : Rep P) → IsPrefix (state_at k proto s).log (state_at k proto now).log → Contains had (state_at k proto s).log
+      → (item : Item) → Contains (state_items k proto s now) item → BeginsIn had item
+  state_begins had s now grows has item at = elim (Contains-cons_cases (history (state_at k proto now).log (known_of k proto s now)) (first_items (state_at k proto now).first) item at) [
+    | inl e ↦ subst (BeginsIn had) e (known_begins had s now (s.at == now.at) grows has)
+    | inr more ↦ first_begin had (state_at k proto now).first item more
+  ]
+
+  module _ (w v : Run P) (s now : Rep P) (hs more : List (List Request)) (ms : List Request) (went : Went k proto s now more) (own : (h : List Request) → Contains (had_at (state_at k proto s)) h → Contains w.had h)
+      (had : v.had ≡ more ++ (hs ++ w.had)) (asked : v.asked ≡ ms ++ w.asked) where
+    abbrev items : List Item
+    items = checked_items hs ms ++ state_items k proto s now
+
+    histories_are : histories_of items ≡ hs ++ ((state_at k proto now).log ∷ with_first (state_at k proto now).first)
+    histories_are =
+        flat_map-append item_histories (checked_items hs ms) (state_items k proto s now)
+        ∙ (λ j. histories_all hs ms j ++ state_histories s now j)
+
+    requests_are : requests_of items ≡ ms
+    requests_are =
+        flat_map-append item_requests (checked_items hs ms) (state_items k proto s now)
+        ∙ (λ j. requests_none hs ms j ++ requests_first (state_at k proto now).first j)
+        ∙ append-nil ms
+
+    of_new : (h : List Request) → Contains ((state_at k proto now).log ∷ with_first (state_at k proto now).first) h → Contains (had_at (state_at k proto now)) h
+    of_new h has = elim (Contains-cons_cases (state_at k proto now).log (with_first (state_at k proto now).first) h has) [
+      | inl e ↦ subst (Contains (had_at (state_at k proto now))) e (Contains-head (state_at k proto now).log ((state_at k proto now).entered ∷ with_first (state_at k proto now).first))
+      | inr first ↦ Contains-tail (state_at k proto now).log ((state_at k proto now).entered ∷ with_first (state_at k proto now).first) h (Contains-tail (state_at k proto now).entered (with_first (state_at k proto now).first) h first)
+    ]
+
+    entered_had : Contains w.had (state_at k proto now).entered
+    entered_had =
+        subst (Contains w.had) (sym went.entered)
+        (own (state_at k proto s).entered (Contains-tail (state_at k proto s).log ((state_at k proto s).entered ∷ with_first (state_at k proto s).first) (state_at k proto s).entered (Contains-head (state_at k proto s).entered (with_first (state_at k proto s).first))))
+
+    is_looked : (h : List Request) → Contains (had_at (state_at k proto now)) h → Contains w.had h ⊎ Contains ((state_at k proto now).log ∷ with_first (state_at k proto now).first) h
+    is_looked h has = elim (Contains-cons_cases (state_at k proto now).log ((state_at k proto now).entered ∷ with_first (state_at k proto now).first) h has) [
+      | inl e ↦ inr (subst (Contains ((state_at k proto now).log ∷ with_first (state_at k proto now).first)) e (Contains-head (state_at k proto now).log (with_first (state_at k proto now).first)))
+      | inr rest ↦ elim (Contains-cons_cases (state_at k proto now).entered (with_first (state_at k proto now).first) h rest) [
+        | inl e ↦ inl (subst (Contains w.had) e entered_had)
+        | inr first ↦ inr (Contains-tail (state_at k proto now).log (with_first (state_at k proto now).first) h first)
+      ]
+    ]
+
+    abbrev New : List (List Request)
+    New = (state_at k proto now).log ∷ with_first (state_at k proto now).first
+
+    there : (h : List Request) → Contains (w.had ++ (hs ++ New)) h → Contains (more ++ (hs ++ w.had)) h
+    there h has = elim (Contains-append_cases w.had (hs ++ New) h has) [
+      | inl old ↦ Contains-append_right more (hs ++ w.had) h (Contains-append_right hs w.had h old)
+      | inr rest ↦ elim (Contains-append_cases hs New h rest) [
+        | inl checked ↦ Contains-append_right more (hs ++ w.had) h (Contains-append_left hs w.had h checked)
+        | inr new ↦ elim (went.last h (of_new h new)) [
+          | inl on_way ↦ Contains-append_left more (hs ++ w.had) h on_way
+          | inr before ↦ Contains-append_right more (hs ++ w.had) h (Contains-append_right hs w.had h (own h before))
+        ]
+      ]
+    ]
+
+    back : (h : List Request) → Contains (more ++ (hs ++ w.had)) h → Contains (w.had ++ (hs ++ New)) h
+    back h has = elim (Contains-append_cases more (hs ++ w.had) h has) [
+      | inl on_way ↦ elim (went.each h on_way) [
+        | inl before ↦ Contains-append_left w.had (hs ++ New) h (own h before)
+        | inr after ↦ elim (is_looked h after) [
+          | inl old ↦ Contains-append_left w.had (hs ++ New) h old
+          | inr new ↦ Contains-append_right w.had (hs ++ New) h (Contains-append_right hs New h new)
+        ]
+      ]
+      | inr rest ↦ elim (Contains-append_cases hs w.had h rest) [
+        | inl checked ↦ Contains-append_right w.had (hs ++ New) h (Contains-append_left hs New h checked)
+        | inr old ↦ Contains-append_left w.had (hs ++ New) h old
+      ]
+    ]
+
+    went_looks : Looks w v items
+    went_looks = record {
+      histories = subst (λ l. HasSame (w.had ++ histories_of items) l) (sym had) (subst (λ l. HasSame (w.had ++ l) (more ++ (hs ++ w.had))) (sym histories_are) (λ h. (there h, back h)));
+      requests = subst (λ l. HasSame (w.asked ++ requests_of items) l) (sym asked) (subst (λ l. HasSame (w.asked ++ l) (ms ++ w.asked)) (sym requests_are) (swap w.asked ms));
+      begins = λ item at. elim (Contains-append_cases (checked_items hs ms) (state_items k proto s now) item at) [
+        | inl checked ↦ checked_begin w.had hs ms item checked
+        | inr new ↦
+            state_begins w.had s now went.grows
+            (own (state_at k proto s).log (Contains-head (state_at k proto s).log ((state_at k proto s).entered ∷ with_first (state_at k proto s).first))) item new
+      ];
+    }
+
+    own_again : (h : List Request) → Contains (had_at (state_at k proto now)) h → Contains v.had h
+    own_again h has = subst (λ l. Contains l h) (sym had) (elim (went.last h has) [
+      | inl on_way ↦ Contains-append_left more (hs ++ w.had) h on_way
+      | inr before ↦ Contains-append_right more (hs ++ w.had) h (Contains-append_right hs w.had h (own h before))
+    ])
+
+  -- ---- one event
+
+  of_bad : (p : Party) (call : Call) → is_faulty k.faulty p ≡ true → (call_histories k p call ≡ []) × (call_requests k p call ≡ [])
+  of_bad p (took m) bad = (rw bad refl, rw bad refl)
+  of_bad p timed bad = (refl, refl)
+
+  pub record Seen (w v : Run P) (items : List Item) : Type 0 where
+    pub looks : Looks w v items
+    pub owns : HasOwn v
+
+  others_own : (w v : Run P) (r : ℕ) → HasOwn w → ((q : ℕ) → (q ≡ r → ⊥) → v.reps q ≡ w.reps q) → ((h : List Request) → Contains w.had h → Contains v.had h)
+      → (is_faulty k.faulty (Replica r) ≡ false → (h : List Request) → Contains (had_at (state_at k proto (v.reps r))) h → Contains v.had h) → HasOwn v
+  others_own w v r own others more here q lt good h has = elim (cases_eq q r) [
+    | inl e ↦ here (subst (λ n. is_faulty k.faulty (Replica n) ≡ false) e good) h (subst (λ n. Contains (had_at (state_at k proto (v.reps n))) h) e has)
+    | inr ne ↦ more h (own q lt good h (subst (λ s. Contains (had_at (state_at k proto s)) h) (others q ne) has))
+  ]
+
+  call_seen : (w : Run P) (r : ℕ) (call : Call) → HasOwn w → IsBuilt call → Seen w (at_call k proto w r call) (if nat_lt r (replicas k) then call_items k proto r (w.reps r) call else [])
+  call_seen w r call own built = elim (cases_Bool (nat_lt r (replicas k))) [
+    | inl there ↦
+        let lt = ltb-true r (replicas k) there in
+        let v = at_call k proto w r call in
+        let g = grown k proto w r call lt in
+        let c = called k proto w r call lt in
+        let s = w.reps r in
+        let now = rep_after k proto r s call in
+        let hs = call_histories k (Replica r) call in
+        let ms = call_requests k (Replica r) call in
+        let more = had_in_turns k proto r s (turns k proto r s call) in
+        let all = call_items k proto r s call in
+        let taken : (if nat_lt r (replicas k) then all else []) ≡ all = ap (λ (b : Bool). if b then all else []) there in
+        let wider : (h : List Request) → Contains w.had h → Contains v.had h =
+        λ h has. subst (λ l. Contains l h) (sym g.had) (Contains-append_right (had_in_call k proto r s call) (hs ++ w.had) h (Contains-append_right hs w.had h has)) in
+        elim (cases_Bool (is_faulty k.faulty (Replica r))) [
+          | inl bad ↦
+              let none = of_bad (Replica r) call bad in
+              let nothing : all ≡ [] = ap (λ (b : Bool). if b then [] else checked_items hs ms ++ state_items k proto s now) bad in
+              let had : v.had ≡ w.had = g.had ∙ (λ j. (if bad j then [] else more) ++ (none.0 j ++ w.had)) in
+              let asked : v.asked ≡ w.asked = g.asked ∙ ap (λ l. l ++ w.asked) none.1 in
+              record {
+                looks = subst (Looks w v) (sym (taken ∙ nothing)) (nothing_looks w v had asked);
+                owns = others_own w v r own c.others wider (λ good. absurd (true≢false (sym bad ∙ good)));
+              }
+          | inr good ↦
+              let went = call_went k proto form stays r s call built in
+              let something : all ≡ checked_items hs ms ++ state_items k proto s now = ap (λ (b : Bool). if b then [] else checked_items hs ms ++ state_items k proto s now) good in
+              let had : v.had ≡ more ++ (hs ++ w.had) = g.had ∙ ap (λ (b : Bool). (if b then [] else more) ++ (hs ++ w.had)) good in
+              record {
+                looks = subst (Looks w v) (sym (taken ∙ something)) (went_looks w v s now hs more ms went (own r lt good) had g.asked);
+                owns = others_own w v r own c.others wider
+                    (λ _ h has. own_again w v s now hs more ms went (own r lt good) had g.asked h (subst (λ z. Contains (had_at (state_at k proto z)) h) c.own has));
+              }
+        ]
+    | inr gone ↦ rw gone (record { looks = nothing_looks w w refl refl; owns = own })
+  ]
+
+  clients_own : (w v : Run P) → HasOwn w → ((q : ℕ) → v.reps q ≡ w.reps q) → ((h : List Request) → Contains w.had h → Contains v.had h) → HasOwn v
+  clients_own w v own reps more q lt good h has = more h (own q lt good h (subst (λ s. Contains (had_at (state_at k proto s)) h) (reps q) has))
+
+  message_seen : (w : Run P) (c : ℕ) (m : Msg) → HasOwn w → Seen w (at_cue k proto w c (cue_message m)) (if nat_lt c k.cluster.clients then client_items k proto c m else [])
+  message_seen w c m own = elim (cases_Bool (nat_lt c k.cluster.clients)) [
+    | inl there ↦
+        let lt = ltb-true c k.cluster.clients there in
+        let v = at_cue k proto w c (cue_message m) in
+        let f = followed k proto w c (cue_message m) lt in
+        let all = client_items k proto c m in
+        let taken : (if nat_lt c k.cluster.clients then all else []) ≡ all = ap (λ (b : Bool). if b then all else []) there in
+        record {
+          looks = subst (Looks w v) (sym taken) (checked_looks w v (histories_for k (Client c) m) (requests_for k (Client c) m) f.had f.asked);
+          owns = clients_own w v own (reps_apart k proto w c (cue_message m)) (λ h has. subst (λ l. Contains l h) (sym f.had) (Contains-append_right (histories_for k (Client c) m) w.had h has));
+        }
+    | inr gone ↦ rw gone (record { looks = nothing_looks w w refl refl; owns = own })
+  ]
+
+  silent_seen : (w : Run P) (c : ℕ) (cue : Cue) → (c < k.cluster.clients → ((at_cue k proto w c cue).had ≡ w.had) × ((at_cue k proto w c cue).asked ≡ w.asked)) → HasOwn w → Seen w (at_cue k proto w c cue) []
+  silent_seen w c cue same own = elim (cases_Bool (nat_lt c k.cluster.clients)) [
+    | inl there ↦
+        let (had, asked) = same (ltb-true c k.cluster.clients there) in
+        record {
+          looks = nothing_looks w (at_cue k proto w c cue) had asked;
+          owns = clients_own w (at_cue k proto w c cue) own (reps_apart k proto w c cue) (λ h has. subst (λ l. Contains l h) (sym had) has);
+        }
+    | inr gone ↦ rw gone (record { looks = nothing_looks w w refl refl; owns = own })
+  ]
+
+  pub event_seen : (w : Run P) (e : Event) → HasOwn w → IsBuiltEvent e → Seen w (step k proto w e) (items_of k proto w e)
+  event_seen w (invoke c command) own built = silent_seen w c (cue_command command) (λ lt. let f = followed k proto w c (cue_command command) lt in (f.had, f.asked)) own
+  event_seen w (to_replica r m) own built = call_seen w r (took m) own built
+  event_seen w (to_client c m) own built = message_seen w c m own
+  event_seen w (replica_time r) own built = call_seen w r timed own tt
+  event_seen w (client_time c) own built = silent_seen w c cue_time (λ lt. let f = followed k proto w c cue_time lt in (f.had, f.asked)) own
+
+  -- before the first event a replica has nothing
+  pub start_own : HasOwn (start k proto)
+  start_own r lt good h has =
+      let blank = form.starts k.cluster r in
+      let had : had_at (state_at k proto ((start k proto).reps r)) ≡ [] ∷ [] ∷ [] = λ j. blank.logged j ∷ (blank.entered j ∷ with_first (blank.first j)) in
+      elim (Contains-cons_cases [] ([] ∷ []) h (subst (λ l. Contains l h) had has)) [
+        | inl e ↦ subst (Contains ([] ∷ [])) e (Contains-head [] [])
+        | inr more ↦ more
+      ]
