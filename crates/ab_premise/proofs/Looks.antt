@@ -30,7 +30,7 @@ use Rattle.ab_run.specs.Local.{after_turns, rep_after, cue_command, cue_message,
 use Rattle.ab_run.specs.Stages.{had_in_turns, had_in_call, call_histories, call_requests}
 use Rattle.ab_run.proofs.Effects.{at_call, at_cue, called, reps_apart}
 use Rattle.ab_run.proofs.Shown.{grown, followed}
-use Rattle.ab_premise.specs.Collisions.{StaysEntered, checked_items, first_items, known_of, state_items, call_items, client_items, items_of}
+use Rattle.ab_premise.specs.Collisions.{checked_items, first_items, known_of, state_items, call_items, client_items, items_of}
 
 -- a call that is a message whose bytes are known, or the timer
 abbrev pub IsBuilt : Call → Type 0
@@ -127,7 +127,7 @@ module _ {P : Type 0} (k : Setup) (proto : Proto P) where
             ]);
       }
 
-  module _ {serves : Kind → Bool} (form : KeepsForm proto serves) (stays : StaysEntered proto) where
+  module _ {serves : Kind → Bool} (form : KeepsForm proto serves) where
     calm_went : (r : ℕ) (ts : List Turn) (s : Rep P) → IsCalm ts → Went s (after_turns k proto r s ts) (had_in_turns k proto r s ts)
     calm_went r ts s (still _ all) =
         let is = quiet_stays r ts s all in
@@ -138,7 +138,7 @@ module _ {P : Type 0} (k : Setup) (proto : Proto P) where
           last = λ h has. inr (subst (λ (v : P). Contains (had_at (proto.state v)) h) is.same has);
         }
     calm_went r ts s (once call built) = record {
-      entered = stays.called (record { used = s.used; sig = k.sig r }) s.value call;
+      entered = form.entered_stays (record { used = s.used; sig = k.sig r }) s.value call;
       grows = form.grows (record { used = s.used; sig = k.sig r }) s.value call;
       each = λ h has. inr has;
       last = λ h has. inl has;
@@ -219,7 +219,7 @@ checked_looks w v hs ms had asked = record {
   begins = checked_begin w.had hs ms;
 }
 
-module _ {P : Type 0} (k : Setup) (proto : Proto P) {serves : Kind → Bool} (form : KeepsForm proto serves) (stays : StaysEntered proto) where
+module _ {P : Type 0} (k : Setup) (proto : Proto P) {serves : Kind → Bool} (form : KeepsForm proto serves) where
   -- what each correct replica has, the run has
   abbrev pub HasOwn : Run P → Type 0
   HasOwn w = (r : ℕ) → r < replicas k → is_faulty k.faulty (Replica r) ≡ false → (h : List Request) → Contains (had_at (state_at k proto (w.reps r))) h → Contains w.had h
@@ -368,7 +368,7 @@ module _ {P : Type 0} (k : Setup) (proto : Proto P) {serves : Kind → Bool} (fo
                 owns = others_own w v r own c.others wider (λ good. absurd (true≢false (sym bad ∙ good)));
               }
           | inr good ↦
-              let went = call_went k proto form stays r s call built in
+              let went = call_went k proto form r s call built in
               let something : all ≡ checked_items hs ms ++ state_items k proto s now = ap (λ (b : Bool). if b then [] else checked_items hs ms ++ state_items k proto s now) good in
               let had : v.had ≡ more ++ (hs ++ w.had) = g.had ∙ ap (λ (b : Bool). (if b then [] else more) ++ (hs ++ w.had)) good in
               record {

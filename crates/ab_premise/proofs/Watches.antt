@@ -14,7 +14,7 @@ use Rattle.ab_run.specs.Setups.{Setup}
 use Rattle.ab_run.specs.Runs.{Event, invoke, to_replica, to_client, replica_time, client_time, Run, run, step}
 use Rattle.ab_run.specs.Inputs.{Input, told, came, rang, elsewhere, Opener, opened, event_in, events_in}
 use Rattle.ab_premise.specs.declared.breach.Collision.{Collision}
-use Rattle.ab_premise.specs.Collisions.{taker_of, IsFree, IsCollidedAt, StaysEntered, OpensMessages, Watch, first_watch, first_collision, looked, looked_in, items_of, watched}
+use Rattle.ab_premise.specs.Collisions.{taker_of, IsFree, IsCollidedAt, OpensMessages, Watch, first_watch, first_collision, looked, looked_in, items_of, watched}
 use Rattle.ab_premise.proofs.Looks.{IsBuiltEvent, Looks, HasOwn, event_seen, start_own}
 
 mk : ℕ → Party → Collision
@@ -41,7 +41,7 @@ came_so opens built (rang (Replica r)) = eventful (replica_time r) (Replica r) r
 came_so opens built (rang (Client c)) = eventful (client_time c) (Client c) refl refl tt
 came_so opens built elsewhere = quiet refl
 
-module _ {P : Type 0} (k : Setup) (proto : Proto P) {serves : Kind → Bool} (form : KeepsForm proto serves) (stays : StaysEntered proto) (opens : Opener) where
+module _ {P : Type 0} (k : Setup) (proto : Proto P) {serves : Kind → Bool} (form : KeepsForm proto serves) (opens : Opener) where
   abbrev at : List Input → Run P
   at inputs = run k proto (events_in opens inputs)
 
@@ -209,7 +209,7 @@ module _ {P : Type 0} (k : Setup) (proto : Proto P) {serves : Kind → Bool} (fo
 
   record Told (inputs : List Input) : Type 0 where
     tells : Tells (watched k proto opens inputs) inputs
-    owns : HasOwn k proto form stays (at inputs)
+    owns : HasOwn k proto form (at inputs)
 
   looked_quiet : (x : Watch) (n : ℕ) (o : Option Party) → looked_in k proto x n o [] ≡ x
   looked_quiet x n None = refl
@@ -221,21 +221,21 @@ module _ {P : Type 0} (k : Setup) (proto : Proto P) {serves : Kind → Bool} (fo
       let same : watched k proto opens (g ∷ inputs) ≡ x = ap (λ es. looked_in k proto x (length inputs + 1) (taker_of g) (flat_map (items_of k proto (at inputs)) es)) none ∙ looked_quiet x (length inputs + 1) (taker_of g) in
       record {
         tells = subst (λ z. Tells z (g ∷ inputs)) (sym same) (tells_quiet x g inputs none was.tells);
-        owns = subst (λ es. HasOwn k proto form stays (run k proto (es ++ events_in opens inputs))) (sym none) was.owns;
+        owns = subst (λ es. HasOwn k proto form (run k proto (es ++ events_in opens inputs))) (sym none) was.owns;
       }
   told_step g inputs (eventful e p is taker built) was =
       let x = watched k proto opens inputs in
-      let seen = event_seen k proto form stays (at inputs) e was.owns built in
+      let seen = event_seen k proto form (at inputs) e was.owns built in
       let same : watched k proto opens (g ∷ inputs) ≡ looked x (length inputs + 1) p (items_of k proto (at inputs) e) =
       (λ j. looked_in k proto x (length inputs + 1) (taker j) (flat_map (items_of k proto (at inputs)) (is j)))
       ∙ ap (looked x (length inputs + 1) p) (append-nil (items_of k proto (at inputs) e)) in
       record {
         tells = subst (λ z. Tells z (g ∷ inputs)) (sym same) (tells_after x g inputs e p is taker seen.looks was.tells x.collided (any_found x.kept (items_of k proto (at inputs) e)) refl refl);
-        owns = subst (λ es. HasOwn k proto form stays (run k proto (es ++ events_in opens inputs))) (sym is) seen.owns;
+        owns = subst (λ es. HasOwn k proto form (run k proto (es ++ events_in opens inputs))) (sym is) seen.owns;
       }
 
   all_told : OpensMessages opens → (inputs : List Input) → Told inputs
-  all_told built [] = record { tells = tells_first; owns = start_own k proto form stays }
+  all_told built [] = record { tells = tells_first; owns = start_own k proto form }
   all_told built (g ∷ inputs) = told_step g inputs (came_so opens built g) (all_told built inputs)
 
   pub free_told : OpensMessages opens → (inputs : List Input) → ((watched k proto opens inputs).collided ≡ None) ↔ Free inputs

@@ -43,12 +43,7 @@ module _ {P : Type 0} (k : Setup) (proto : Proto P) where
       pub before : IsFree (events_in opens earlier)
       pub after : IsFree (events_in opens (input ∷ earlier)) → ⊥
 
--- ---- what protocols and openers have to keep
-
--- a replica stays with the history with which it entered
-pub record StaysEntered {P : Type 0} (proto : Proto P) : Type 0 where
-  pub called : (pen : _) (p : P) (call : Call) → (proto.state (proto.after pen p call)).entered ≡ (proto.state p).entered
-  pub halted : (p : P) → (proto.state (proto.halt p)).entered ≡ (proto.state p).entered
+-- ---- what openers have to keep
 
 -- what opens is a message whose bytes are known
 abbrev pub OpensMessages : Opener → Type 0

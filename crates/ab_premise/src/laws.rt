@@ -14,7 +14,7 @@ ghost use Rattle.ab_run.specs.Premises.{IsHonestRun};
 ghost use Rattle.ab_run.specs.Inputs.{Input, Opener, SpellsApart, events_in};
 ghost use Rattle.ab_run.specs.Stages.{Forgery, IsForgedAt};
 ghost use Rattle.ab_premise.specs.declared.breach.Collision.{Collision};
-ghost use Rattle.ab_premise.specs.Collisions.{IsCollidedAt, IsFree, OpensMessages, StaysEntered, watched};
+ghost use Rattle.ab_premise.specs.Collisions.{IsCollidedAt, IsFree, OpensMessages, watched};
 ghost use Rattle.ab_premise.specs.Spelled.{IsSpelledRun};
 ghost use Rattle.ab_premise.specs.Premises.{faulty_premise, first_premise, passing, IsPremise};
 
@@ -28,10 +28,10 @@ pub fn few_are_faulty()
 /// has its first.
 pub fn collisions_are_told<P>()
     ensures free { (k : Setup) (proto : Proto P) (serves : Kind → Bool) (opens : Opener) (inputs : List Input)
-        → KeepsForm proto serves → StaysEntered proto → OpensMessages opens
+        → KeepsForm proto serves → OpensMessages opens
         → ((watched k proto opens inputs).collided ≡ None) ↔ IsFree k proto (events_in opens inputs) }
     ensures earliest { (k : Setup) (proto : Proto P) (serves : Kind → Bool) (opens : Opener) (inputs : List Input) (c : Collision)
-        → KeepsForm proto serves → StaysEntered proto → OpensMessages opens
+        → KeepsForm proto serves → OpensMessages opens
         → ((watched k proto opens inputs).collided ≡ Some c) ↔ IsCollidedAt k proto opens inputs c.event c.party }
 {}
 

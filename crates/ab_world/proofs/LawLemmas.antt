@@ -36,7 +36,7 @@ use Rattle.ab_run.specs.Stages.{Stage, Forgery, IsForgedAt, stage_over}
 use Rattle.ab_run.proofs.Staged.{stage_back, stage_is_back}
 use Rattle.ab_cast.specs.Setups.{Setup, run_setup, ring_at}
 use Rattle.ab_premise.specs.declared.breach.Collision.{Collision}
-use Rattle.ab_premise.specs.Collisions.{IsFree, IsCollidedAt, OpensMessages, StaysEntered, watched}
+use Rattle.ab_premise.specs.Collisions.{IsFree, IsCollidedAt, OpensMessages, watched}
 use Rattle.ab_premise.specs.Premises.{passing, first_premise, faulty_premise, IsPremise, is_held}
 use Rattle.ab_premise.specs.Spelled.{IsSpelledRun}
 use Rattle.ab_premise.proofs.Lines.{premise_told}
@@ -107,15 +107,14 @@ module _ {P : Type 0} (proto : Proto P) (serves : Kind → Bool) (x : Setup) (bu
   collided_is : end.watch.collided ≡ (watched K proto (opener x) came).collided
   collided_is = ap (λ v. v.collided) is.watch
 
-  module _ (honest : (stage.forged ≡ None) ↔ IsHonestRun K proto (events_in (opener x) came)) (first : (b : Forgery) → (stage.forged ≡ Some b) ↔ IsForgedAt K proto (opener x) came b.event b.maker)
-      (stays : StaysEntered proto) where
+  module _ (honest : (stage.forged ≡ None) ↔ IsHonestRun K proto (events_in (opener x) came)) (first : (b : Forgery) → (stage.forged ≡ Some b) ↔ IsForgedAt K proto (opener x) came b.event b.maker) where
     pub line_told : (line : Premise) → (premise_of end ≡ line) ↔ IsPremise K proto (opener x) x.faulty came line
     line_told line =
         let told = premise_told K proto (opener x) x.faulty came end.forged end.watch.collided
         (λ e. honest.0 (sym forged_is ∙ e), λ h. forged_is ∙ honest.1 h)
         (λ b. (λ e. (first b).0 (sym forged_is ∙ e), λ h. forged_is ∙ (first b).1 h))
-        (λ e. (free_told K proto form stays (opener x) built came).0 (sym collided_is ∙ e), λ h. collided_is ∙ (free_told K proto form stays (opener x) built came).1 h)
-        (λ c. (λ e. (earliest_told K proto form stays (opener x) built came c).0 (sym collided_is ∙ e), λ h. collided_is ∙ (earliest_told K proto form stays (opener x) built came c).1 h))
+        (λ e. (free_told K proto form (opener x) built came).0 (sym collided_is ∙ e), λ h. collided_is ∙ (free_told K proto form (opener x) built came).1 h)
+        (λ c. (λ e. (earliest_told K proto form (opener x) built came c).0 (sym collided_is ∙ e), λ h. collided_is ∙ (earliest_told K proto form (opener x) built came c).1 h))
         line in
         let same : premise_of end ≡ faulty_premise (passing K.cluster.f x.faulty) (first_premise end.forged end.watch.collided) =
         ap (λ (y : Setup). faulty_premise (passing y.cluster.f y.faulty) (first_premise end.forged end.watch.collided)) is.setup in

@@ -11,7 +11,6 @@ ghost use Rattle.ab_abs.specs.Instances.{EachIsAbstract};
 ghost use Rattle.ab_abs.specs.Order.{Ordered};
 ghost use Rattle.ab_abs.specs.Promises.{ServesAll};
 ghost use Rattle.ab_run.specs.Stages.{all_seen, named_on, stage_over};
-ghost use Rattle.ab_premise.specs.Collisions.{StaysEntered};
 ghost use Rattle.ab_premise.specs.Premises.{IsPremise};
 ghost use Rattle.ab_cast.specs.Setups.{Setup as TheSetup, run_setup};
 ghost use Rattle.ab_world.specs.Lines.{is_observed, line_of_noted};
@@ -45,7 +44,7 @@ pub fn worlds_are_runs<S: Service, P: Protocol<S>>()
 /// of the run fails, which one, and whose, by the run's own definitions; and `held` exactly where each
 /// is met.
 pub fn premise_is_exact<S: Service, P: Protocol<S>>()
-    ensures { (x : TheSetup) (es : List TheEvent) (end : TheWorld P) → IsTrue (P.serves (kind_of x.cluster.plan 1)) → StaysEntered P.proto
+    ensures { (x : TheSetup) (es : List TheEvent) (end : TheWorld P) → IsTrue (P.serves (kind_of x.cluster.plan 1))
         → outcome P.proto 1 (start P.proto x) es ≡ Ok end
         → (line : TheLine) → (premise_of end ≡ line) ↔ IsPremise (run_setup x) P.proto (opener x) x.faulty (came_to P.proto x es) line }
 {
@@ -58,11 +57,11 @@ pub fn premise_is_exact<S: Service, P: Protocol<S>>()
 /// each to every later one, whatever came: packets in any order, twice or never, bytes of anyone, twins
 /// of faulty parties.
 pub fn worlds_keep_promises<S: Service, P: Protocol<S>>()
-    ensures ordered { (x : TheSetup) (es : List TheEvent) (end : TheWorld P) → ServesAll P.serves x.cluster → StaysEntered P.proto
+    ensures ordered { (x : TheSetup) (es : List TheEvent) (end : TheWorld P) → ServesAll P.serves x.cluster
         → outcome P.proto 1 (start P.proto x) es ≡ Ok end → premise_of end ≡ Held
         → let s = stage_over (run_setup x) P.proto spell_content (opener x) (inputs_of P.proto (start P.proto x) es) in
         Ordered S.machine (all_seen s) (named_on (run_setup x) s) (run_setup x).faulty }
-    ensures instances { (x : TheSetup) (es : List TheEvent) (end : TheWorld P) → ServesAll P.serves x.cluster → StaysEntered P.proto
+    ensures instances { (x : TheSetup) (es : List TheEvent) (end : TheWorld P) → ServesAll P.serves x.cluster
         → outcome P.proto 1 (start P.proto x) es ≡ Ok end → premise_of end ≡ Held
         → let s = stage_over (run_setup x) P.proto spell_content (opener x) (inputs_of P.proto (start P.proto x) es) in
         EachIsAbstract S.machine (all_seen s) (named_on (run_setup x) s) (run_setup x).faulty }

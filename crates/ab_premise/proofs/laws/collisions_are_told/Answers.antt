@@ -3,6 +3,6 @@ use Rattle.ab_premise.proofs.laws.collisions_are_told.Goals as goal
 
 pub returns : goal.returns
 returns g c = record {
-  free = λ k proto serves opens inputs form stays built. free_told k proto form stays opens built inputs;
-  earliest = λ k proto serves opens inputs found form stays built. earliest_told k proto form stays opens built inputs found;
+  free = λ k proto serves opens inputs form built. free_told k proto form opens built inputs;
+  earliest = λ k proto serves opens inputs found form built. earliest_told k proto form opens built inputs found;
 }

@@ -7,7 +7,7 @@ use Rattle.ab_world.proofs.LawLemmas.{opens_messages, are_apart, line_told}
 use Rattle.ab_world.proofs.laws.premise_is_exact.Goals as goal
 
 pub returns : goal.returns
-returns g c = λ x es end first stays out line.
+returns g c = λ x es end first out line.
     let proto = g.P.Protocol.proto in
     let own = c.contents_have_their_own_bytes.ensures in
     let built = opens_messages x (λ ring bytes m are e. (c.opened_messages_are_of_the_grammar.ensures.grammar ring bytes m are e).0) in
@@ -16,4 +16,4 @@ returns g c = λ x es end first stays out line.
     line_told proto g.P.Protocol.serves x built first g.met.P.Protocol.formed own es end out
     (c.forgeries_are_told.ensures.honest (run_setup x) proto spell_content (opener x) inputs apart)
     (λ b. c.forgeries_are_told.ensures.earliest (run_setup x) proto spell_content (opener x) inputs b apart)
-    stays line
+    line
