@@ -121,7 +121,10 @@ fn keeps_rules<P: Protocol<Echo>>(alloc: Global, c: &Cluster) -> Result<bool, St
 {
     let base = History::new(alloc);
     let mut replica = P::start(alloc, c, 1, 2, &Entry { base, cert: None })?;
-    let numbers = P::runs(Kind::Quorum) && !P::runs(Kind::Chain) && P::need(c, 1) == 3 && P::reply_rule(c, 1) == ReplyRule::All;
+    let numbers = P::runs(Kind::Quorum)
+        && !P::runs(Kind::Chain)
+        && P::need(c, 1) == 3
+        && P::reply_rule(c, 1) == ReplyRule::All;
     Ok(numbers && answers_twice(alloc, &mut replica)? && rests(alloc, &mut replica)?)
 }
 
