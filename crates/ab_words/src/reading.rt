@@ -124,10 +124,7 @@ fn command_of<'a>(
 }
 
 /// The command that the words are, or None where they are none.
-pub fn command_in<'a>(
-    alloc: Global,
-    words: &'a [&'a str],
-) -> Result<Option<Command>, OutOfMemory>
+pub fn command_in<'a>(alloc: Global, words: &'a [&'a str]) -> Result<Option<Command>, OutOfMemory>
     ensures { IfOk result (λ c. c ≡ command_in (texts words.now)) }
 {
     match words {

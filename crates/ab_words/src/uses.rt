@@ -67,7 +67,7 @@ fn take<'a>(
     ensures { IfOk result (λ r. MatchOption r
         (with_word (record { done = uses_seen done.old.items; waiting = text_at waiting.entry }) (text_at waiting.entry) word.entry.now ≡ None)
         (λ next. with_word (record { done = uses_seen done.old.items; waiting = text_at waiting.entry }) (text_at waiting.entry) word.entry.now
-            ≡ Some (record { done = uses_seen done.new.items; waiting = text_at next }))) }
+        ≡ Some (record { done = uses_seen done.new.items; waiting = text_at next }))) }
 {
     if let Some(name) = waiting {
         done.push(Use {

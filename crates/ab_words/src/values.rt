@@ -9,10 +9,7 @@ use crate::uses::Use;
 use ab_text::number;
 
 /// The value of the first use of an option, and what comes after it.
-fn first<'a, 'b>(
-    uses: &'b [Use<'a>],
-    name: &[u8],
-) -> Option<(Option<&'a [u8]>, &'b [Use<'a>])>
+fn first<'a, 'b>(uses: &'b [Use<'a>], name: &[u8]) -> Option<(Option<&'a [u8]>, &'b [Use<'a>])>
     ensures { MatchOption result (of_name name.now (uses_seen uses.now) ≡ [])
         (λ p. of_name name.now (uses_seen uses.now) ≡ record { name = name.now; value = text_at p.0 } ∷ of_name name.now (uses_seen p.1.now)) }
 {
@@ -62,13 +59,7 @@ pub(crate) fn number_of(uses: &[Use<'_>], name: &[u8], low: u64, high: u64) -> O
         None => None,
         Some(text) => match number(text) {
             None => None,
-            Some(k) => {
-                if k >= low && k <= high {
-                    Some(k)
-                } else {
-                    None
-                }
-            }
+            Some(k) => { if k >= low && k <= high { Some(k) } else { None } }
         },
     }
 }
