@@ -58,12 +58,7 @@ fn own_secret(seed: &[u8; 32], me: Party) -> Option<Secret>
 
 /// The public key of replica `r`. It takes the whole of its tree.
 #[tactic(auto, unfolding(crate::specs::Derived::public_of))]
-fn public_of(
-    alloc: Global,
-    lms: Height,
-    seed: &[u8; 32],
-    r: u8,
-) -> Result<[u8; 56], OutOfMemory>
+fn public_of(alloc: Global, lms: Height, seed: &[u8; 32], r: u8) -> Result<[u8; 56], OutOfMemory>
     ensures { IfOk result (λ key. key ≡ public_of lms seed.now r) }
 {
     let secret = secret_of(seed, r);

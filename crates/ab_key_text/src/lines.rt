@@ -53,10 +53,7 @@ pub(crate) fn number_at<'a>(
 }
 
 /// The party of line `n`, and what comes after that line.
-pub(crate) fn party_at<'a>(
-    text: &'a [u8],
-    n: u32,
-) -> Result<(Party, &'a [u8]), NodeFault>
+pub(crate) fn party_at<'a>(text: &'a [u8], n: u32) -> Result<(Party, &'a [u8]), NodeFault>
     ensures reads { Gives (λ p. (p.0, lines_of p.1.now)) result (line_at (λ l. option_and_then party_in (stripped (codes "party ") l)) n (lines_of text.now)) }
     ensures shorter { IfOk result (λ p. length p.1.now ≤ length text.now) }
 {
@@ -70,10 +67,7 @@ pub(crate) fn party_at<'a>(
 }
 
 /// The plan of line `n`, and what comes after that line.
-pub(crate) fn plan_at<'a>(
-    text: &'a [u8],
-    n: u32,
-) -> Result<(Plan, &'a [u8]), NodeFault>
+pub(crate) fn plan_at<'a>(text: &'a [u8], n: u32) -> Result<(Plan, &'a [u8]), NodeFault>
     ensures reads { Gives (λ p. (p.0, lines_of p.1.now)) result (line_at (spelled_in plan_line plans) n (lines_of text.now)) }
     ensures shorter { IfOk result (λ p. length p.1.now ≤ length text.now) }
 {
@@ -87,10 +81,7 @@ pub(crate) fn plan_at<'a>(
 }
 
 /// The service of line `n`, and what comes after that line.
-pub(crate) fn service_at<'a>(
-    text: &'a [u8],
-    n: u32,
-) -> Result<(ServiceName, &'a [u8]), NodeFault>
+pub(crate) fn service_at<'a>(text: &'a [u8], n: u32) -> Result<(ServiceName, &'a [u8]), NodeFault>
     ensures reads { Gives (λ p. (p.0, lines_of p.1.now)) result (line_at (spelled_in service_line services) n (lines_of text.now)) }
     ensures shorter { IfOk result (λ p. length p.1.now ≤ length text.now) }
 {
@@ -104,10 +95,7 @@ pub(crate) fn service_at<'a>(
 }
 
 /// The height of line `n`, and what comes after that line.
-pub(crate) fn height_at<'a>(
-    text: &'a [u8],
-    n: u32,
-) -> Result<(Height, &'a [u8]), NodeFault>
+pub(crate) fn height_at<'a>(text: &'a [u8], n: u32) -> Result<(Height, &'a [u8]), NodeFault>
     ensures reads { Gives (λ p. (p.0, lines_of p.1.now)) result (line_at (spelled_in lms_line heights) n (lines_of text.now)) }
     ensures shorter { IfOk result (λ p. length p.1.now ≤ length text.now) }
 {
@@ -121,10 +109,7 @@ pub(crate) fn height_at<'a>(
 }
 
 /// The secret of line `n`, and what comes after that line.
-pub(crate) fn secret_line_at<'a>(
-    text: &'a [u8],
-    n: u32,
-) -> Result<(Secret, &'a [u8]), NodeFault>
+pub(crate) fn secret_line_at<'a>(text: &'a [u8], n: u32) -> Result<(Secret, &'a [u8]), NodeFault>
     ensures reads { Gives (λ p. (p.0, lines_of p.1.now)) result (line_at secret_in n (lines_of text.now)) }
     ensures shorter { IfOk result (λ p. length p.1.now ≤ length text.now) }
 {

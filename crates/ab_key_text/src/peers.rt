@@ -24,8 +24,10 @@ pub(crate) fn peers_in(alloc: Global, c: &Cluster, me: Party) -> Result<Vec<Part
 {
     let replicas = (0..c.replicas()).map(Party::Replica);
     let clients = (0..c.clients).map(Party::Client);
-    Ok(replicas
-        .chain(clients)
-        .filter(|p| exchanges(me, *p))
-        .collect(alloc)?)
+    Ok(
+        replicas
+            .chain(clients)
+            .filter(|p| exchanges(me, *p))
+            .collect(alloc)?,
+    )
 }

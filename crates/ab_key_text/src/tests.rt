@@ -102,7 +102,10 @@ fn derived_text(rt: HostRuntime) -> Result<(), Fail> {
     let ring = keys.ring(rt.alloc())?;
     let derived = KeyRing::derive(rt.alloc(), &c, &SEED, me)?;
     let to = Party::Client(2);
-    assert_eq!(rt; ring.tag_for(to, b"put a 1"), derived.tag_for(to, b"put a 1"));
+    assert_eq!(rt;
+        ring.tag_for(to, b"put a 1"),
+        derived.tag_for(to, b"put a 1")
+    );
     Ok(())
 }
 
@@ -141,9 +144,18 @@ fn bad_lines(rt: HostRuntime) -> Result<(), Fail> {
     let more = altered(&rt, C0, "keys 1\n", "keys 1\n")?;
     assert_eq!(rt; fault_of(&rt, more.as_str()), None);
     assert_eq!(rt; fault_of(&rt, ""), Some(KeyFault::BadLine(1)));
-    assert_eq!(rt; fault_of(&rt, "keys 1\nparty r9\nf 1\nclients x\n"), Some(KeyFault::BadLine(4)));
-    assert_eq!(rt; fault_of(&rt, "keys 1\nparty r9\nf 1\nclients 1\n"), Some(KeyFault::BadLine(2)));
-    assert_eq!(rt; fault_of(&rt, "keys 1\nparty r1\nf 1\nclients 1\n"), Some(KeyFault::BadLine(5)));
+    assert_eq!(rt;
+        fault_of(&rt, "keys 1\nparty r9\nf 1\nclients x\n"),
+        Some(KeyFault::BadLine(4))
+    );
+    assert_eq!(rt;
+        fault_of(&rt, "keys 1\nparty r9\nf 1\nclients 1\n"),
+        Some(KeyFault::BadLine(2))
+    );
+    assert_eq!(rt;
+        fault_of(&rt, "keys 1\nparty r1\nf 1\nclients 1\n"),
+        Some(KeyFault::BadLine(5))
+    );
     Ok(())
 }
 
@@ -162,11 +174,29 @@ fn nodes(rt: HostRuntime) -> Result<(), Fail> {
     assert_eq!(rt; node_fault(&rt, C0, "do put a 1\ndo  x\nend")?, None);
     assert_eq!(rt; node_fault(&rt, R6, "end")?, None);
     assert_eq!(rt; node_fault(&rt, C0, "")?, Some(NodeFault::NoEnd(20)));
-    assert_eq!(rt; node_fault(&rt, C0, "do put a 1\n")?, Some(NodeFault::NoEnd(21)));
-    assert_eq!(rt; node_fault(&rt, C0, "end\nend\n")?, Some(NodeFault::BadLine(21)));
-    assert_eq!(rt; node_fault(&rt, C0, "do \nend\n")?, Some(NodeFault::BadLine(20)));
-    assert_eq!(rt; node_fault(&rt, C0, "do a\tb\nend\n")?, Some(NodeFault::BadLine(20)));
-    assert_eq!(rt; node_fault(&rt, R6, "do put a 1\nend\n")?, Some(NodeFault::BadLine(34)));
-    assert_eq!(rt; node_fault(&rt, "keys 1\nparty c0\n", "")?, Some(NodeFault::NoEnd(3)));
+    assert_eq!(rt;
+        node_fault(&rt, C0, "do put a 1\n")?,
+        Some(NodeFault::NoEnd(21))
+    );
+    assert_eq!(rt;
+        node_fault(&rt, C0, "end\nend\n")?,
+        Some(NodeFault::BadLine(21))
+    );
+    assert_eq!(rt;
+        node_fault(&rt, C0, "do \nend\n")?,
+        Some(NodeFault::BadLine(20))
+    );
+    assert_eq!(rt;
+        node_fault(&rt, C0, "do a\tb\nend\n")?,
+        Some(NodeFault::BadLine(20))
+    );
+    assert_eq!(rt;
+        node_fault(&rt, R6, "do put a 1\nend\n")?,
+        Some(NodeFault::BadLine(34))
+    );
+    assert_eq!(rt;
+        node_fault(&rt, "keys 1\nparty c0\n", "")?,
+        Some(NodeFault::NoEnd(3))
+    );
     Ok(())
 }

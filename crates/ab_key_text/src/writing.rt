@@ -56,12 +56,7 @@ fn key_string(alloc: Global, word: &str, p: Party, key: &[u8]) -> Result<String,
 }
 
 /// A line of a word, replica `r` and a key.
-fn public_string(
-    alloc: Global,
-    word: &str,
-    r: usize,
-    key: &[u8; 56],
-) -> Result<String, AllocError>
+fn public_string(alloc: Global, word: &str, r: usize, key: &[u8; 56]) -> Result<String, AllocError>
     ensures { IfOk result (λ s. string_bytes s ≡ key_line word.now (Replica r) key.now) }
 {
     let digits = hex::encode(alloc, key)?;
