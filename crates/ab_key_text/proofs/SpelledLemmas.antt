@@ -18,7 +18,7 @@ use Rattle.ab_num.specs.declared.plan.Height.{Height}
 use Rattle.ab_num.specs.declared.plan.Height.TheVariants.{Five, Ten}
 use Rattle.ab_keys.specs.Rings.{Peer}
 use Rattle.ab_text.specs.Cores.{party_text}
-use Rattle.ab_text.specs.Heads.{number_after, stripped, spelled_in, plan_line, plans, service_line, services, lms_line, heights}
+use Rattle.ab_text.specs.Heads.{number_in as digits_in, number_after, stripped, spelled_in, plan_line, plans, service_line, services, lms_line, heights}
 use Rattle.ab_text.specs.Numbers.{number_of}
 use Rattle.ab_text.proofs.NumberLemmas.{is_some_number}
 use Rattle.ab_text.proofs.WordLemmas.{stripped-is}
@@ -92,3 +92,70 @@ publics_read (k ∷ keys) done r n rest good =
     ap (λ (x : Result (List ℕ × Rest) NodeFault). x >>= λ key. publics_at (map Replica (range_with_len (r + 1) (length keys))) (done ++ key.0 ∷ []) (n + 1) key.1) first
     ∙ publics_read keys (done ++ k ∷ []) (r + 1) (n + 1) rest good.1
     ∙ (λ j. Ok (record { value = a j; next = b j; rest = rest }))
+
+-- ---- the secret
+
+seam : (a b : List ℕ) → (take (length a) (a ++ b) ≡ a) × (drop (length a) (a ++ b) ≡ b)
+seam [] b = (refl, refl)
+seam (x ∷ a) b = let both = seam a b in (ap (λ t. x ∷ t) both.0, both.1)
+
+secret_read : (s : Secret) → IsBytes 16 s.id → IsBytes 32 s.seed → secret_in (secret_line s) ≡ Some s
+secret_read s id seed =
+    let text : List ℕ = encode_lower s.id ++ 32 ∷ encode_lower s.seed in
+    let named : length s.id ≡ 16 = id.long in
+    let long : length (encode_lower s.id) ≡ 32 = length-encode_with lower_digits s.id ∙ ap (λ n. 2 * n) named in
+    let both = seam (encode_lower s.id) (32 ∷ encode_lower s.seed) in
+    let front : bytes_in 16 (take 32 text) ≡ Some s.id = ap (λ n. bytes_in 16 (take n text)) (sym long) ∙ ap (bytes_in 16) both.0 ∙ read_bytes 16 s.id id in
+    let back : bytes_after (codes " ") 32 (drop 32 text) ≡ Some s.seed = ap (λ n. bytes_after (codes " ") 32 (drop n text)) (sym long) ∙ ap (bytes_after (codes " ") 32) both.1 ∙ bytes_read (codes " ") 32 s.seed seed in
+    ap (option_and_then secret_text_in) (stripped-is (codes "secret ") (secret_line s) text refl)
+    ∙ (λ j. secret_of_parts (front j) (back j))
+
+abbrev pub after_secret : Option Secret → ℕ
+after_secret None = 8
+after_secret (Some s) = 9
+
+pub secret_at_read : (me : Party) (s : Option Secret) (rest : Rest) → IsSecretOf me s → secret_at me (secret_lines s ++ rest) ≡ Ok (record { value = s; next = after_secret s; rest = rest })
+secret_at_read (Client c) None rest good = refl
+secret_at_read (Client c) (Some s) rest good = absurd good
+secret_at_read (Replica r) None rest good = absurd good
+secret_at_read (Replica r) (Some s) rest good =
+    ap (λ (x : Result (Secret × Rest) NodeFault). x >>= λ secret. Ok (record { value = Some secret.0; next = 9; rest = secret.1 }))
+    (line_read secret_in 8 (secret_line s) rest s (secret_read s good.0 good.1))
+
+-- ---- the head
+
+pub number_read : (word : List ℕ) (low high k : ℕ) → low ≤ k → k ≤ high → k < 2 ^ 64 → number_in word low high (word ++ decimal k) ≡ Some k
+number_read word low high k above below small =
+    ap (λ o. bounded low high (digits_in o)) (stripped-is word (word ++ decimal k) (decimal k) refl)
+    ∙ ap (bounded low high) (is_some_number (decimal k) k small refl)
+    ∙ (λ j. if le-leb low k above j && le-leb k high below j then Some k else None)
+
+-- the number has its bits
+abbrev pub IsSmall : Party → Type 0
+IsSmall (Replica r) = r ≤ 255
+IsSmall (Client c) = c ≤ 65535
+
+pub party_read : (p : Party) → IsSmall p → party_in (party_text p) ≡ Some p
+party_read (Replica r) few =
+    ap (λ o. or_else (numbered Replica o) (numbered Client (number_in (codes "c") 0 65535 (party_text (Replica r))))) (number_read (codes "r") 0 255 r (omega arith) few (omega (arith, few)))
+party_read (Client c) few =
+    ap (λ o. or_else None (numbered Client o)) (number_read (codes "c") 0 65535 c (omega arith) few (omega (arith, few)))
+
+pub plan_read : (p : Plan) → spelled_in plan_line plans (plan_line p) ≡ Some p
+unfolding spelled_in
+plan_read AZyzzyva = refl
+plan_read Aliph = refl
+plan_read Quorum = refl
+plan_read ZLight = refl
+plan_read Chain = refl
+plan_read Backup = refl
+
+pub service_read : (v : ServiceName) → spelled_in service_line services (service_line v) ≡ Some v
+unfolding spelled_in
+service_read Echo = refl
+service_read Kv = refl
+
+pub height_read : (h : Height) → spelled_in lms_line heights (lms_line h) ≡ Some h
+unfolding spelled_in
+height_read Five = refl
+height_read Ten = refl
