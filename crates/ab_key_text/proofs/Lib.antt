@@ -2,3 +2,6 @@
 pub mod PartLemmas
 pub mod CommandLemmas
 pub mod WritingLemmas
+pub mod SpelledLemmas
+pub mod RoundLemmas
+pub mod FeedLemmas

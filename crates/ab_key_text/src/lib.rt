@@ -5,6 +5,7 @@ mod derive;
 mod fault;
 mod hex_bytes;
 mod keys;
+mod laws;
 mod lines;
 mod node;
 mod parts;
@@ -18,6 +19,7 @@ mod writing;
 pub use fault::{KeyFault, NodeFault};
 pub use hex_bytes::bytes_in;
 pub use keys::PartyKeys;
+pub use laws::{spelled_is_read, written_is_read};
 pub use node::{Commands, read_node};
 pub use parts::party_in;
 

@@ -116,7 +116,7 @@ digit_lower d lt = elim (cases_lt d 10) [
       inr (subst (λ m. (97 ≤ slice_index lower_digits m) × (slice_index lower_digits m ≤ 102)) e both)
 ]
 
-encoded_lower : (bytes : List ℕ) → All (λ b. b < 256) bytes → All IsLowerDigit (encode_lower bytes)
+pub encoded_lower : (bytes : List ℕ) → All (λ b. b < 256) bytes → All IsLowerDigit (encode_lower bytes)
 unfolding encode_with
 encoded_lower [] good = λ k d lt. absurd (omega arith)
 encoded_lower (b ∷ rest) good =

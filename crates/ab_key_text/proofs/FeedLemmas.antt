@@ -1,0 +1,163 @@
+-- No line of a key text has a line feed, so its text has these lines.
+use Rattle.std.proofs.Common.{◌≡◌, ℕ, zero, suc, ◌+◌, ◌*◌, ◌<◌, ◌≤◌, ◌^◌, List, [], ◌∷◌, ◌++◌, Bool, true, false, Option, None, Some, Ok, IsTrue, All, codes, decimal, length, map, eqb, refl, sym, ap, ◌∙◌, subst, arith, inl, inr, if◌then◌else◌}
+use Rattle.std.specs.Prelude.{flat_map, not, ◌&&◌}
+use Rattle.std.specs.List.{AllByRecursion, filter, list_all, range_with_len}
+use Rattle.std.proofs.lemmas.Bool.{false_from_ne_true, and_parts}
+use Rattle.std.proofs.lemmas.Bool.Decides.{Decides-eqb, Decides-ltb}
+use Rattle.hex.specs.Hex.{encode_lower}
+use Rattle.ab_num.specs.declared.party.Party.{Party}
+use Rattle.ab_num.specs.declared.party.Party.TheVariants.{Replica, Client}
+use Rattle.ab_num.specs.declared.plan.Plan.{Plan}
+use Rattle.ab_num.specs.declared.plan.Plan.TheVariants.{AZyzzyva, Aliph, Quorum, ZLight, Chain, Backup}
+use Rattle.ab_num.specs.declared.plan.ServiceName.{ServiceName}
+use Rattle.ab_num.specs.declared.plan.ServiceName.TheVariants.{Echo, Kv}
+use Rattle.ab_num.specs.declared.plan.Height.{Height}
+use Rattle.ab_num.specs.declared.plan.Height.TheVariants.{Five, Ten}
+use Rattle.ab_num.specs.Bounds.{IsInBounds}
+use Rattle.ab_keys.specs.Keys.{exchanges, is_party}
+use Rattle.ab_keys.specs.Rings.{Peer, parties}
+use Rattle.ab_text.specs.Cores.{Lacks, party_text, IsParty}
+use Rattle.ab_text.specs.HexDigits.{IsLowerDigit}
+use Rattle.ab_text.specs.Heads.{plan_line, service_line, lms_line}
+use Rattle.ab_text.specs.Lines.{lines_of, onto_first}
+use Rattle.ab_text.proofs.PartLemmas.{Lacks-append, Lacks-cons, Lacks-decimal}
+use Rattle.ab_text.proofs.CoreLemmas.{Lacks-party}
+use Rattle.ab_text.proofs.HexLemmas.{encoded_lower}
+use Rattle.ab_key_text.specs.Keys.{Secret, PartyKeys, IsBytes, IsSecretOf, IsPartyKeys, peers_in}
+use Rattle.ab_key_text.specs.Reading.{keys_in}
+use Rattle.ab_key_text.specs.Spelling.{key_line, peer_lines, public_lines, secret_line, secret_lines, cluster_lines, name_lines, key_lines, text_of}
+use Rattle.ab_key_text.proofs.RoundLemmas.{spelled_reads}
+
+abbrev HasNoFeed : List ℕ → Type 0
+HasNoFeed l = Lacks 10 l
+
+abbrev HaveNoFeed : List (List ℕ) → Type 0
+HaveNoFeed ls = AllByRecursion HasNoFeed ls
+
+first_line : (l rest : List ℕ) → HasNoFeed l → lines_of ((l ++ 10 ∷ []) ++ rest) ≡ l ∷ lines_of rest
+first_line [] rest none = refl
+first_line (b ∷ l) rest none =
+    let other : eqb b 10 ≡ false = false_from_ne_true (eqb b 10) (λ t. none 0 0 (omega arith) ((Decides-eqb b 10).0 t)) in
+    ap (λ t. if t then [] ∷ lines_of ((l ++ 10 ∷ []) ++ rest) else onto_first b (lines_of ((l ++ 10 ∷ []) ++ rest))) other
+    ∙ ap (onto_first b) (first_line l rest (λ k d lt. none (suc k) d (omega arith)))
+
+lines_of-text_of : (ls : List (List ℕ)) → HaveNoFeed ls → lines_of (text_of ls) ≡ ls
+lines_of-text_of [] none = refl
+lines_of-text_of (l ∷ ls) none = first_line l (text_of ls) none.0 ∙ ap (λ t. l ∷ t) (lines_of-text_of ls none.1)
+
+both : (a b : List (List ℕ)) → HaveNoFeed a → HaveNoFeed b → HaveNoFeed (a ++ b)
+both [] b first second = second
+both (x ∷ a) b first second = (first.0, both a b first.1 second)
+
+-- the test of a literal
+abbrev has_no_feed : List ℕ → Bool
+has_no_feed l = list_all (λ b. not (eqb b 10)) l
+
+tested : (l : List ℕ) → has_no_feed l ≡ true → HasNoFeed l
+tested [] h = λ k d lt. absurd (omega arith)
+tested (b ∷ l) h =
+    let parts = and_parts (not (eqb b 10)) (has_no_feed l) h in
+    Lacks-cons 10 b l (λ e. let t : eqb b 10 ≡ true = (Decides-eqb b 10).1 e in (let no_feed : not (eqb b 10) ≡ true = parts.0 in (let bad : false ≡ true = sym (ap not t) ∙ no_feed in cc))) (tested l parts.1)
+
+no_feed_in_digits : (bytes : List ℕ) → All (λ b. b < 256) bytes → HasNoFeed (encode_lower bytes)
+no_feed_in_digits bytes small k d lt e = elim (encoded_lower bytes small k d lt) [
+  | inl low ↦ (let a = low.0 in omega (arith, a, e))
+  | inr high ↦ (let a = high.0 in omega (arith, a, e))
+]
+
+no_feed_in_key : (word : List ℕ) (p : Party) (n : ℕ) (key : List ℕ) → HasNoFeed word → IsParty p → IsBytes n key → HasNoFeed (key_line word p key)
+no_feed_in_key word p n key first small good =
+    Lacks-append 10 (word ++ party_text p ++ codes " ") (encode_lower key)
+    (Lacks-append 10 (word ++ party_text p) (codes " ") (Lacks-append 10 word (party_text p) first (Lacks-party 10 p (omega arith) small)) (tested (codes " ") refl)) (no_feed_in_digits key good.small)
+
+no_feed_in_plan : (p : Plan) → HasNoFeed (plan_line p)
+no_feed_in_plan AZyzzyva = tested (codes "plan azyzzyva") refl
+no_feed_in_plan Aliph = tested (codes "plan aliph") refl
+no_feed_in_plan Quorum = tested (codes "plan quorum") refl
+no_feed_in_plan ZLight = tested (codes "plan zlight") refl
+no_feed_in_plan Chain = tested (codes "plan chain") refl
+no_feed_in_plan Backup = tested (codes "plan backup") refl
+
+no_feed_in_service : (v : ServiceName) → HasNoFeed (service_line v)
+no_feed_in_service Echo = tested (codes "service echo") refl
+no_feed_in_service Kv = tested (codes "service kv") refl
+
+no_feed_in_height : (h : Height) → HasNoFeed (lms_line h)
+no_feed_in_height Five = tested (codes "lms 5") refl
+no_feed_in_height Ten = tested (codes "lms 10") refl
+
+no_feed_in_secret : (me : Party) (s : Option Secret) → IsSecretOf me s → HaveNoFeed (secret_lines s)
+no_feed_in_secret me None good = tt
+no_feed_in_secret (Client c) (Some s) good = absurd good
+no_feed_in_secret (Replica r) (Some s) good =
+    (Lacks-append 10 (codes "secret ") (encode_lower s.id ++ 32 ∷ encode_lower s.seed) (tested (codes "secret ") refl)
+    (Lacks-append 10 (encode_lower s.id) (32 ∷ encode_lower s.seed) (no_feed_in_digits s.id good.0.small) (Lacks-cons 10 32 (encode_lower s.seed) (λ e. omega (arith, e)) (no_feed_in_digits s.seed good.1.small))), tt)
+
+no_feed_in_publics : (keys : List (List ℕ)) (r : ℕ) → r + length keys ≤ 255 → AllByRecursion (IsBytes 56) keys → HaveNoFeed (public_lines r keys)
+no_feed_in_publics [] r few good = tt
+no_feed_in_publics (k ∷ keys) r few good =
+    (no_feed_in_key (codes "public ") (Replica r) 56 k (tested (codes "public ") refl) (omega (arith, few)) good.0, no_feed_in_publics keys (r + 1) (omega (arith, few)) good.1)
+
+-- each party that has lines of its own is small
+abbrev AreSmall : List Party → Type 0
+AreSmall ps = AllByRecursion IsParty ps
+
+no_feed_in_peers : (xs : List Peer) → AreSmall (map (λ x. x.party) xs) → AllByRecursion (λ x. IsBytes 32 x.to × IsBytes 32 x.from) xs → HaveNoFeed (flat_map peer_lines xs)
+no_feed_in_peers [] small good = tt
+no_feed_in_peers (x ∷ xs) small good =
+    (no_feed_in_key (codes "out ") x.party 32 x.to (tested (codes "out ") refl) small.0 good.0.0,
+    (no_feed_in_key (codes "in ") x.party 32 x.from (tested (codes "in ") refl) small.0 good.0.1,
+    no_feed_in_peers xs small.1 good.1))
+
+small_replicas : (a n : ℕ) → a + n ≤ 256 → AreSmall (map Replica (range_with_len a n))
+small_replicas a zero few = tt
+small_replicas a (suc n) few = (omega (arith, few), small_replicas (a + 1) n (omega (arith, few)))
+
+small_clients : (a n : ℕ) → a + n ≤ 65536 → AreSmall (map Client (range_with_len a n))
+small_clients a zero few = tt
+small_clients a (suc n) few = (omega (arith, few), small_clients (a + 1) n (omega (arith, few)))
+
+small_both : (ps qs : List Party) → AreSmall ps → AreSmall qs → AreSmall (ps ++ qs)
+small_both [] qs first second = second
+small_both (p ∷ ps) qs first second = (first.0, small_both ps qs first.1 second)
+
+chosen : (b : Bool) (p : Party) (ps : List Party) → IsParty p → AreSmall ps → AreSmall (if b then p ∷ ps else ps)
+chosen true p ps one rest = (one, rest)
+chosen false p ps one rest = rest
+
+small_filter : (me : Party) (ps : List Party) → AreSmall ps → AreSmall (filter (exchanges me) ps)
+small_filter me [] small = tt
+small_filter me (p ∷ ps) small = chosen (exchanges me p) p (filter (exchanges me) ps) small.0 (small_filter me ps small.1)
+
+small_peers : (f clients : ℕ) (me : Party) → IsInBounds f clients → AreSmall (peers_in f clients me)
+unfolding parties
+small_peers f clients me bounds =
+    let fs = bounds.few_faulty in
+    let cs = bounds.few_clients in
+    small_filter me (parties f clients) (small_both (map Replica (range_with_len 0 (3 * f + 1))) (map Client (range_with_len 0 clients)) (small_replicas 0 (3 * f + 1) (omega (arith, fs))) (small_clients 0 clients (omega (arith, cs))))
+
+small_party : (f clients : ℕ) (p : Party) → IsInBounds f clients → IsTrue (is_party f clients p) → IsParty p
+small_party f clients (Replica r) bounds inside = let lt : r < 3 * f + 1 = (Decides-ltb r (3 * f + 1)).0 inside in let few = bounds.few_faulty in omega (arith, lt, few)
+small_party f clients (Client c) bounds inside = let lt : c < clients = (Decides-ltb c clients).0 inside in let few = bounds.few_clients in omega (arith, lt, few)
+
+no_feed : (k : PartyKeys) → IsPartyKeys k → HaveNoFeed (key_lines k)
+no_feed k good =
+    let bounds = good.bounds in
+    let fs = bounds.few_faulty in
+    let cs = bounds.few_clients in
+    let count = good.public_of_each in
+    let me = Lacks-append 10 (codes "party ") (party_text k.me) (tested (codes "party ") refl) (Lacks-party 10 k.me (omega arith) (small_party k.f k.clients k.me bounds good.party)) in
+    let f = Lacks-append 10 (codes "f ") (decimal k.f) (tested (codes "f ") refl) (Lacks-decimal 10 k.f (omega arith) (omega (arith, fs))) in
+    let clients = Lacks-append 10 (codes "clients ") (decimal k.clients) (tested (codes "clients ") refl) (Lacks-decimal 10 k.clients (omega arith) (omega (arith, cs))) in
+    both (cluster_lines k) (name_lines k ++ (secret_lines k.secret ++ (flat_map peer_lines k.peers ++ public_lines 0 k.publics)))
+    (tested (codes "keys 1") refl, (me, (f, (clients, tt))))
+    (both (name_lines k) (secret_lines k.secret ++ (flat_map peer_lines k.peers ++ public_lines 0 k.publics))
+    (no_feed_in_plan k.plan, (no_feed_in_service k.service, (no_feed_in_height k.lms, tt)))
+    (both (secret_lines k.secret) (flat_map peer_lines k.peers ++ public_lines 0 k.publics) (no_feed_in_secret k.me k.secret good.secret)
+    (both (flat_map peer_lines k.peers) (public_lines 0 k.publics)
+    (no_feed_in_peers k.peers (subst AreSmall (sym good.peers) (small_peers k.f k.clients k.me bounds)) good.keys)
+    (no_feed_in_publics k.publics 0 (omega (arith, count, fs)) good.publics))))
+
+-- what is written is read
+pub written_reads : (k : PartyKeys) → IsPartyKeys k → keys_in (lines_of (text_of (key_lines k))) ≡ Ok k
+written_reads k good = ap keys_in (lines_of-text_of (key_lines k) (no_feed k good)) ∙ spelled_reads k good
