@@ -89,9 +89,11 @@ no_feed_in_height Ten = tested (codes "lms 10") refl
 no_feed_in_secret : (me : Party) (s : Option Secret) → IsSecretOf me s → HaveNoFeed (secret_lines s)
 no_feed_in_secret me None good = tt
 no_feed_in_secret (Client c) (Some s) good = absurd good
-no_feed_in_secret (Replica r) (Some s) good =
-    (Lacks-append 10 (codes "secret ") (encode_lower s.id ++ 32 ∷ encode_lower s.seed) (tested (codes "secret ") refl)
-    (Lacks-append 10 (encode_lower s.id) (32 ∷ encode_lower s.seed) (no_feed_in_digits s.id good.0.small) (Lacks-cons 10 32 (encode_lower s.seed) (λ e. omega (arith, e)) (no_feed_in_digits s.seed good.1.small))), tt)
+no_feed_in_secret (Replica r) (Some s) good = (
+  Lacks-append 10 (codes "secret ") (encode_lower s.id ++ 32 ∷ encode_lower s.seed) (tested (codes "secret ") refl)
+      (Lacks-append 10 (encode_lower s.id) (32 ∷ encode_lower s.seed) (no_feed_in_digits s.id good.0.small) (Lacks-cons 10 32 (encode_lower s.seed) (λ e. omega (arith, e)) (no_feed_in_digits s.seed good.1.small))),
+  tt,
+)
 
 no_feed_in_publics : (keys : List (List ℕ)) (r : ℕ) → r + length keys ≤ 255 → AllByRecursion (IsBytes 56) keys → HaveNoFeed (public_lines r keys)
 no_feed_in_publics [] r few good = tt
@@ -104,10 +106,13 @@ AreSmall ps = AllByRecursion IsParty ps
 
 no_feed_in_peers : (xs : List Peer) → AreSmall (map (λ x. x.party) xs) → AllByRecursion (λ x. IsBytes 32 x.to × IsBytes 32 x.from) xs → HaveNoFeed (flat_map peer_lines xs)
 no_feed_in_peers [] small good = tt
-no_feed_in_peers (x ∷ xs) small good =
-    (no_feed_in_key (codes "out ") x.party 32 x.to (tested (codes "out ") refl) small.0 good.0.0,
-    (no_feed_in_key (codes "in ") x.party 32 x.from (tested (codes "in ") refl) small.0 good.0.1,
-    no_feed_in_peers xs small.1 good.1))
+no_feed_in_peers (x ∷ xs) small good = (
+  no_feed_in_key (codes "out ") x.party 32 x.to (tested (codes "out ") refl) small.0 good.0.0,
+  (
+    no_feed_in_key (codes "in ") x.party 32 x.from (tested (codes "in ") refl) small.0 good.0.1,
+    no_feed_in_peers xs small.1 good.1,
+  ),
+)
 
 small_replicas : (a n : ℕ) → a + n ≤ 256 → AreSmall (map Replica (range_with_len a n))
 small_replicas a zero few = tt
