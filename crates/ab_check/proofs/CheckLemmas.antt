@@ -4,10 +4,10 @@ use Rattle.std.proofs.lemmas.List.{length-append}
 use Rattle.ab_msg.specs.declared.change.Proof.{Proof}
 use Rattle.ab_check.specs.Checks.{Check, Judge, is_right, all_checks, checked_from, proof_checks, slot_checks, slots_checks}
 
-abbrev good : ℕ → Result ℕ ℕ
+abbrev pub good : ℕ → Result ℕ ℕ
 good n = Ok n
 
-abbrev bad : ℕ → Result ℕ ℕ
+abbrev pub bad : ℕ → Result ℕ ℕ
 bad n = Err n
 
 -- what follows a test

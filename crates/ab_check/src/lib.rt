@@ -1,6 +1,7 @@
 //! Tags and signatures of received messages, checked in their order over the bytes that were received.
 #![tactic(auto)]
 
+mod chain;
 mod changes;
 mod checker;
 mod laws;
@@ -9,6 +10,7 @@ mod slots;
 mod tags;
 mod text;
 
+pub use chain::{LinkRef, check_before};
 pub use changes::{check_changes, check_proof};
 pub use checker::Checker;
 pub use laws::claims_are_checked;

@@ -15,7 +15,7 @@ use arrayvec::ArrayVec;
 pub type Text = ArrayVec<u8, 160>;
 
 /// Adds bytes, for which there is room.
-fn add(text: &mut Text, bytes: &[u8])
+pub(crate) fn add(text: &mut Text, bytes: &[u8])
     requires { length text.old.items + length bytes.now ≤ 160 }
     ensures { text.new.items ≡ text.old.items ++ bytes.now }
 {
