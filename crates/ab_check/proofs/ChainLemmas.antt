@@ -1,8 +1,11 @@
 -- The positions of a chain, one after the other.
-use Rattle.std.proofs.Common.{◌≡◌, ℕ, suc, ◌+◌, ◌-◌, ◌≤◌, ◌<◌, [], ◌∷◌, map, refl}
+use Rattle.std.proofs.Common.{◌≡◌, ℕ, suc, ◌+◌, ◌-◌, ◌≤◌, ◌<◌, leb, cond, Bool, true, false, List, [], ◌∷◌, ◌++◌, map, refl, ap, ◌∙◌}
 use Rattle.std.proofs.lemmas.Bool.{le-leb, lt-leb}
 use Rattle.ab_msg.specs.declared.content.Content.{Content}
-use Rattle.ab_msg.specs.Claims.{each_before}
+use Rattle.ab_hist.specs.declared.request.Request.{Request}
+use Rattle.ab_msg.specs.Claims.{each_before, claims_at, tag_of_position, asked}
+use Rattle.ab_check.specs.Chains.{asked_at}
+use Rattle.std.proofs.lemmas.List.{map-append}
 use Rattle.ab_check.specs.Checks.{Check, Judge, checked_from}
 use Rattle.ab_check.proofs.CheckLemmas.{good, bad, checked-ok, checked-err, checked-place}
 
@@ -24,3 +27,20 @@ pub before-wrong : (judge : Judge) (t : Content → Check) (says : ℕ → Conte
     → checked_from judge n (map t (each_before left says p)) ≡ bad w
 before-wrong judge t says left k p n w is le e =
     rw (before-here t says left k p is le) (checked-err judge n w (t (says (p - (k + 1))) ∷ []) (map t (each_before k says p)) e)
+
+front-of : (b : Bool) (x : Content) (xs : List Content) → cond b (x ∷ xs) xs ≡ cond b (x ∷ []) [] ++ xs
+front-of true x xs = refl
+front-of false x xs = refl
+
+-- what a replica checks: the client's request at the front, and then the positions before its own
+pub claims-front : (t : Content → Check) (f i : ℕ) (m : Request) (n : ℕ) (d : List ℕ) (p : ℕ)
+    → map t (claims_at f i m n d p) ≡ map t (asked_at f i m p) ++ map t (each_before (f + 1) (tag_of_position f i m n d) p)
+claims-front t f i m n d p =
+    ap (map t) (front-of (leb p (f + 1)) (asked i m) (each_before (f + 1) (tag_of_position f i m n d) p))
+    ∙ map-append t (asked_at f i m p) (each_before (f + 1) (tag_of_position f i m n d) p)
+
+pub asked-here : (t : Content → Check) (f i : ℕ) (m : Request) (p : ℕ) → p ≤ f + 1 → map t (asked_at f i m p) ≡ t (asked i m) ∷ []
+asked-here t f i m p le = rw (le-leb p (f + 1) le) refl
+
+pub asked-none : (t : Content → Check) (f i : ℕ) (m : Request) (p : ℕ) → f + 1 < p → map t (asked_at f i m p) ≡ []
+asked-none t f i m p lt = rw (lt-leb p (f + 1) lt) refl

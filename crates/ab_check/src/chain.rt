@@ -78,7 +78,11 @@ fn said_text(l: &LinkRef<'_>, r: u8) -> Text
 }
 
 /// The first tag of one party for another.
-fn tag_between<'a>(tags: ListRef<'a, BetweenRef<'a>>, by: Party, to: Party) -> Option<&'a Tag>
+pub(crate) fn tag_between<'a>(
+    tags: ListRef<'a, BetweenRef<'a>>,
+    by: Party,
+    to: Party,
+) -> Option<&'a Tag>
     ensures { option_map (λ tag. tag.now) result ≡ tag_between by to (chain_tags tags.entry) }
 {
     'tags: for t in tags {
@@ -112,7 +116,7 @@ fn check_said<'a, C: Checker>(
 }
 
 /// The same list once more.
-fn again<'a, P: Part<'a>>(list: &ListRef<'a, P>) -> ListRef<'a, P>
+pub(crate) fn again<'a, P: Part<'a>>(list: &ListRef<'a, P>) -> ListRef<'a, P>
     ensures { result ≡ list.now }
 {
     *list

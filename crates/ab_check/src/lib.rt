@@ -2,6 +2,7 @@
 #![tactic(auto)]
 
 mod chain;
+mod chains;
 mod changes;
 mod checker;
 mod laws;
@@ -11,6 +12,7 @@ mod tags;
 mod text;
 
 pub use chain::{LinkRef, check_before};
+pub use chains::{check_client, check_replica};
 pub use changes::{check_changes, check_proof};
 pub use checker::Checker;
 pub use laws::claims_are_checked;

@@ -41,14 +41,14 @@ pub fn check_asked<C: Checker>(
     place: u32,
     instance: u32,
     m: &RequestRef<'_>,
-    tag: &Tag,
+    tag: Option<&Tag>,
 ) -> Result<u32, u32>
     requires room { place + 1 ≤ 4294967295 }
     requires short { length m.now.command.now ≤ 128 }
-    ensures { result ≡ checked_from (C.judge c.now) place (tagged (asked instance (request m.now)) (Some tag.now) ∷ []) }
+    ensures { result ≡ checked_from (C.judge c.now) place (tagged (asked instance (request m.now)) (option_map (λ t. t.now) tag.entry) ∷ []) }
 {
     let text = request_text(instance, m);
-    if c.tag(Party::Client(m.client), text.as_slice(), Some(tag)) {
+    if c.tag(Party::Client(m.client), text.as_slice(), tag) {
         Ok(place + 1)
     } else {
         Err(place)
@@ -68,6 +68,6 @@ pub fn check_offer<'a, C: Checker>(
 {
     match offer {
         OfferRef::Base(aborts) => check_aborts(c, place, aborts),
-        OfferRef::Request { request, tag } => check_asked(c, place, instance, &request, tag),
+        OfferRef::Request { request, tag } => check_asked(c, place, instance, &request, Some(tag)),
     }
 }
