@@ -1,0 +1,4 @@
+-- Lemmas of this crate.
+pub mod CheckLemmas
+pub mod ClaimLemmas
+pub mod ChainLemmas

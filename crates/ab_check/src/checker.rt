@@ -1,0 +1,21 @@
+//! Who tells whether a tag or a signature is right.
+
+ghost use Rattle.std.specs.Prelude.{◌≡◌};
+ghost use Rattle.std.specs.Option.{option_map};
+ghost use Rattle.ab_check.specs.Checks.{Judge, by_sig, by_tag};
+
+use ab_msg::Tag;
+use ab_num::Party;
+
+/// The keys of a party, with the signatures that are known to verify.
+pub trait Checker {
+    ghost judge: { Self → Judge };
+
+    /// Whether the tag is there and is the maker's over the text.
+    fn tag(&self, maker: Party, text: &[u8], tag: Option<&Tag>) -> bool
+        ensures { result ≡ judge self.now maker text.now (by_tag (option_map (λ t. t.now) tag.entry)) };
+
+    /// Whether it is the maker's signature over the text.
+    fn sig(&self, maker: Party, text: &[u8], sig: &[u8]) -> bool
+        ensures { result ≡ judge self.now maker text.now (by_sig sig.now) };
+}

@@ -1,0 +1,82 @@
+//! Reads lines of a digit and hexadecimal bytes, and tells where the bytes give another answer: 0 is a
+//! message, which is also owned and written again, and 1 to 5 the first defect.
+#![tactic(auto)]
+
+ghost use Rattle.ab_wire.specs.Views.{IsReceived};
+
+use ab_num::OutOfMemory;
+use ab_read::{Bad, MsgRef, read};
+use ab_write::write;
+use std::alloc::Global;
+use std::io;
+
+fn digit(c: u8) -> u8 {
+    match c {
+        b'0'..=b'9' => c - b'0',
+        b'a'..=b'f' => c - b'a' + 10,
+        _ => 0,
+    }
+}
+
+fn decoded(alloc: Global, hex: &[u8]) -> io::Result<Vec<u8>> {
+    let mut out = Vec::new(alloc);
+    let mut high = None;
+    for c in hex {
+        match high {
+            None => high = Some(digit(*c)),
+            Some(first) => {
+                let byte = (first & 15) * 16 + (digit(*c) & 15);
+                out.push(byte)?;
+                high = None;
+            }
+        }
+    }
+    Ok(out)
+}
+
+/// Whether the message, owned and written, has these bytes.
+fn is_written<'a>(alloc: Global, m: MsgRef<'a>, bytes: &[u8]) -> Result<bool, OutOfMemory>
+    requires { IsReceived m }
+{
+    let owned = m.own(alloc)?;
+    let copy = owned.copy(alloc)?;
+    let written = write(alloc, &copy)?;
+    Ok(written.as_slice() == bytes)
+}
+
+fn answer(alloc: Global, bytes: &[u8]) -> Result<u8, OutOfMemory> {
+    match read(bytes) {
+        Ok(m) => Ok(if is_written(alloc, m, bytes)? { 0 } else { 6 }),
+        Err(Bad::Short) => Ok(1),
+        Err(Bad::BadCode) => Ok(2),
+        Err(Bad::BadLength) => Ok(3),
+        Err(Bad::BadField) => Ok(4),
+        Err(Bad::Trailing) => Ok(5),
+    }
+}
+
+/// Whether a line's bytes give the answer of its digit.
+fn is_as_told(alloc: Global, line: &[u8]) -> io::Result<bool> {
+    match line {
+        [] => Ok(true),
+        [told, hex @ ..] => {
+            let bytes = decoded(alloc, hex)?;
+            Ok(matches!(answer(alloc, bytes.as_slice()), Ok(found) if found == digit(*told)))
+        }
+    }
+}
+
+fn main(rt: HostRuntime) -> io::Result<()> {
+    let mut right = 0u32;
+    let mut wrong = 0u32;
+    for line in rt.lines(rt.alloc()) {
+        let line = line?;
+        if is_as_told(rt.alloc(), line.as_str().as_bytes())? {
+            right = right.saturating_add(1);
+        } else {
+            wrong = wrong.saturating_add(1);
+            println!(rt; "another answer: line {}", right.saturating_add(wrong))?;
+        }
+    }
+    println!(rt; "{right} as told, {wrong} not")
+}
