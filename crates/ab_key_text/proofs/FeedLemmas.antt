@@ -1,6 +1,6 @@
 -- No line of a key text has a line feed, so its text has these lines.
-use Rattle.std.proofs.Common.{◌≡◌, ℕ, zero, suc, ◌+◌, ◌*◌, ◌<◌, ◌≤◌, ◌^◌, List, [], ◌∷◌, ◌++◌, Bool, true, false, Option, None, Some, Ok, IsTrue, All, codes, decimal, length, map, eqb, refl, sym, ap, ◌∙◌, subst, arith, inl, inr, if◌then◌else◌}
-use Rattle.std.specs.Prelude.{flat_map, not, ◌&&◌}
+use Rattle.std.proofs.Common.{◌≡◌, ℕ, zero, suc, ◌+◌, ◌*◌, ◌<◌, ◌≤◌, List, [], ◌∷◌, ◌++◌, Bool, true, false, Option, None, Some, Ok, IsTrue, All, codes, decimal, length, map, eqb, refl, sym, ap, ◌∙◌, subst, arith, inl, inr, if◌then◌else◌}
+use Rattle.std.specs.Prelude.{flat_map, not}
 use Rattle.std.specs.List.{AllByRecursion, filter, list_all, range_with_len}
 use Rattle.std.proofs.lemmas.Bool.{false_from_ne_true, and_parts}
 use Rattle.std.proofs.lemmas.Bool.Decides.{Decides-eqb, Decides-ltb}
@@ -17,7 +17,6 @@ use Rattle.ab_num.specs.Bounds.{IsInBounds}
 use Rattle.ab_keys.specs.Keys.{exchanges, is_party}
 use Rattle.ab_keys.specs.Rings.{Peer, parties}
 use Rattle.ab_text.specs.Cores.{Lacks, party_text, IsParty}
-use Rattle.ab_text.specs.HexDigits.{IsLowerDigit}
 use Rattle.ab_text.specs.Heads.{plan_line, service_line, lms_line}
 use Rattle.ab_text.specs.Lines.{lines_of, onto_first}
 use Rattle.ab_text.proofs.PartLemmas.{Lacks-append, Lacks-cons, Lacks-decimal}
@@ -25,7 +24,7 @@ use Rattle.ab_text.proofs.CoreLemmas.{Lacks-party}
 use Rattle.ab_text.proofs.HexLemmas.{encoded_lower}
 use Rattle.ab_key_text.specs.Keys.{Secret, PartyKeys, IsBytes, IsSecretOf, IsPartyKeys, peers_in}
 use Rattle.ab_key_text.specs.Reading.{keys_in}
-use Rattle.ab_key_text.specs.Spelling.{key_line, peer_lines, public_lines, secret_line, secret_lines, cluster_lines, name_lines, key_lines, text_of}
+use Rattle.ab_key_text.specs.Spelling.{key_line, peer_lines, public_lines, secret_lines, cluster_lines, name_lines, key_lines, text_of}
 use Rattle.ab_key_text.proofs.RoundLemmas.{spelled_reads}
 
 abbrev HasNoFeed : List ℕ → Type 0
@@ -89,9 +88,11 @@ no_feed_in_height Ten = tested (codes "lms 10") refl
 no_feed_in_secret : (me : Party) (s : Option Secret) → IsSecretOf me s → HaveNoFeed (secret_lines s)
 no_feed_in_secret me None good = tt
 no_feed_in_secret (Client c) (Some s) good = absurd good
-no_feed_in_secret (Replica r) (Some s) good =
-    (Lacks-append 10 (codes "secret ") (encode_lower s.id ++ 32 ∷ encode_lower s.seed) (tested (codes "secret ") refl)
-    (Lacks-append 10 (encode_lower s.id) (32 ∷ encode_lower s.seed) (no_feed_in_digits s.id good.0.small) (Lacks-cons 10 32 (encode_lower s.seed) (λ e. omega (arith, e)) (no_feed_in_digits s.seed good.1.small))), tt)
+no_feed_in_secret (Replica r) (Some s) good = (
+  Lacks-append 10 (codes "secret ") (encode_lower s.id ++ 32 ∷ encode_lower s.seed) (tested (codes "secret ") refl)
+      (Lacks-append 10 (encode_lower s.id) (32 ∷ encode_lower s.seed) (no_feed_in_digits s.id good.0.small) (Lacks-cons 10 32 (encode_lower s.seed) (λ e. omega (arith, e)) (no_feed_in_digits s.seed good.1.small))),
+  tt,
+)
 
 no_feed_in_publics : (keys : List (List ℕ)) (r : ℕ) → r + length keys ≤ 255 → AllByRecursion (IsBytes 56) keys → HaveNoFeed (public_lines r keys)
 no_feed_in_publics [] r few good = tt
@@ -104,10 +105,13 @@ AreSmall ps = AllByRecursion IsParty ps
 
 no_feed_in_peers : (xs : List Peer) → AreSmall (map (λ x. x.party) xs) → AllByRecursion (λ x. IsBytes 32 x.to × IsBytes 32 x.from) xs → HaveNoFeed (flat_map peer_lines xs)
 no_feed_in_peers [] small good = tt
-no_feed_in_peers (x ∷ xs) small good =
-    (no_feed_in_key (codes "out ") x.party 32 x.to (tested (codes "out ") refl) small.0 good.0.0,
-    (no_feed_in_key (codes "in ") x.party 32 x.from (tested (codes "in ") refl) small.0 good.0.1,
-    no_feed_in_peers xs small.1 good.1))
+no_feed_in_peers (x ∷ xs) small good = (
+  no_feed_in_key (codes "out ") x.party 32 x.to (tested (codes "out ") refl) small.0 good.0.0,
+  (
+    no_feed_in_key (codes "in ") x.party 32 x.from (tested (codes "in ") refl) small.0 good.0.1,
+    no_feed_in_peers xs small.1 good.1,
+  ),
+)
 
 small_replicas : (a n : ℕ) → a + n ≤ 256 → AreSmall (map Replica (range_with_len a n))
 small_replicas a zero few = tt
