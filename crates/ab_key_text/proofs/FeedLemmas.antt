@@ -1,6 +1,6 @@
 -- No line of a key text has a line feed, so its text has these lines.
-use Rattle.std.proofs.Common.{◌≡◌, ℕ, zero, suc, ◌+◌, ◌*◌, ◌<◌, ◌≤◌, ◌^◌, List, [], ◌∷◌, ◌++◌, Bool, true, false, Option, None, Some, Ok, IsTrue, All, codes, decimal, length, map, eqb, refl, sym, ap, ◌∙◌, subst, arith, inl, inr, if◌then◌else◌}
-use Rattle.std.specs.Prelude.{flat_map, not, ◌&&◌}
+use Rattle.std.proofs.Common.{◌≡◌, ℕ, zero, suc, ◌+◌, ◌*◌, ◌<◌, ◌≤◌, List, [], ◌∷◌, ◌++◌, Bool, true, false, Option, None, Some, Ok, IsTrue, All, codes, decimal, length, map, eqb, refl, sym, ap, ◌∙◌, subst, arith, inl, inr, if◌then◌else◌}
+use Rattle.std.specs.Prelude.{flat_map, not}
 use Rattle.std.specs.List.{AllByRecursion, filter, list_all, range_with_len}
 use Rattle.std.proofs.lemmas.Bool.{false_from_ne_true, and_parts}
 use Rattle.std.proofs.lemmas.Bool.Decides.{Decides-eqb, Decides-ltb}
@@ -17,7 +17,6 @@ use Rattle.ab_num.specs.Bounds.{IsInBounds}
 use Rattle.ab_keys.specs.Keys.{exchanges, is_party}
 use Rattle.ab_keys.specs.Rings.{Peer, parties}
 use Rattle.ab_text.specs.Cores.{Lacks, party_text, IsParty}
-use Rattle.ab_text.specs.HexDigits.{IsLowerDigit}
 use Rattle.ab_text.specs.Heads.{plan_line, service_line, lms_line}
 use Rattle.ab_text.specs.Lines.{lines_of, onto_first}
 use Rattle.ab_text.proofs.PartLemmas.{Lacks-append, Lacks-cons, Lacks-decimal}
@@ -25,7 +24,7 @@ use Rattle.ab_text.proofs.CoreLemmas.{Lacks-party}
 use Rattle.ab_text.proofs.HexLemmas.{encoded_lower}
 use Rattle.ab_key_text.specs.Keys.{Secret, PartyKeys, IsBytes, IsSecretOf, IsPartyKeys, peers_in}
 use Rattle.ab_key_text.specs.Reading.{keys_in}
-use Rattle.ab_key_text.specs.Spelling.{key_line, peer_lines, public_lines, secret_line, secret_lines, cluster_lines, name_lines, key_lines, text_of}
+use Rattle.ab_key_text.specs.Spelling.{key_line, peer_lines, public_lines, secret_lines, cluster_lines, name_lines, key_lines, text_of}
 use Rattle.ab_key_text.proofs.RoundLemmas.{spelled_reads}
 
 abbrev HasNoFeed : List ℕ → Type 0

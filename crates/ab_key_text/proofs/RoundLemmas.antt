@@ -1,9 +1,8 @@
 -- A whole key text, spelled and read.
-use Rattle.std.proofs.Common.{◌≡◌, ℕ, ◌+◌, ◌*◌, ◌<◌, ◌≤◌, List, [], ◌∷◌, ◌++◌, map, Option, None, Some, Result, Ok, Err, IsTrue, codes, decimal, length, refl, sym, ap, ◌∙◌, subst, arith, if◌then◌else◌, append-nil}
+use Rattle.std.proofs.Common.{◌≡◌, ℕ, ◌+◌, ◌*◌, ◌<◌, List, [], ◌∷◌, ◌++◌, map, Option, None, Some, Result, Ok, Err, IsTrue, codes, decimal, length, refl, sym, ap, ◌∙◌, arith, if◌then◌else◌, append-nil}
 use Rattle.std.specs.Prelude.{flat_map}
 use Rattle.std.specs.List.{range_with_len}
 use Rattle.std.specs.Option.{option_and_then}
-use Rattle.std.specs.Str.{bytes_eq}
 use Rattle.std.proofs.lemmas.Bool.Decides.{Decides-ltb}
 use Rattle.std.proofs.lemmas.Slice.Eq.{bytes_eq-Decides}
 use Rattle.ab_num.specs.declared.party.Party.{Party}
@@ -21,7 +20,7 @@ use Rattle.ab_key_text.specs.declared.fault.NodeFault.{NodeFault}
 use Rattle.ab_key_text.specs.declared.fault.NodeFault.TheVariants.{BadLine}
 use Rattle.ab_key_text.specs.Keys.{Secret, PartyKeys, IsPartyKeys, peers_in, replicas}
 use Rattle.ab_key_text.specs.Lines.{◌>>=◌, line_at, form_in, number_in, party_in}
-use Rattle.ab_key_text.specs.Reading.{Read, Setting, member, setting_at, secret_at, peers_at, publics_at, put_together, keys_after, keys_at, keys_in, ended}
+use Rattle.ab_key_text.specs.Reading.{Read, Setting, member, setting_at, peers_at, publics_at, put_together, keys_after, keys_at, keys_in, ended}
 use Rattle.ab_key_text.specs.Spelling.{cluster_lines, name_lines, key_lines, peer_lines, public_lines, secret_lines}
 use Rattle.ab_key_text.proofs.SpelledLemmas.{line_read, number_read, party_read, plan_read, service_read, height_read, IsSmall, secret_at_read, after_secret, peers_read, publics_read}
 

@@ -1,9 +1,8 @@
 -- What is spelled as a key text is read as it.
-use Rattle.std.proofs.Common.{◌≡◌, ℕ, zero, suc, ◌+◌, ◌*◌, ◌<◌, ◌≤◌, ◌^◌, List, [], ◌∷◌, ◌++◌, map, Option, None, Some, Result, Ok, Err, IsTrue, All, codes, decimal, take, drop, length, refl, sym, ap, ◌∙◌, subst, arith, if◌then◌else◌, append-nil, append_assoc, true, false}
-use Rattle.std.specs.Prelude.{flat_map, nat_le, ◌&&◌}
+use Rattle.std.proofs.Common.{◌≡◌, ℕ, zero, suc, ◌+◌, ◌*◌, ◌<◌, ◌≤◌, ◌^◌, List, [], ◌∷◌, ◌++◌, map, Option, None, Some, Result, Ok, All, codes, decimal, take, drop, length, refl, sym, ap, ◌∙◌, arith, if◌then◌else◌, append-nil, append_assoc}
+use Rattle.std.specs.Prelude.{flat_map, ◌&&◌}
 use Rattle.std.specs.List.{AllByRecursion, range_with_len}
 use Rattle.std.specs.Option.{option_and_then}
-use Rattle.std.specs.Str.{bytes_eq}
 use Rattle.std.proofs.lemmas.Bool.{le-leb}
 use Rattle.std.proofs.lemmas.Slice.Eq.{bytes_eq-Decides}
 use Rattle.hex.specs.Hex.{encode_lower, lower_digits, IsBytes as AreBytes}
@@ -18,14 +17,13 @@ use Rattle.ab_num.specs.declared.plan.Height.{Height}
 use Rattle.ab_num.specs.declared.plan.Height.TheVariants.{Five, Ten}
 use Rattle.ab_keys.specs.Rings.{Peer}
 use Rattle.ab_text.specs.Cores.{party_text}
-use Rattle.ab_text.specs.Heads.{number_in as digits_in, number_after, stripped, spelled_in, plan_line, plans, service_line, services, lms_line, heights}
-use Rattle.ab_text.specs.Numbers.{number_of}
+use Rattle.ab_text.specs.Heads.{number_in as digits_in, spelled_in, plan_line, plans, service_line, services, lms_line, heights}
 use Rattle.ab_text.proofs.NumberLemmas.{is_some_number}
 use Rattle.ab_text.proofs.WordLemmas.{stripped-is}
 use Rattle.ab_key_text.specs.declared.fault.NodeFault.{NodeFault}
 use Rattle.ab_key_text.specs.Hex.{bytes_in, in_lower_case}
 use Rattle.ab_key_text.specs.Keys.{Secret, IsBytes, IsSecretOf}
-use Rattle.ab_key_text.specs.Lines.{◌>>=◌, found_at, line_at, form_in, bounded, number_in, numbered, or_else, party_in, bytes_after, key_in}
+use Rattle.ab_key_text.specs.Lines.{◌>>=◌, found_at, line_at, bounded, number_in, numbered, or_else, party_in, bytes_after, key_in}
 use Rattle.ab_key_text.specs.Reading.{Read, secret_of_parts, secret_text_in, secret_in, secret_at, peers_at, publics_at}
 use Rattle.ab_key_text.specs.Spelling.{key_line, peer_lines, public_lines, secret_line, secret_lines}
 

@@ -1,13 +1,11 @@
 -- Lines as they are written, one behind the other.
-use Rattle.std.proofs.Common.{◌≡◌, ℕ, zero, suc, ◌+◌, ◌<◌, List, [], ◌∷◌, ◌++◌, append_assoc, codes, sym, ap, ◌∙◌, refl, Some, decimal, take, get_or, length, arith}
-use Rattle.std.specs.Prelude.{flat_map}
+use Rattle.std.proofs.Common.{◌≡◌, ℕ, zero, suc, ◌+◌, ◌<◌, List, [], ◌∷◌, ◌++◌, append_assoc, codes, sym, ap, ◌∙◌, refl, decimal, take, get_or, length, arith}
 use Rattle.ab_num.specs.declared.party.Party.{Party}
 use Rattle.ab_num.specs.declared.party.Party.TheVariants.{Replica}
 use Rattle.hex.specs.Hex.{encode_lower}
 use Rattle.ab_text.specs.Cores.{party_text}
 use Rattle.ab_text.specs.Reports.{◌then◌}
-use Rattle.ab_key_text.specs.Keys.{Secret, PartyKeys}
-use Rattle.ab_key_text.specs.Spelling.{key_line, public_lines, secret_line, text_of}
+use Rattle.ab_key_text.specs.Spelling.{key_line, public_lines, text_of}
 
 pub key_grouped : (word : List ℕ) (p : Party) (key : List ℕ) → (word then party_text p then codes " " then encode_lower key) ≡ key_line word p key
 key_grouped word p key = sym (simp append_assoc)

@@ -5,7 +5,7 @@ use Rattle.std.specs.Option.{option_and_then}
 use Rattle.ab_num.specs.declared.party.Party.{Party}
 use Rattle.ab_num.specs.declared.party.Party.TheVariants.{Replica, Client}
 use Rattle.ab_text.specs.Cores.{party_text}
-use Rattle.ab_text.specs.Heads.{stripped, number_after, spelled_in}
+use Rattle.ab_text.specs.Heads.{stripped, number_after}
 use Rattle.ab_key_text.specs.declared.fault.NodeFault.{NodeFault}
 use Rattle.ab_key_text.specs.declared.fault.NodeFault.TheVariants.{BadLine, NoEnd, OutOfMemory}
 use Rattle.ab_key_text.specs.Hex.{bytes_in}

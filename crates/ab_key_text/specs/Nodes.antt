@@ -1,5 +1,5 @@
 -- The text that sets up a node: the keys of its party, then a client's commands, then the end.
-use Rattle.std.specs.Prelude.{ℕ, ◌+◌, List, [], ◌∷◌, ◌++◌, Bool, true, false, Option, None, Some, Result, Ok, Err, codes, length, ◌&&◌, nat_le, if◌then◌else◌}
+use Rattle.std.specs.Prelude.{ℕ, ◌+◌, List, [], ◌∷◌, ◌++◌, Bool, Option, None, Some, Result, Err, codes, length, ◌&&◌, nat_le, if◌then◌else◌}
 use Rattle.std.specs.Str.{bytes_eq}
 use Rattle.std.specs.List.{list_all}
 use Rattle.std.specs.Option.{option_and_then}
@@ -7,7 +7,7 @@ use Rattle.ab_num.specs.declared.party.Party.{Party}
 use Rattle.ab_num.specs.declared.party.Party.TheVariants.{Replica, Client}
 use Rattle.ab_text.specs.Heads.{stripped}
 use Rattle.ab_key_text.specs.declared.fault.NodeFault.{NodeFault}
-use Rattle.ab_key_text.specs.declared.fault.NodeFault.TheVariants.{BadLine, NoEnd}
+use Rattle.ab_key_text.specs.declared.fault.NodeFault.TheVariants.{NoEnd}
 use Rattle.ab_key_text.specs.Keys.{PartyKeys}
 use Rattle.ab_key_text.specs.Lines.{◌>>=◌, found_at}
 use Rattle.ab_key_text.specs.Reading.{keys_at, ended}

@@ -1,6 +1,6 @@
 -- What stands before and after the first `=`.
-use Rattle.std.proofs.Common.{◌≡◌, ℕ, zero, suc, List, [], ◌∷◌, ◌++◌, Option, None, Some, eqb, refl, ap, sym, ◌∙◌, if◌then◌else◌, inl, inr, ◌⊎◌, arith, Bor, true, false}
-use Rattle.std.specs.Prelude.{IfSome, IsSomeAnd, MatchOption}
+use Rattle.std.proofs.Common.{◌≡◌, ℕ, zero, suc, List, [], ◌∷◌, ◌++◌, Option, None, Some, eqb, refl, ap, sym, ◌∙◌, if◌then◌else◌, inl, inr, arith, Bor, true, false}
+use Rattle.std.specs.Prelude.{IsSomeAnd, MatchOption}
 use Rattle.std.proofs.lemmas.Bool.{cases_Bool}
 use Rattle.std.proofs.lemmas.Bool.Decides.{Decides-eqb}
 use Rattle.ab_text.specs.Cores.{Lacks}

@@ -1,7 +1,7 @@
-use Rattle.std.proofs.Common.{◌≡◌, ◌<◌, ◌+◌, ◌-◌, List, ◌∷◌, length, take, drop, get_or, ap, sym, ◌∙◌, arith, [], None, rules}
+use Rattle.std.proofs.Common.{◌≡◌, ◌<◌, ◌+◌, ◌-◌, ◌∷◌, length, take, drop, get_or, ap, sym, ◌∙◌, arith, [], None, rules}
 use Rattle.std.proofs.lemmas.List.{take_all, length-drop}
 use Rattle.ab_words.specs.declared.uses.Use.{Use as UseInCode}
-use Rattle.ab_words.specs.Uses.{Use, text_at, uses_seen}
+use Rattle.ab_words.specs.Uses.{text_at, uses_seen}
 use Rattle.ab_words.specs.Values.{of_name}
 use Rattle.ab_words.proofs.UseLemmas.{found}
 use Rattle.ab_words.proofs.values.first.Goals as goal

@@ -1,4 +1,4 @@
-use Rattle.std.proofs.Common.{◌≡◌, ◌<◌, ℕ, List, [], ◌∷◌, ◌++◌, codes, take, get_or, length, sym, ap, ◌∙◌, rules, arith}
+use Rattle.std.proofs.Common.{◌≡◌, ◌<◌, [], ◌∷◌, ◌++◌, codes, take, get_or, length, sym, ap, ◌∙◌, rules}
 use Rattle.ab_num.specs.declared.party.Party.TheVariants.{Replica}
 use Rattle.ab_key_text.specs.Spelling.{key_line, public_lines, text_of}
 use Rattle.ab_key_text.proofs.WritingLemmas.{added, public_lines_more}

@@ -1,5 +1,4 @@
 use Rattle.std.proofs.Common.{◌≡◌, take}
-use Rattle.ab_keys.specs.Rings.{Ring}
 use Rattle.ab_key_text.proofs.keys.PartyKeys.ring.Given as goal
 
 -- the peers so far are in the ring

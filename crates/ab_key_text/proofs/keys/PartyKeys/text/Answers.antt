@@ -1,4 +1,4 @@
-use Rattle.std.proofs.Common.{◌≡◌, ℕ, List, [], ◌∷◌, ◌++◌, ap, ◌∙◌, refl}
+use Rattle.std.proofs.Common.{◌≡◌, [], ◌++◌, ap, ◌∙◌}
 use Rattle.std.specs.Prelude.{flat_map}
 use Rattle.ab_key_text.specs.Spelling.{cluster_lines, name_lines, secret_lines, peer_lines, public_lines, text_of}
 use Rattle.ab_key_text.proofs.WritingLemmas.{added, five_parts}
