@@ -8,8 +8,9 @@ use Rattle.ab_text.specs.declared.line.Premise.{Premise}
 use Rattle.ab_text.specs.declared.line.Premise.TheVariants.{Held}
 use Rattle.ab_text.specs.Schedules.{script_of}
 use Rattle.ab_quorum.specs.Rules.{quorum}
+use Rattle.abstract_bft.specs.declared.replay.ReplayFault.TheVariants.{OutOfMemory}
 use Rattle.abstract_bft.specs.Replays.{run_in, setup_in, EventsCause}
-use Rattle.abstract_bft.proofs.RunLemmas.{all_replicas, quorum_stays, runs_schedule, sized_so}
+use Rattle.abstract_bft.proofs.RunLemmas.{all_replicas, kept_err, quorum_stays, runs_schedule, sized_so}
 use Rattle.abstract_bft.proofs.replay.perform.Goals as goal
 
 pub report-requires : goal.report-requires
@@ -55,4 +56,12 @@ returns-in_err-run_events-clause-cause g c =
     let w = c.in_ok-world.world in
     let es = c.as_slice-2.result.now in
     let same = runs_schedule proto head events es c.as_slice.result.now c.in_ok-setup.setup w (outcome proto 1 w es) c.as_slice.ensures c.in_ok-setup.ensures c.in_ok-world.ensures c.as_slice-2.ensures (λ i. outcome proto 1 w es) in
-    subst (λ (o : Result (World Member) (ℕ × WorldFault)). IfErr c.from_residual-in_err-run_events.result (λ e. EventsCause e c.args.line o)) (sym same) (search rules)
+    subst (λ (o : Result (World Member) (ℕ × WorldFault)). IfErr c.from_residual-in_err-run_events.result (λ e. EventsCause e c.args.line o)) (sym same)
+    (kept_err c.from_residual-in_err-run_events.result c.in_err-run_events.field-0.0 (λ e. EventsCause e c.args.line (outcome proto 1 w es)) c.from_residual-in_err-run_events.ensures.1 c.in_err-run_events.ensures.cause)
+
+pub returns-in_err-report-clause-cause : goal.returns-in_err-report-clause-cause
+returns-in_err-report-clause-cause g c =
+    let proto = quorum g.S.Service.machine in
+    let head = c.args.schedule.now.head in
+    let s = script_of head c.args.schedule.now.events in
+    kept_err c.from_residual-in_err-report.result OutOfMemory (λ e. EventsCause e c.args.line (run_in proto head.cluster s)) c.from_residual-in_err-report.ensures.1 tt
