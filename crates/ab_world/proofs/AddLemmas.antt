@@ -1,5 +1,5 @@
 -- What an event of a correct party adds.
-use Rattle.std.proofs.Common.{◌≡◌, ℕ, ◌++◌, false, Bool, Option, List, map, refl, sym, ap, ◌∙◌}
+use Rattle.std.proofs.Common.{◌≡◌, ℕ, ◌++◌, false, Bool, Option, List, map, sym, ap, ◌∙◌}
 use Rattle.std.specs.Prelude.{if◌then◌else◌}
 use Rattle.ab_num.specs.declared.party.Party.{Party}
 use Rattle.ab_hist.specs.declared.request.Request.{Request}

@@ -1,6 +1,6 @@
 -- What a world shows of the run, event by event.
 use Rattle.std.proofs.Common.{◌≡◌, ℕ, ◌+◌, ◌*◌, ◌<◌, ◌≤◌, Bool, true, false, Option, Some, None, List, [], ◌∷◌, ◌++◌, length, arith, refl, sym, ap, ◌∙◌, subst, inl, inr, append-nil}
-use Rattle.std.specs.Prelude.{map, flat_map, nat_lt, nat_le, Result, Ok, Err, slice_get, slice_set, reverse, if◌then◌else◌, ◌==◌, fold}
+use Rattle.std.specs.Prelude.{map, flat_map, nat_lt, nat_le, Result, Ok, Err, slice_get, slice_set, reverse, if◌then◌else◌, fold}
 use Rattle.std.specs.List.{filter}
 use Rattle.std.specs.Option.{option_map}
 use Rattle.std.proofs.lemmas.Bool.{cases_Bool, lt-ltb}
@@ -8,7 +8,6 @@ use Rattle.std.proofs.lemmas.List.{map-append, length-map}
 use Rattle.std.proofs.lemmas.List.Elements.{filter-append}
 use Rattle.ab_num.specs.declared.party.Party.{Party}
 use Rattle.ab_num.specs.declared.party.Party.TheVariants.{Replica, Client}
-use Rattle.ab_hist.specs.declared.request.Request.{Request}
 use Rattle.ab_text.specs.declared.event.Event.{Event}
 use Rattle.ab_text.specs.declared.line.Cause.{Cause}
 use Rattle.ab_text.specs.declared.line.Line.{Line}
@@ -22,39 +21,38 @@ use Rattle.ab_msg.specs.Grammar.{IsMessage, spell_content}
 use Rattle.ab_seal.specs.declared.fault.OpenFault.{OpenFault}
 use Rattle.ab_abs.specs.declared.seen.Seen.{Seen}
 use Rattle.ab_abs.specs.declared.seen.Seen.TheVariants as seen
-use Rattle.ab_abs.specs.Faults.{is_faulty}
 use Rattle.ab_abs.specs.Messages.{took}
 use Rattle.ab_abs.specs.Ensembles.{Proto}
-use Rattle.ab_links.specs.Digested.{Item, history, request}
+use Rattle.ab_links.specs.Digested.{request}
 use Rattle.ab_run.specs.Setups.{Setup as RunSetup, replicas}
-use Rattle.ab_run.specs.Replicas.{Rep, state_at}
-use Rattle.ab_run.specs.Runs.{to_replica, to_client, invoke, Run, run, first_rep, histories_for, requests_for}
+use Rattle.ab_run.specs.Replicas.{Rep}
+use Rattle.ab_run.specs.Runs.{to_replica, to_client, Run, run, first_rep, histories_for, requests_for}
 use Rattle.ab_run.specs.Local.{rep_after}
 use Rattle.ab_run.specs.declared.noted.Noted.{Noted}
-use Rattle.ab_run.specs.Inputs.{Input, told, came, rang, elsewhere, event_in, events_in, opened as opened_event}
-use Rattle.ab_run.specs.Stages.{Stage, stage_after, stage_over, first_stage}
+use Rattle.ab_run.specs.Inputs.{Input, events_in, opened as opened_event}
+use Rattle.ab_run.specs.Stages.{Stage, stage_after, first_stage}
 use Rattle.ab_run.proofs.Listed.{set_hit}
 use Rattle.ab_run.proofs.Shown.{first_length}
-use Rattle.ab_run.proofs.Staged.{stage_back, stage_is_back, back_shown}
+use Rattle.ab_run.proofs.Staged.{stage_back, back_shown}
 use Rattle.ab_client.specs.Clients.{Seat}
 use Rattle.ab_post.specs.Packets.{total, most_bytes}
 use Rattle.ab_cast.specs.declared.place.Place.{Place}
 use Rattle.ab_cast.specs.declared.place.Place.TheVariants as place
 use Rattle.ab_cast.specs.Setups.{Setup, run_setup, is_bad, party_at, replica_twins, client_twins}
 use Rattle.ab_cast.specs.Cores.{Core, replica, client, Taken, command, message, core_after, core_marks, core_spends}
-use Rattle.ab_cast.specs.Casts.{Cast, core_at, with_core, next, clis_of, first_seat}
-use Rattle.ab_premise.specs.Collisions.{Watch, OpensMessages, checked_items, state_items, first_items, call_items, client_items, items_of, looked, looked_in, taker_of, watched}
+use Rattle.ab_cast.specs.Casts.{core_at, with_core, next, first_seat}
+use Rattle.ab_premise.specs.Collisions.{Watch, OpensMessages, checked_items, state_items, call_items, client_items, items_of, looked, looked_in, watched}
 use Rattle.ab_premise.specs.Spelled.{IsSpelledInput, AreSpelledInputs}
 use Rattle.ab_premise.proofs.Watches.{not_found}
 use Rattle.ab_world.specs.declared.fault.WorldFault.{WorldFault}
 use Rattle.ab_world.specs.declared.fault.WorldFault.TheVariants.{PacketLimit}
 use Rattle.ab_world.specs.Lines.{line_of, note, spent_lines, is_observed, line_of_noted}
 use Rattle.ab_world.specs.Worlds.{World, start, shown_on, opening_at, opened, opener}
-use Rattle.ab_world.specs.Steps.{Given, ask, hand, Happening, ready, messages, taken_from, missed, settled, moved_at, after_taking, after, stepped_by, input_at, input_of, standing_of, replica_items, taken_requests}
+use Rattle.ab_world.specs.Steps.{Given, ask, hand, Happening, ready, messages, taken_from, moved_at, after_taking, after, stepped_by, input_at, input_of, standing_of, replica_items, taken_requests}
 use Rattle.ab_world.specs.Runs.{refused_or, outcome, input_or, inputs_of, came_to}
 use Rattle.ab_world.proofs.SeatLemmas.{clis_of-first, length-first_seats, get_there}
 use Rattle.ab_world.proofs.PlaceLemmas.{IsAt, Takes, Happens, ready_happens}
-use Rattle.ab_world.proofs.RunLemmas.{Stands, Advances, advances}
+use Rattle.ab_world.proofs.RunLemmas.{Stands, advances}
 
 -- ---- lines
 

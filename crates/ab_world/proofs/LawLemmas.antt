@@ -1,42 +1,37 @@
 -- The premise line of a world, and what a world promises.
-use Rattle.std.proofs.Common.{◌≡◌, ℕ, suc, zero, ◌+◌, ◌<◌, ◌≤◌, ◌↔◌, Bool, true, Option, Some, None, List, [], ◌∷◌, length, arith, refl, sym, ap, ◌∙◌, subst}
-use Rattle.std.specs.Prelude.{IsTrue, Contains, All, count_by, flat_map, map, nat_lt, ◌^◌, reverse, Result, Ok, Err, if◌then◌else◌}
+use Rattle.std.proofs.Common.{◌≡◌, ℕ, suc, zero, ◌↔◌, Bool, true, Some, None, List, [], ◌∷◌, arith, refl, sym, ap, ◌∙◌, subst}
+use Rattle.std.specs.Prelude.{IsTrue, Contains, flat_map, map, nat_lt, Result, Ok, Err}
 use Rattle.std.specs.List.{filter, list_all}
 use Rattle.std.proofs.lemmas.Bool.{ltb-true}
-use Rattle.std.proofs.lemmas.List.{reverse-reverse}
 use Rattle.ab_num.specs.declared.party.Party.{Party}
 use Rattle.ab_num.specs.declared.plan.Kind.{Kind}
 use Rattle.ab_num.specs.Places.{kind_of}
 use Rattle.ab_hist.specs.declared.request.Request.{Request}
 use Rattle.ab_hist.specs.Histories.{IsHistory}
-use Rattle.ab_hist.specs.Digests.{NoCollision}
 use Rattle.ab_text.specs.declared.event.Event.{Event}
 use Rattle.ab_text.specs.declared.line.Premise.{Premise}
-use Rattle.ab_text.specs.declared.line.Premise.TheVariants.{Held, Broken}
+use Rattle.ab_text.specs.declared.line.Premise.TheVariants.{Held}
 use Rattle.ab_form.specs.Formats.{IsBytes}
 use Rattle.ab_keys.specs.Rings.{Ring}
 use Rattle.ab_msg.specs.declared.content.Content.{Content}
 use Rattle.ab_msg.specs.declared.message.Msg.{Msg}
 use Rattle.ab_msg.specs.declared.message.Msg.TheVariants as msg
 use Rattle.ab_msg.specs.Claims.{claims}
-use Rattle.ab_msg.specs.Carried.{stated_history, is_replica}
+use Rattle.ab_msg.specs.Carried.{stated_history}
 use Rattle.ab_msg.specs.Grammar.{IsContent, IsMessage, spell_content}
 use Rattle.ab_seal.specs.declared.fault.OpenFault.{OpenFault}
 use Rattle.ab_seal.specs.declared.fault.OpenFault.TheVariants.{NotMine}
 use Rattle.ab_seal.specs.Opening.{opening}
-use Rattle.ab_abs.specs.Acts.{SlotsApart}
 use Rattle.ab_abs.specs.Messages.{IsKnown}
 use Rattle.ab_abs.specs.Places.{KeepsForm}
 use Rattle.ab_abs.specs.Ensembles.{Proto}
 use Rattle.ab_run.specs.Setups.{Setup as RunSetup}
-use Rattle.ab_run.specs.Runs.{run}
-use Rattle.ab_run.specs.Premises.{IsFormedFor, IsHonestRun}
+use Rattle.ab_run.specs.Premises.{IsHonestRun}
 use Rattle.ab_run.specs.Inputs.{Input, Opener, OpensFormed, SpellsApart, events_in}
 use Rattle.ab_run.specs.Stages.{Stage, Forgery, IsForgedAt, stage_over}
-use Rattle.ab_run.proofs.Staged.{stage_back, stage_is_back}
+use Rattle.ab_run.proofs.Staged.{stage_is_back}
 use Rattle.ab_cast.specs.Setups.{Setup, run_setup, ring_at}
-use Rattle.ab_premise.specs.declared.breach.Collision.{Collision}
-use Rattle.ab_premise.specs.Collisions.{IsFree, IsCollidedAt, OpensMessages, watched}
+use Rattle.ab_premise.specs.Collisions.{IsFree, OpensMessages, watched}
 use Rattle.ab_premise.specs.Premises.{passing, first_premise, faulty_premise, IsPremise, is_held}
 use Rattle.ab_premise.specs.Spelled.{IsSpelledRun}
 use Rattle.ab_premise.proofs.Lines.{premise_told}

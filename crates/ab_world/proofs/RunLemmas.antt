@@ -1,55 +1,31 @@
 -- A world is where the run of what came to its parties' own cores is.
-use Rattle.std.proofs.Common.{◌≡◌, ℕ, ◌+◌, ◌*◌, ◌<◌, ◌≤◌, Bool, true, false, Option, Some, None, List, [], ◌∷◌, ◌++◌, length, arith, refl, sym, ap, ◌∙◌, subst, inl, inr, append-nil, take}
-use Rattle.std.specs.Prelude.{IsTrue, All, fold, map, flat_map, nat_le, nat_lt, Result, Ok, Err, slice_get, reverse, if◌then◌else◌, ◌==◌, ◌^◌}
-use Rattle.std.specs.List.{filter, list_all}
+use Rattle.std.proofs.Common.{◌≡◌, ℕ, ◌+◌, ◌*◌, ◌<◌, true, Option, Some, None, List, length, refl, sym, ap, ◌∙◌, subst}
+use Rattle.std.specs.Prelude.{Result, Ok, Err, slice_get}
 use Rattle.std.specs.Option.{option_map}
-use Rattle.std.proofs.lemmas.List.{length-map}
-use Rattle.std.proofs.lemmas.Bool.{cases_Bool, lt-ltb, ltb-true}
-use Rattle.std.proofs.lemmas.Grind.{reverse_onto}
 use Rattle.ab_num.specs.declared.party.Party.{Party}
 use Rattle.ab_num.specs.declared.party.Party.TheVariants.{Replica, Client}
-use Rattle.ab_hist.specs.declared.request.Request.{Request}
-use Rattle.ab_text.specs.declared.event.Event.{Event}
 use Rattle.ab_text.specs.declared.line.Cause.{Cause}
-use Rattle.ab_text.specs.declared.line.Line.{Line}
 use Rattle.ab_msg.specs.declared.message.Msg.{Msg}
-use Rattle.ab_msg.specs.declared.message.Msg.TheVariants as msg
-use Rattle.ab_msg.specs.Claims.{claims}
-use Rattle.ab_msg.specs.Carried.{stated_history, stated_request, value_histories, value_requests, values_in}
-use Rattle.ab_msg.specs.Grammar.{IsMessage, spell_content}
+use Rattle.ab_msg.specs.Grammar.{spell_content}
 use Rattle.ab_seal.specs.declared.fault.OpenFault.{OpenFault}
-use Rattle.ab_abs.specs.Faults.{is_faulty}
 use Rattle.ab_abs.specs.Messages.{took}
 use Rattle.ab_abs.specs.Ensembles.{Proto}
-use Rattle.ab_links.specs.Digested.{Item, history, request}
-use Rattle.ab_run.specs.Setups.{Setup as RunSetup, replicas}
+use Rattle.ab_run.specs.Setups.{Setup as RunSetup}
 use Rattle.ab_run.specs.Clients.{Cli}
 use Rattle.ab_run.specs.Replicas.{Rep}
-use Rattle.ab_run.specs.Runs.{Event as RunEvent, to_replica, to_client, invoke, Run, run, first_rep, histories_for, requests_for}
 use Rattle.ab_run.specs.Local.{rep_after}
-use Rattle.ab_run.specs.Inputs.{Input, told, came, rang, elsewhere, event_in, events_in}
-use Rattle.ab_run.specs.Stages.{Stage, first_stage, stage_call, stage_cue, stage_still, stage_opened, stage_after, stage_over, call_histories, call_requests}
-use Rattle.ab_run.proofs.Listed.{set_length, set_hit}
-use Rattle.ab_run.proofs.Shown.{first_length}
-use Rattle.ab_run.proofs.Staged.{stage_back, stage_is_back, back_shown}
+use Rattle.ab_run.specs.Stages.{Stage, stage_call, stage_cue, stage_still, stage_opened, stage_after}
+use Rattle.ab_run.proofs.Listed.{set_length}
 use Rattle.ab_client.specs.Clients.{Seat}
-use Rattle.ab_post.specs.Packets.{total, most_bytes}
 use Rattle.ab_cast.specs.declared.place.Place.{Place}
 use Rattle.ab_cast.specs.declared.place.Place.TheVariants as place
-use Rattle.ab_cast.specs.Setups.{Setup, run_setup, is_bad, party_at, replica_twins, client_twins}
+use Rattle.ab_cast.specs.Setups.{run_setup, is_bad, party_at, replica_twins, client_twins}
 use Rattle.ab_cast.specs.Cores.{replica, client, Taken, command, message, cue_of}
-use Rattle.ab_cast.specs.Casts.{Cast, core_at, with_replica, with_client, next, clis_of, first_seat}
-use Rattle.ab_premise.specs.Collisions.{Watch, checked_items, state_items, known_of, first_items, call_items, client_items, items_of, looked, looked_in, taker_of, watched}
-use Rattle.ab_premise.specs.Spelled.{IsSpelledInput, AreSpelledInputs}
-use Rattle.ab_premise.proofs.Watches.{not_found}
-use Rattle.ab_world.specs.declared.fault.WorldFault.{WorldFault}
-use Rattle.ab_world.specs.declared.fault.WorldFault.TheVariants.{PacketLimit}
-use Rattle.ab_world.specs.Lines.{is_observed, line_of_noted}
-use Rattle.ab_world.specs.Worlds.{World, start, shown_on, opening_at, opened, opener}
-use Rattle.ab_world.specs.Steps.{Given, ask, hand, Happening, ready, messages, taken_from, missed, moved_at, after_taking, after, stepped_by, input_at, input_of, standing, replica_items, own_items, items_now, taken_requests}
-use Rattle.ab_world.specs.Runs.{refused_or, outcome, input_or, inputs_of, came_to}
-use Rattle.ab_world.proofs.SeatLemmas.{clis_of-get, clis_of-set, clis_of-first, length-first_seats, get_there}
-use Rattle.ab_world.proofs.PlaceLemmas.{IsAt, Takes, Happens, ready_happens}
+use Rattle.ab_cast.specs.Casts.{Cast, core_at, with_replica, with_client, next, clis_of}
+use Rattle.ab_world.specs.Worlds.{World, shown_on, opening_at, opened, opener}
+use Rattle.ab_world.specs.Steps.{Given, ask, hand, Happening, messages, taken_from, missed, moved_at, after_taking, after, input_at, input_of}
+use Rattle.ab_world.proofs.SeatLemmas.{clis_of-get, clis_of-set, get_there}
+use Rattle.ab_world.proofs.PlaceLemmas.{IsAt, Takes, Happens}
 
 -- as many cores as the setup says
 pub record Stands {P : Type 0} (x : Cast P) : Type 0 where

@@ -1,6 +1,8 @@
 -- Runs without a refusal, and what the first refusal says of a text.
-use Rattle.std.proofs.Common.{◌≡◌, ◌↔◌, ℕ, zero, suc, ◌+◌, ◌*◌, ◌≤◌, ◌<◌, List, [], ◌∷◌, Bool, true, false, Option, None, Some, Result, Ok, Err, if◌then◌else◌, reverse, count_by, length, slice_set, refl, sym, ap, ◌∙◌, inr, arith}
-use Rattle.std.proofs.lemmas.List.{length-append}
+use Rattle.std.proofs.Common.{◌≡◌, ◌↔◌, ℕ, zero, suc, ◌+◌, ◌*◌, ◌≤◌, ◌<◌, List, [], ◌∷◌, Bool, true, false, Option, None, Some, Result, Ok, Err, if◌then◌else◌, length, slice_set, refl, sym, ap, ◌∙◌, subst, inr, arith}
+use Rattle.std.proofs.Math.Bridge.{le_prop}
+use Rattle.std.specs.Prelude.{IfErr}
+use Rattle.std.specs.Result.{IsErrAnd}
 use Rattle.ab_num.specs.Bounds.{IsInBounds}
 use Rattle.ab_num.specs.declared.party.Party.{Party}
 use Rattle.ab_text.specs.declared.event.Event.{Event}
@@ -16,16 +18,22 @@ use Rattle.ab_num.specs.declared.plan.Plan.{Plan}
 use Rattle.ab_svc.specs.Machines.{Machine}
 use Rattle.ab_quorum.specs.Rules.{quorum}
 use Rattle.ab_run.proofs.Shown.{first_length}
-use Rattle.ab_premise.specs.Collisions.{StaysEntered}
+use Rattle.std.proofs.lemmas.Bool.{lt-ltb}
+use Rattle.arrayvec.specs.ArrayVec.{ArrayVec}
+use Rattle.ab_text.specs.declared.event.Core.{Core as CoreName}
+use Rattle.ab_text.specs.declared.event.Event.TheVariants.{Invoke, Deliver, Timeout, Inject}
+use Rattle.ab_post.specs.Packets.{Packet, nth}
+use Rattle.ab_cast.specs.declared.fault.CommandFault.{CommandFault}
+use Rattle.ab_cast.specs.declared.fault.CommandFault.TheVariants as command_fault
 use Rattle.ab_cast.specs.declared.place.Place.{Place}
 use Rattle.ab_cast.specs.declared.place.Place.TheVariants as place
-use Rattle.ab_cast.specs.Setups.{Setup, run_setup, party_at}
+use Rattle.ab_cast.specs.Setups.{Setup, run_setup, party_at, place_of}
 use Rattle.ab_cast.specs.Cores.{Core, Taken, replica, client, core_after}
-use Rattle.ab_cast.specs.Casts.{Cast, with_core, core_at}
+use Rattle.ab_cast.specs.Casts.{Cast, with_core, core_at, command_refusal}
 use Rattle.ab_world.specs.declared.fault.WorldFault.{WorldFault}
-use Rattle.ab_world.specs.declared.fault.WorldFault.TheVariants.{PacketLimit}
+use Rattle.ab_world.specs.declared.fault.WorldFault.TheVariants.{EventLimit, NotBuilt, PacketLimit}
 use Rattle.ab_world.specs.Runs.{outcome, refused_or}
-use Rattle.ab_world.specs.Steps.{Happening, ready, after, after_taking, moved_at, stepped, stepped_by, taken_from}
+use Rattle.ab_world.specs.Steps.{Happening, ready, ready_in, happening, asked, asked_at, handed, addressed, delivered, refuse_command, after, after_taking, moved_at, stepped, stepped_by, taken_from}
 use Rattle.ab_world.specs.Worlds.{World, start}
 use Rattle.abstract_bft.specs.declared.replay.ReplayFault.{ReplayFault}
 use Rattle.abstract_bft.specs.declared.replay.ReplayFault.TheVariants.{Read, TooLong, Refused, TooManyEvents, TooManyPackets, OutOfMemory}
@@ -56,6 +64,52 @@ core_stays x (place.ClientTwin c n) (client s) = record { setup = refl; replicas
 stays_still : (w v : World Member) → v ≡ w → Stays w.cast v.cast
 stays_still w v same = record { setup = ap (λ u. u.cast.setup) same; replicas = ap (λ u. length u.cast.replicas) same }
 
+core_events : (x : Cast Member) (at : Place) (s : Core Member) → (with_core x at s).events ≡ x.events
+core_events x (place.Replica r) (replica s) = refl
+core_events x (place.Client c) (replica s) = refl
+core_events x (place.ReplicaTwin r n) (replica s) = refl
+core_events x (place.ClientTwin c n) (replica s) = refl
+core_events x (place.Replica r) (client s) = refl
+core_events x (place.Client c) (client s) = refl
+core_events x (place.ReplicaTwin r n) (client s) = refl
+core_events x (place.ClientTwin c n) (client s) = refl
+
+-- what happens is no limit
+abbrev NoLimit : Result Happening WorldFault → Type 0
+NoLimit r = r ≡ Err EventLimit → ⊥
+
+no_limit_if : (b : Bool) (r q : Result Happening WorldFault) → NoLimit r → NoLimit q → NoLimit (if b then r else q)
+no_limit_if true r q one other = one
+no_limit_if false r q one other = other
+
+refuses_within : (o : Option CommandFault) (at : Place) (bytes : ArrayVec ℕ) → NoLimit (refuse_command o at bytes)
+refuses_within None at bytes e = cc (e)
+refuses_within (Some command_fault.Busy) at bytes e = cc (e)
+refuses_within (Some command_fault.NoClient) at bytes e = cc (e)
+refuses_within (Some command_fault.OutOfMemory) at bytes e = cc (e)
+
+asks_within : (at : Place) (bytes : ArrayVec ℕ) (o : Option (Core Member)) → NoLimit (asked_at at bytes o)
+asks_within at bytes None e = cc (e)
+asks_within at bytes (Some s) e = refuses_within (command_refusal s) at bytes e
+
+asked_within : (w : World Member) (bytes : ArrayVec ℕ) (o : Option Place) → NoLimit (asked w bytes o)
+asked_within w bytes None e = cc (e)
+asked_within w bytes (Some at) e = asks_within at bytes (core_at w.cast at) e
+
+handed_within : (bytes : List ℕ) (o : Option Place) → NoLimit (handed bytes o)
+handed_within bytes None e = cc (e)
+handed_within bytes (Some at) e = cc (e)
+
+delivered_within : (x : Setup) (o : Option Packet) (core : Option CoreName) → NoLimit (delivered x o core)
+delivered_within x None core e = cc (e)
+delivered_within x (Some packet) core e = handed_within packet.bytes (addressed x packet.to core) e
+
+happens_within : (w : World Member) (e : Event) → NoLimit (happening w e)
+happens_within w (Invoke core bytes) = no_limit_if _ (asked w bytes (place_of w.cast.setup core.party core.twin)) (Err NotBuilt) (asked_within w bytes (place_of w.cast.setup core.party core.twin)) (λ e. cc (e))
+happens_within w (Deliver packet core) = delivered_within w.cast.setup (nth w.packets packet) core
+happens_within w (Timeout core) = λ e. cc (e)
+happens_within w (Inject core bytes) = handed_within bytes (place_of w.cast.setup core.party core.twin)
+
 module _ (proto : Proto Member) where
   move_stays : (w : World Member) (at : Place) (t : Taken) (s : Option (Core Member)) → Stays w.cast (moved_at proto w at t s).cast
   move_stays w at t None = record { setup = refl; replicas = refl }
@@ -65,6 +119,19 @@ module _ (proto : Proto Member) where
   taking_stays : (w : World Member) (at : Place) (t : Result Taken OpenFault) → Stays w.cast (after_taking proto w at t).cast
   taking_stays w at (Ok t) = move_stays w at t (core_at w.cast at)
   taking_stays w at (Err fault) = record { setup = refl; replicas = refl }
+
+  -- a step is one event more at most, and ends no world
+  record Steps (w v : World Member) : Type 0 where
+    events : v.cast.events ≤ w.cast.events + 1
+    ended : v.ended ≡ w.ended
+
+  move_steps : (w : World Member) (at : Place) (t : Taken) (s : Option (Core Member)) → Steps w (moved_at proto w at t s)
+  move_steps w at t None = record { events = omega arith; ended = refl }
+  move_steps w at t (Some s) = record { events = omega (arith, core_events w.cast at (core_after w.cast.setup proto (party_at at) s t)); ended = refl }
+
+  taking_steps : (w : World Member) (at : Place) (t : Result Taken OpenFault) → Steps w (after_taking proto w at t)
+  taking_steps w at (Ok t) = move_steps w at t (core_at w.cast at)
+  taking_steps w at (Err fault) = record { events = omega arith; ended = refl }
 
   kept_within : (w v : World Member) (fits : Bool) → (if fits then Ok w else Err PacketLimit) ≡ Ok v → v ≡ w
   kept_within w v true is = cc
@@ -77,6 +144,29 @@ module _ (proto : Proto Member) where
       let stays = taking_stays w h.place (taken_from w.cast.setup (party_at h.place) h.given) in
       record { setup = same.setup ∙ stays.setup; replicas = same.replicas ∙ stays.replicas }
   step_stays w v (Err fault) is = absurd (cc)
+
+  stepped_steps : (w v : World Member) (h : Result Happening WorldFault) → stepped_by proto w h ≡ Ok v → Steps w v
+  stepped_steps w v (Ok h) is =
+      let same = kept_within (after proto w h) v _ is in
+      subst (Steps w) (sym same) (taking_steps w h.place (taken_from w.cast.setup (party_at h.place) h.given))
+  stepped_steps w v (Err fault) is = absurd (cc (is))
+
+  pub step_steps : (w v : World Member) (e : Event) → stepped proto w e ≡ Ok v → (v.cast.events ≤ w.cast.events + 1) × (v.ended ≡ w.ended)
+  step_steps w v e is = let steps = stepped_steps w v (ready w e) is in (steps.events, steps.ended)
+
+  within_other : (w : World Member) (fits : Bool) → ◌≡◌ {A = Result (World Member) WorldFault} (if fits then Ok w else Err PacketLimit) (Err EventLimit) → ⊥
+  within_other w true is = cc (is)
+  within_other w false is = cc (is)
+
+  -- before the limit of events it is not the answer
+  pub no_limit : (w : World Member) (e : Event) → w.ended ≡ None → w.cast.events < 100000 → stepped proto w e ≡ Err EventLimit → ⊥
+  no_limit w e goes few is =
+      let here : ready w e ≡ happening w e = (λ j. ready_in w e (goes j)) ∙ ap (λ (b : Bool). if b then happening w e else Err EventLimit) (lt-ltb w.cast.events 100000 few) in
+      by (happening w e) refl (ap (stepped_by proto w) (sym here) ∙ is)
+    where
+      by : (r : Result Happening WorldFault) → happening w e ≡ r → stepped_by proto w (happening w e) ≡ Err EventLimit → ⊥
+      by (Ok h) e' limit = within_other (after proto w h) _ (ap (stepped_by proto w) (sym e') ∙ limit)
+      by (Err f) e' limit = let both : ◌≡◌ {A = Result (World Member) WorldFault} (Err f) (Err EventLimit) = ap (stepped_by proto w) (sym e') ∙ limit in let same : f ≡ EventLimit = cc (both) in happens_within w e (e' ∙ ap Err same)
 
   rest_stays : (w t : World Member) (n : ℕ) (r : Result (World Member) WorldFault) (rest : World Member → Result (World Member) (ℕ × WorldFault))
       → ((v : World Member) → r ≡ Ok v → Stays w.cast v.cast) → ((v : World Member) → rest v ≡ Ok t → Stays v.cast t.cast)
@@ -101,9 +191,9 @@ module _ (proto : Proto Member) where
 -- ---- clusters of one size
 
 bounds_once : (f n : ℕ) (a b : IsInBounds f n) → a ≡ b
-bounds_once f n = hlevel
+bounds_once f n a b = λ j. record { some_faulty = le_prop a.some_faulty b.some_faulty j; few_faulty = le_prop a.few_faulty b.few_faulty j; some_client = le_prop a.some_client b.some_client j; few_clients = le_prop a.few_clients b.few_clients j }
 
-of_size : (f n : ℕ) → Plan → IsInBounds f n → Cluster
+abbrev of_size : (f n : ℕ) → Plan → IsInBounds f n → Cluster
 of_size f n plan bounds = record { f = f; clients = n; plan = plan; in_bounds = bounds }
 
 one_cluster : (c d : Cluster) → c.f ≡ d.f → c.clients ≡ d.clients → c.plan ≡ d.plan → c ≡ d
@@ -136,10 +226,6 @@ runs_schedule proto head events es found x w end faulty sets starts same is =
 pub sized_so : (head : Head) (events : List Event) → IsClusterOf head.cluster (script_of head events)
 sized_so head events = record { f = refl; clients = refl; plan = refl }
 
--- a replica of Quorum stays with the history with which it entered
-pub quorum_stays : {S : Type 0} (machine : Machine S) → StaysEntered (quorum machine)
-quorum_stays machine = record { called = λ pen p call. refl; halted = λ p. refl }
-
 -- ---- refusals
 
 -- what stops the events of a schedule stops the text
@@ -165,3 +251,13 @@ stops_text OutOfMemory text s c line sized reads few at cause = tt
 stops_text TooManyEvents text s c line sized reads few at cause = absurd cause
 stops_text Read text s c line sized reads few at cause = absurd cause
 stops_text TooLong text s c line sized reads few at cause = absurd cause
+
+-- ---- errors that are handed on
+
+pub kept_err : {T E : Type 0} (r : Result T E) (x : E) (Q : E → Type 0) → IsErrAnd r (λ e. e ≡ x) → Q x → IfErr r Q
+kept_err (Ok t) x Q is q = tt
+kept_err (Err e) x Q is q = subst Q (sym is) q
+
+pub if_err_then : {T E : Type 0} (r : Result T E) (P Q : E → Type 0) → ((e : E) → P e → Q e) → IfErr r P → IfErr r Q
+if_err_then (Ok t) P Q each is = tt
+if_err_then (Err e) P Q each is = each e is

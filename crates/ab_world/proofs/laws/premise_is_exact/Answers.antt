@@ -1,4 +1,3 @@
-use Rattle.std.proofs.Common.{sym, subst}
 use Rattle.ab_msg.specs.Grammar.{spell_content}
 use Rattle.ab_cast.specs.Setups.{run_setup}
 use Rattle.ab_world.specs.Worlds.{start, opener}

@@ -1,5 +1,4 @@
-use Rattle.std.proofs.Common.{sym, subst, refl, zero, arith}
-use Rattle.std.specs.Prelude.{reverse}
+use Rattle.std.proofs.Common.{sym, subst, refl, arith}
 use Rattle.ab_hist.specs.Digests.{NoCollision}
 use Rattle.ab_msg.specs.Grammar.{spell_content}
 use Rattle.ab_abs.specs.Acts.{SlotsApart}
@@ -9,7 +8,7 @@ use Rattle.ab_run.specs.Stages.{stage_over}
 use Rattle.ab_run.proofs.Staged.{stage_shown}
 use Rattle.ab_cast.specs.Setups.{run_setup}
 use Rattle.ab_premise.proofs.Lines.{few_faulty}
-use Rattle.ab_world.specs.Worlds.{start, opener, premise_of}
+use Rattle.ab_world.specs.Worlds.{start, opener}
 use Rattle.ab_world.specs.Runs.{inputs_of, came_to}
 use Rattle.ab_world.proofs.LawLemmas.{opens_messages, opens_formed, are_apart, held_parts}
 use Rattle.ab_world.proofs.laws.worlds_keep_promises.Goals as goal

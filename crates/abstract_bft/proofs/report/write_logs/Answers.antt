@@ -1,4 +1,5 @@
 use Rattle.std.proofs.Common.{◌≡◌, ◌<◌, ◌+◌, ◌++◌, flat_map, drop, length, ap, ◌∙◌, sym, arith, rules}
+use Rattle.ab_num.specs.declared.cluster.Cluster.{Cluster}
 use Rattle.ab_num.specs.declared.party.Party.TheVariants.{Replica}
 use Rattle.ab_cast.specs.Setups.{Setup, is_bad}
 use Rattle.ab_text.specs.Reports.{log_text}
@@ -14,7 +15,7 @@ loop-r-preserved g c =
     let r = c.loop-r.r in
     let before = c.loop-r.out.items in
     let whole = c.args.out.now.items ++ flat_map log_text (logs_from x 0 replicas) in
-    let within : r < length replicas = omega (arith, c.loop-r-test.true, c.replicas-r-end.ensures, c.cluster.ensures.f, ap (λ (y : Setup). y.f) c.setup.ensures, c.requires) in
+    let within : r < length replicas = omega (arith, c.loop-r-test.true, c.replicas-r-end.ensures, ap (λ (k : Cluster). k.f) c.cluster.ensures, ap (λ (y : Setup). y.cluster.f) c.setup.ensures, c.requires) in
     let asked : c.is_faulty.result ≡ is_bad x (Replica r) = search rules in
     elim c.if-not-is_faulty.branch [
       | then-not-is_faulty+in_ok-write_log_of w ↦

@@ -1,11 +1,10 @@
-use Rattle.std.proofs.Common.{◌≡◌, ◌≤◌, ◌++◌, ℕ, map, sym, ap, ◌∙◌, subst, List}
+use Rattle.std.proofs.Common.{◌≡◌, ◌≤◌, ◌++◌, map, sym, ap, ◌∙◌, subst}
 use Rattle.std.specs.Option.{option_to_list}
 use Rattle.ab_msg.specs.Grammar.{spell_content}
-use Rattle.ab_msg.specs.declared.message.Out.{Out}
-use Rattle.ab_run.specs.Stages.{Forgery, forgery, first_of, made_after}
+use Rattle.ab_run.specs.Stages.{forgery, first_of, made_after}
 use Rattle.ab_premise.specs.Premises.{forged_first}
 use Rattle.ab_premise.specs.Collisions.{first_collision}
-use Rattle.ab_cast.specs.Setups.{Setup, run_setup, is_bad}
+use Rattle.ab_cast.specs.Setups.{run_setup, is_bad}
 use Rattle.ab_post.specs.Packets.{total, most_bytes}
 use Rattle.ab_world.specs.Lines.{line_of, note, spent_lines}
 use Rattle.ab_world.specs.Worlds.{World}

@@ -1,4 +1,4 @@
-use Rattle.std.proofs.Common.{◌≡◌, length, Ok, Some, sym, ap, ◌∙◌, subst}
+use Rattle.std.proofs.Common.{◌≡◌, Ok, Some, sym, ap, ◌∙◌, subst}
 use Rattle.std.specs.Prelude.{IsTrue, OnOk}
 use Rattle.std.proofs.lemmas.Result.{on_ok_weaker}
 use Rattle.ab_num.specs.declared.party.Party.{Party}

@@ -1,4 +1,4 @@
-use Rattle.std.proofs.Common.{◌≡◌, ℕ, ◌≤◌, None, Some, Ok, Err, length, sym, ap, ◌∙◌, subst, refl, arith}
+use Rattle.std.proofs.Common.{◌≡◌, ℕ, ◌≤◌, None, Some, Ok, Err, length, sym, ap, ◌∙◌, subst, arith}
 use Rattle.ab_client.specs.Drafts.{IsDraftOf}
 use Rattle.std.specs.Prelude.{All, IsTrue, IfErr, OnOk}
 use Rattle.std.proofs.lemmas.Result.{on_ok_weaker}

@@ -1,0 +1,31 @@
+use Rattle.std.proofs.Common.{◌≡◌, ◌+◌, ◌<◌, ◌∷◌, ℕ, List, Ok, arith, sym, ap, ◌∙◌, drop, subst}
+use Rattle.std.proofs.lemmas.List.{at_drop_more}
+use Rattle.ab_text.specs.declared.event.Event.{Event}
+use Rattle.ab_quorum.specs.Rules.{quorum}
+use Rattle.ab_world.specs.declared.fault.WorldFault.{WorldFault}
+use Rattle.ab_world.specs.Steps.{Cause}
+use Rattle.ab_world.specs.Runs.{outcome, refused_or}
+use Rattle.abstract_bft.proofs.RunLemmas.{no_limit, step_steps}
+use Rattle.abstract_bft.proofs.replay.run_events.Goals as goal
+
+pub loop-i-preserved : goal.loop-i-preserved
+loop-i-preserved g c =
+    let proto = quorum g.S.Service.machine in
+    let i = c.loop-i.i in
+    let e = c.index-events-i.result in
+    let events = c.args.events.now in
+    let steps = step_steps proto c.loop-i.world c.step.new.self e c.in-Ok.ensures.ok in
+    let next : drop i events ≡ e ∷ drop (i + 1) events = at_drop_more (λ t. t) events i e c.loop-i-test.true ∙ ap (λ x. x ∷ drop (i + 1) events) (sym c.index-events-i.is) in
+    record {
+      rest =
+          ap (λ r. refused_or proto (i + 1) r (λ v. outcome proto (i + 1 + 1) v (drop (i + 1) events))) (sym c.in-Ok.ensures.ok)
+          ∙ ap (outcome proto (i + 1) c.loop-i.world) (sym next)
+          ∙ c.loop-i.invariant.rest;
+      counted = omega (arith, steps.0, c.loop-i.invariant.counted);
+      goes = steps.1 ∙ c.loop-i.invariant.goes;
+    }
+
+pub unreachable-requires : goal.unreachable-requires
+unreachable-requires g c =
+    no_limit (quorum g.S.Service.machine) c.loop-i.world c.index-events-i.result c.loop-i.invariant.goes (omega (arith, c.loop-i.invariant.counted, c.loop-i-test.true, c.requires.few))
+    (subst (λ (f : WorldFault). Cause (quorum g.S.Service.machine) f c.loop-i.world c.index-events-i.result) c.in-Err-EventLimit.field-0-is c.in-Err-EventLimit.ensures.cause)
