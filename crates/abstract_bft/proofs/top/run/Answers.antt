@@ -19,4 +19,4 @@ returns-clause-cause g c =
       err_before = g.E.Sink.faults c.args.err.now;
       err_now = g.E.Sink.faults c.serve-status.new.err;
     } in
-    answers c.one_reading.ensures c.code.result call c.serve-status.result c.code.ensures c.serve-status.ensures
+    answers c.one_reading.ensures c.code.result call c.serve-status.result c.code.ensures c.serve-status.ensures.cause
