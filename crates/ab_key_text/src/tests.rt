@@ -6,7 +6,7 @@ use ab_num::{Cluster, Height, Party, Plan, ServiceName};
 use std::test::Fail;
 
 /// The keys of c0 in a cluster of plan `quorum`, f 1 and 1 client, by the seed of 32 zero bytes.
-const C0: &str = "\
+const OF_C0: &str = "\
 keys 1\n\
 party c0\n\
 f 1\n\
@@ -29,7 +29,7 @@ public r3 0000000600000003dcc443e6fb26a8ccf20f7ae7057724b3271ecb9a356347c9b4139c
 ";
 
 /// The keys of r6 in a cluster of plan `aliph`, f 2 and 3 clients.
-const R6: &str = "\
+const OF_R6: &str = "\
 keys 1\n\
 party r6\n\
 f 2\n\
@@ -94,7 +94,7 @@ fn derived_text(rt: HostRuntime) -> Result<(), Fail> {
     }
     let keys = PartyKeys::derive(rt.alloc(), &c, ServiceName::Kv, Height::Five, &SEED, me)?;
     let text = keys.text(rt.alloc())?;
-    assert_eq!(rt; text.as_slice(), R6.as_bytes());
+    assert_eq!(rt; text.as_slice(), OF_R6.as_bytes());
     assert_eq!(rt; keys.me(), me);
     assert_eq!(rt; *keys.cluster(), c);
     assert_eq!(rt; keys.service(), ServiceName::Kv);
@@ -111,13 +111,13 @@ fn derived_text(rt: HostRuntime) -> Result<(), Fail> {
 
 #[test]
 fn read_text(rt: HostRuntime) -> Result<(), Fail> {
-    for text in [C0, R6] {
+    for text in [OF_C0, OF_R6] {
         match PartyKeys::read(rt.alloc(), text.as_bytes()) {
             Ok(keys) => assert_eq!(rt; keys.text(rt.alloc())?.as_slice(), text.as_bytes()),
             Err(_) => return Err(Fail::from("a key text")),
         }
     }
-    let open = C0.strip_suffix("\n").ok_or("it ends so")?;
+    let open = OF_C0.strip_suffix("\n").ok_or("it ends so")?;
     assert_eq!(rt; fault_of(&rt, open), None);
     Ok(())
 }
@@ -138,10 +138,10 @@ fn bad_lines(rt: HostRuntime) -> Result<(), Fail> {
         ("public r3 0", "public r4 0", 19),
     ];
     for (old, new, n) in cases {
-        let text = altered(&rt, C0, old, new)?;
+        let text = altered(&rt, OF_C0, old, new)?;
         assert_eq!(rt; fault_of(&rt, text.as_str()), Some(KeyFault::BadLine(n)));
     }
-    let more = altered(&rt, C0, "keys 1\n", "keys 1\n")?;
+    let more = altered(&rt, OF_C0, "keys 1\n", "keys 1\n")?;
     assert_eq!(rt; fault_of(&rt, more.as_str()), None);
     assert_eq!(rt; fault_of(&rt, ""), Some(KeyFault::BadLine(1)));
     assert_eq!(rt;
@@ -170,28 +170,28 @@ fn node_fault(rt: &HostRuntime, front: &str, back: &str) -> Result<Option<NodeFa
 
 #[test]
 fn nodes(rt: HostRuntime) -> Result<(), Fail> {
-    assert_eq!(rt; node_fault(&rt, C0, "end\n")?, None);
-    assert_eq!(rt; node_fault(&rt, C0, "do put a 1\ndo  x\nend")?, None);
-    assert_eq!(rt; node_fault(&rt, R6, "end")?, None);
-    assert_eq!(rt; node_fault(&rt, C0, "")?, Some(NodeFault::NoEnd(20)));
+    assert_eq!(rt; node_fault(&rt, OF_C0, "end\n")?, None);
+    assert_eq!(rt; node_fault(&rt, OF_C0, "do put a 1\ndo  x\nend")?, None);
+    assert_eq!(rt; node_fault(&rt, OF_R6, "end")?, None);
+    assert_eq!(rt; node_fault(&rt, OF_C0, "")?, Some(NodeFault::NoEnd(20)));
     assert_eq!(rt;
-        node_fault(&rt, C0, "do put a 1\n")?,
+        node_fault(&rt, OF_C0, "do put a 1\n")?,
         Some(NodeFault::NoEnd(21))
     );
     assert_eq!(rt;
-        node_fault(&rt, C0, "end\nend\n")?,
+        node_fault(&rt, OF_C0, "end\nend\n")?,
         Some(NodeFault::BadLine(21))
     );
     assert_eq!(rt;
-        node_fault(&rt, C0, "do \nend\n")?,
+        node_fault(&rt, OF_C0, "do \nend\n")?,
         Some(NodeFault::BadLine(20))
     );
     assert_eq!(rt;
-        node_fault(&rt, C0, "do a\tb\nend\n")?,
+        node_fault(&rt, OF_C0, "do a\tb\nend\n")?,
         Some(NodeFault::BadLine(20))
     );
     assert_eq!(rt;
-        node_fault(&rt, R6, "do put a 1\nend\n")?,
+        node_fault(&rt, OF_R6, "do put a 1\nend\n")?,
         Some(NodeFault::BadLine(34))
     );
     assert_eq!(rt;
