@@ -45,8 +45,8 @@ module _ {P : Type 0} (proto : Proto P) (serves : Kind → Bool) (c : Cluster) (
   drafts_of form pen p call formed was outs sent =
       subst (All (IsDraftOf c.f (Replica r))) (sym sent)
       (λ n d lt.
-          let o = Contains-get_or (proto.sends pen p call) n d lt in
-          record { draft = form.drafts c i r pen p call was formed _ o; own = λ s has. (form.own c i r pen p call _ s (belongs p was) o has).0 })
+      let o = Contains-get_or (proto.sends pen p call) n d lt in
+      record { draft = form.drafts c i r pen p call was formed _ o; own = λ s has. (form.own c i r pen p call _ s (belongs p was) o has).0 })
 
 no_requests : IsHistory []
 no_requests = λ i j d e lt. absurd (omega (arith, lt))
