@@ -38,4 +38,3 @@ returns-clause-cause c =
     if_err_then c.perform-in-Kv.result (λ e. EventsCause e line (run_in (quorum kv_machine) head.cluster s)) (λ e. TextCause e text)
     (λ e at. stops_text e text s head.cluster line (sized_so head events) c.in-Ok.ensures (omega (arith, c.if-as_slice-gt-MOST_EVENTS.false, ap length c.as_slice.ensures)) (ap (λ l. 7 + length l) c.as_slice-2.ensures)
     (subst (λ (v : ServiceName). EventsCause e line (run_in (proto_of v) head.cluster s)) (sym c.in-Kv.is) at)) c.perform-in-Kv.ensures.cause
-
