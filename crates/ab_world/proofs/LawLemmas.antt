@@ -1,9 +1,10 @@
 -- The premise line of a world, and what a world promises.
-use Rattle.std.proofs.Common.{◌≡◌, ℕ, suc, zero, ◌↔◌, Bool, true, Some, None, List, [], ◌∷◌, arith, refl, sym, ap, ◌∙◌, subst}
-use Rattle.std.specs.Prelude.{IsTrue, Contains, flat_map, map, nat_lt, Result, Ok, Err}
+use Rattle.std.proofs.Common.{false, ◌≡◌, ℕ, suc, zero, ◌↔◌, Bool, true, Some, None, List, [], ◌∷◌, arith, refl, sym, ap, ◌∙◌, subst}
+use Rattle.std.specs.Prelude.{IsTrue, Contains, flat_map, map, nat_lt, slice_get, Result, Ok, Err}
 use Rattle.std.specs.List.{filter, list_all}
 use Rattle.std.proofs.lemmas.Bool.{ltb-true}
 use Rattle.ab_num.specs.declared.party.Party.{Party}
+use Rattle.ab_num.specs.declared.party.Party.TheVariants.{Replica}
 use Rattle.ab_num.specs.declared.plan.Kind.{Kind}
 use Rattle.ab_num.specs.Places.{kind_of}
 use Rattle.ab_hist.specs.declared.request.Request.{Request}
@@ -26,11 +27,12 @@ use Rattle.ab_abs.specs.Messages.{IsKnown}
 use Rattle.ab_abs.specs.Places.{KeepsForm}
 use Rattle.ab_abs.specs.Ensembles.{Proto}
 use Rattle.ab_run.specs.Setups.{Setup as RunSetup}
+use Rattle.ab_run.specs.Replicas.{Rep}
 use Rattle.ab_run.specs.Premises.{IsHonestRun}
 use Rattle.ab_run.specs.Inputs.{Input, Opener, OpensFormed, SpellsApart, events_in}
-use Rattle.ab_run.specs.Stages.{Stage, Forgery, IsForgedAt, stage_over}
+use Rattle.ab_run.specs.Stages.{Stage, Forgery, IsForgedAt, stage_over, find_log}
 use Rattle.ab_run.proofs.Staged.{stage_is_back}
-use Rattle.ab_cast.specs.Setups.{Setup, run_setup, ring_at}
+use Rattle.ab_cast.specs.Setups.{Setup, run_setup, ring_at, is_bad}
 use Rattle.ab_premise.specs.Collisions.{IsFree, OpensMessages, watched}
 use Rattle.ab_premise.specs.Premises.{passing, first_premise, faulty_premise, IsPremise, is_held}
 use Rattle.ab_premise.specs.Spelled.{IsSpelledRun}
@@ -41,6 +43,7 @@ use Rattle.ab_world.specs.Lines.{is_observed, line_of_noted}
 use Rattle.ab_world.specs.Worlds.{World, start, shown_on, premise_of, opening_at, opened, opener}
 use Rattle.ab_world.specs.Runs.{outcome, inputs_of, came_to}
 use Rattle.ab_world.proofs.PlaceLemmas.{test_ok, parts_true}
+use Rattle.ab_world.proofs.LogLemmas.{AreKept, all_kept}
 use Rattle.ab_world.proofs.FollowLemmas.{Follows, world_follows}
 
 -- ---- what opens
@@ -117,6 +120,11 @@ module _ {P : Type 0} (proto : Proto P) (serves : Kind → Bool) (x : Setup) (bu
 
   pub lines_are : filter is_observed end.lines ≡ map line_of_noted stage.seen
   lines_are = is.lines ∙ ap (λ s. map line_of_noted s.seen) shows
+
+  pub logs_are : (r : ℕ) (q : Rep P) → is_bad x (Replica r) ≡ false → slice_get end.cast.replicas r ≡ Some q → find_log stage.logs q.at r ≡ (proto.state q.value).log
+  logs_are r q good there =
+      subst (AreKept K proto spell_content (opener x)) (sym (stage_is_back K proto spell_content (opener x) inputs))
+      (all_kept K proto spell_content (opener x) (λ n. (form.starts K.cluster n).logged) came) r q good (sym (ap (λ (s : Stage P). slice_get s.replicas r) shows) ∙ there)
 
 -- where the line says held, all three are met
 pub held_parts : {P : Type 0} (k : RunSetup) (proto : Proto P) (opens : Opener) (faulty : List (Party × ℕ)) (inputs : List Input) (line : Premise) → IsPremise k proto opens faulty inputs line → line ≡ Held

@@ -7,4 +7,5 @@ pub mod StepLemmas
 pub mod AddLemmas
 pub mod RunLemmas
 pub mod FollowLemmas
+pub mod LogLemmas
 pub mod LawLemmas

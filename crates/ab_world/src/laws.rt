@@ -1,6 +1,6 @@
 //! What holds of worlds, whatever events come.
 
-ghost use Rattle.std.specs.Prelude.{◌≡◌, ◌↔◌, ℕ, List, IsTrue, Ok, map};
+ghost use Rattle.std.specs.Prelude.{◌≡◌, ◌↔◌, ℕ, List, IsTrue, Ok, Some, false, map, slice_get};
 ghost use Rattle.std.specs.List.{filter};
 ghost use Rattle.ab_num.specs.Places.{kind_of};
 ghost use Rattle.ab_text.specs.declared.event.Event.{Event as TheEvent};
@@ -10,9 +10,11 @@ ghost use Rattle.ab_msg.specs.Grammar.{spell_content};
 ghost use Rattle.ab_abs.specs.Instances.{EachIsAbstract};
 ghost use Rattle.ab_abs.specs.Order.{Ordered};
 ghost use Rattle.ab_abs.specs.Promises.{ServesAll};
-ghost use Rattle.ab_run.specs.Stages.{all_seen, named_on, stage_over};
+ghost use Rattle.ab_num.specs.declared.party.Party.TheVariants.{Replica as ReplicaParty};
+ghost use Rattle.ab_run.specs.Replicas.{Rep};
+ghost use Rattle.ab_run.specs.Stages.{all_seen, find_log, named_on, stage_over};
 ghost use Rattle.ab_premise.specs.Premises.{IsPremise};
-ghost use Rattle.ab_cast.specs.Setups.{Setup as TheSetup, run_setup};
+ghost use Rattle.ab_cast.specs.Setups.{Setup as TheSetup, is_bad, run_setup};
 ghost use Rattle.ab_world.specs.Lines.{is_observed, line_of_noted};
 ghost use Rattle.ab_world.specs.Worlds.{World as TheWorld, start, shown_on, opener, premise_of};
 ghost use Rattle.ab_world.specs.Runs.{came_to, inputs_of, outcome};
@@ -25,7 +27,8 @@ use ab_svc::Service;
 /// A world shows the stage of the run of what came to its parties' own cores: where the parties are,
 /// what was made and seen, the first forgery, and how many events there were. What comes to further
 /// cores of faulty parties is no event of the run but for what they send. The lines of its report that
-/// tell of observations are those of the run's observations, in their order.
+/// tell of observations are those of the run's observations, in their order. The log of each correct
+/// replica is the last one that the stage keeps of it in its instance.
 pub fn worlds_are_runs<S: Service, P: Protocol<S>>()
     ensures stage { (x : TheSetup) (es : List TheEvent) (end : TheWorld P) → IsTrue (P.serves (kind_of x.cluster.plan 1))
         → outcome P.proto 1 (start P.proto x) es ≡ Ok end
@@ -35,6 +38,10 @@ pub fn worlds_are_runs<S: Service, P: Protocol<S>>()
         → outcome P.proto 1 (start P.proto x) es ≡ Ok end
         → let s = stage_over (run_setup x) P.proto spell_content (opener x) (inputs_of P.proto (start P.proto x) es) in
         filter is_observed end.lines ≡ map line_of_noted s.seen }
+    ensures logs { (x : TheSetup) (es : List TheEvent) (end : TheWorld P) → IsTrue (P.serves (kind_of x.cluster.plan 1))
+        → outcome P.proto 1 (start P.proto x) es ≡ Ok end
+        → let s = stage_over (run_setup x) P.proto spell_content (opener x) (inputs_of P.proto (start P.proto x) es) in
+        (r : ℕ) (q : Rep P) → is_bad x (ReplicaParty r) ≡ false → slice_get end.cast.replicas r ≡ Some q → find_log s.logs q.at r ≡ (P.proto.state q.value).log }
 {
     contents_have_their_own_bytes();
     opened_messages_are_of_the_grammar();
