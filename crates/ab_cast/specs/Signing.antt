@@ -5,7 +5,6 @@ use Rattle.ab_num.specs.declared.plan.Kind.{Kind}
 use Rattle.ab_num.specs.declared.party.Party.TheVariants.{Replica}
 use Rattle.ab_msg.specs.declared.message.Msg.{Msg}
 use Rattle.ab_msg.specs.declared.message.Out.{Out}
-use Rattle.ab_msg.specs.Pens.{Pen}
 use Rattle.ab_abs.specs.declared.seen.Seen.{Seen}
 use Rattle.ab_abs.specs.Ensembles.{Proto}
 use Rattle.ab_abs.specs.Messages.{took}
@@ -14,10 +13,6 @@ use Rattle.ab_run.specs.Local.{rep_after, rep_sends, rep_marks}
 use Rattle.ab_abs.specs.Places.{Arises}
 use Rattle.ab_client.specs.Clients.{alone}
 use Rattle.ab_client.specs.Drafts.{IsDraftOf}
-
--- it signed nothing
-abbrev pub mute : Pen
-mute = record { used = 0; sig = λ s n. [] }
 
 -- replica r of a cluster takes a message: where it then is, what it sends, what is seen of it, and whether the event is spent
 pub record RepTakes {P : Type 0} (proto : Proto P) (c : Cluster) (r : ℕ) (s : Rep P) (m : Msg) (now : Rep P) (outs : List Out) (marks : List Seen) (spent : Bool) : Type 0 where

@@ -7,7 +7,6 @@ mod cores;
 mod effects;
 mod fault;
 mod laws;
-mod mute;
 mod place;
 mod replica;
 mod setup;

@@ -15,10 +15,9 @@ ghost use Rattle.ab_client.specs.Drafts.{IsDraftOf};
 ghost use Rattle.ab_cast.specs.Signing.{RepTakes};
 
 use crate::effects::Effects;
-use crate::mute::Mute;
 use ab_abs::{Entry, Protocol, StepFault};
 use ab_hist::History;
-use ab_msg::MsgRef;
+use ab_msg::{MsgRef, Mute};
 use ab_num::{Cluster, OutOfMemory};
 use ab_svc::Service;
 use std::alloc::Global;
@@ -109,7 +108,7 @@ impl<S: Service, P: Protocol<S>> Replica<S, P> {
         if is_request(msg) && self.value.stopped() {
             return Ok(Effects::none(alloc, true));
         }
-        match self.value.on(alloc, msg, &mut Mute {}) {
+        match self.value.on(alloc, msg, &mut Mute) {
             Ok(outs) => Ok(Effects::sent(alloc, outs)),
             Err(StepFault::Spent) => Ok(Effects::none(alloc, true)),
             Err(StepFault::OutOfMemory) => Err(OutOfMemory),
