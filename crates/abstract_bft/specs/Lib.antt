@@ -1,3 +1,4 @@
+pub mod KeyCommands
 pub mod Replays
 pub mod Statuses
 pub mod Streams

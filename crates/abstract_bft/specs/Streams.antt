@@ -29,3 +29,7 @@ WriteCause writing.OutOfMemory before now = ⊤
 -- a front of the bytes was added, where that is told
 abbrev pub AppendsFront : Option (List ℕ) → Option (List ℕ) → List ℕ → Type 0
 AppendsFront old new bytes = (n : ℕ) × (n ≤ length bytes) × Appends old new (take n bytes)
+
+-- a front of the bytes was added that isn't the whole, where that is told
+abbrev pub AppendsPart : Option (List ℕ) → Option (List ℕ) → List ℕ → Type 0
+AppendsPart old new bytes = (n : ℕ) × (n < length bytes) × Appends old new (take n bytes)

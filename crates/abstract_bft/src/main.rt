@@ -1,10 +1,12 @@
-//! Reads a schedule from standard input, runs it, and writes the report to standard output.
+//! Reads a schedule from standard input, runs it, and writes the report to standard output. Or writes the
+//! keys of a party.
 //!
 //! It ends with 0 where the premises of the order properties held, 1 where one was broken, 2 for
 //! words that are no command, 3 for a line that is refused, 4 for a fault of standard input, 5 for one
 //! of standard output or standard error, 7 past a limit, and 9 where memory was refused.
 #![tactic(auto)]
 
+mod keys;
 mod replay;
 mod report;
 mod standard;

@@ -1,10 +1,15 @@
 //! A source and a sink over any reader and writer of std, which do not tell their bytes.
 
-ghost use Rattle.std.specs.Prelude.{◌≡◌};
+ghost use Rattle.std.specs.Prelude.{◌≡◌, ◌<◌, ◌≤◌, length, IfOk};
+ghost use Rattle.std.specs.Io.KnownBytes.{ReadConsumes, WriteAppends};
+ghost use Rattle.ab_io.specs.Causes.{HasCause, HasRefusalCause};
 ghost use Rattle.std.specs.declared.option.Option.TheVariants.{None};
 
 use ab_io::{Failed, Refused, Sink, Source};
-use std::io::{Read, Write};
+use std::io::{ErrorKind, Read, Write};
+
+/// How often a call that is interrupted is tried again.
+const TRIES: u64 = u64::MAX;
 
 /// A reader, and how often it has failed.
 #[derive(Drop)]
@@ -26,14 +31,22 @@ impl<R: Read> Source for StdSource<R> {
 
     ghost faults = { λ s. s.faults };
 
-    fn take(&mut self, buf: &mut [u8]) -> Result<usize, Failed> {
-        match self.inner.read(buf) {
-            Ok(count) => Ok(count),
-            Err(_) => {
-                self.faults = self.faults.saturating_add(1);
-                Err(Failed)
+    fn take(&mut self, buf: &mut [u8]) -> Result<usize, Failed>
+        ensures bound { IfOk result (λ n. n ≤ length buf.new) }
+        ensures bytes { ReadConsumes None None result buf.new }
+        ensures cause { HasCause self.old.faults self.new.faults result }
+        // the reader's own word is kept: its end is its end, and a fault isn't
+        ensures reader { ReadConsumes (R.remaining self.old.inner) (R.remaining self.new.inner) result buf.new }
+    {
+        for _ in 0..TRIES {
+            match self.inner.read(buf) {
+                Ok(count) => return Ok(count),
+                Err(fault) if fault.kind() == ErrorKind::Interrupted => {}
+                Err(_) => break,
             }
         }
+        self.faults = self.faults.saturating_add(1);
+        Err(Failed)
     }
 }
 
@@ -57,13 +70,22 @@ impl<W: Write> Sink for StdSink<W> {
 
     ghost faults = { λ s. s.faults };
 
-    fn put(&mut self, bytes: &[u8]) -> Result<usize, Refused> {
-        match self.inner.write(bytes) {
-            Ok(0) | Err(_) => {
-                self.faults = self.faults.saturating_add(1);
-                Err(Refused::Failed)
+    fn put(&mut self, bytes: &[u8]) -> Result<usize, Refused>
+        ensures bound { IfOk result (λ n. (0 < n) × (n ≤ length bytes.now)) }
+        ensures bytes { WriteAppends None None result bytes.now }
+        ensures cause { HasRefusalCause self.old.faults self.new.faults result }
+        // what the writer says that it took was given to it
+        ensures writer { WriteAppends (W.contents self.old.inner) (W.contents self.new.inner) result bytes.now }
+    {
+        for _ in 0..TRIES {
+            match self.inner.write(bytes) {
+                Ok(0) => break,
+                Ok(count) => return Ok(count),
+                Err(fault) if fault.kind() == ErrorKind::Interrupted => {}
+                Err(_) => break,
             }
-            Ok(count) => Ok(count),
         }
+        self.faults = self.faults.saturating_add(1);
+        Err(Refused::Failed)
     }
 }

@@ -2,7 +2,7 @@
 
 ghost use Rattle.std.specs.Prelude.{◌≡◌, ◌<◌, ◌≤◌, ℕ, List, length, take, IfOk, IfErr, OnOk, OnErr};
 ghost use Rattle.std.specs.Io.KnownBytes.{Appends};
-ghost use Rattle.abstract_bft.specs.Streams.{IsAllOf, ReadCause, WriteCause, AppendsFront};
+ghost use Rattle.abstract_bft.specs.Streams.{IsAllOf, ReadCause, WriteCause, AppendsFront, AppendsPart};
 
 use ab_io::{Failed, Refused, Sink, Source};
 use std::alloc::{AllocError, Global};
@@ -51,6 +51,7 @@ pub(crate) fn read_all<I: Source>(alloc: Global, input: &mut I) -> Result<Vec<u8
 pub(crate) fn write_all<K: Sink>(sink: &mut K, bytes: &[u8]) -> Result<(), WriteFault>
     ensures ok { OnOk result (Appends (K.contents sink.old) (K.contents sink.new) bytes.now) }
     ensures front { AppendsFront (K.contents sink.old) (K.contents sink.new) bytes.now }
+    ensures part { OnErr result (AppendsPart (K.contents sink.old) (K.contents sink.new) bytes.now) }
     ensures later { K.faults sink.old ≤ K.faults sink.new }
     ensures cause { IfErr result (λ e. WriteCause e (K.faults sink.old) (K.faults sink.new)) }
 {

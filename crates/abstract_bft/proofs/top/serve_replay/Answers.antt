@@ -1,7 +1,7 @@
 use Rattle.std.proofs.Common.{List, ℕ, subst, rules}
 use Rattle.std.specs.Io.KnownBytes.{Appends, Keeps}
 use Rattle.abstract_bft.proofs.StatusLemmas.{report_written}
-use Rattle.abstract_bft.proofs.top.serve.Goals as goal
+use Rattle.abstract_bft.proofs.top.serve_replay.Goals as goal
 
 pub returns-in-Ok-write_all : goal.returns-in-Ok-write_all
 returns-in-Ok-write_all g c =
@@ -11,4 +11,4 @@ returns-in-Ok-write_all g c =
     let replayed = c.in-Ok.replayed in
     let appended = subst (λ (bytes : List ℕ). Appends old new bytes) c.as_slice.ensures.value c.in-Ok-write_all.ensures.ok in
     let kept : Keeps err err = search rules in
-    record { cause = report_written _ c.done.result replayed.held c.done.ensures (c.is_replay.ensures.0 c.if-not-is_replay.false) (replayed.report.items, c.in-Ok.ensures.ok, appended) kept }
+    record { cause = λ words is. report_written _ c.done.result replayed.held c.done.ensures is (replayed.report.items, c.in-Ok.ensures.ok, appended) kept }

@@ -1,0 +1,10 @@
+use Rattle.std.proofs.Common.{◌≡◌}
+use Rattle.std.specs.Io.KnownBytes.{Keeps}
+use Rattle.abstract_bft.proofs.standard.StdSinkSink.put.Given as goal
+
+-- nothing was written, and no fault was counted
+abbrev pub invariant-loop : goal.invariant-loop
+invariant-loop g l = record {
+  kept : Keeps (g.W.Write.contents l.initial.self.inner) (g.W.Write.contents l.self.inner);
+  same : l.self.faults ≡ l.initial.self.faults;
+}

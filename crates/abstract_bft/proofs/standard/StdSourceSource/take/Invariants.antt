@@ -1,0 +1,10 @@
+use Rattle.std.proofs.Common.{◌≡◌}
+use Rattle.std.specs.Io.KnownBytes.{Keeps}
+use Rattle.abstract_bft.proofs.standard.StdSourceSource.take.Given as goal
+
+-- nothing was read, and no fault was counted
+abbrev pub invariant-loop : goal.invariant-loop
+invariant-loop g l = record {
+  kept : Keeps (g.R.Read.remaining l.initial.self.inner) (g.R.Read.remaining l.self.inner);
+  same : l.self.faults ≡ l.initial.self.faults;
+}
