@@ -1,131 +1,66 @@
-//! One replica that answers, repeats its answer, and stops. The digest is of another
-//! implementation of SHA-256.
+//! One replica that answers, repeats its answer, and stops. The request's bytes and the digest are of
+//! another implementation.
 
 ghost use Rattle.std.specs.Prelude.{IsTrue};
 ghost use Rattle.ab_num.specs.Places.{kind_of};
 
 use super::Quorum;
-use ab_abs::{Entry, Protocol, ReplyRule, StepFault};
-use ab_hist::{History, Request};
-use ab_msg::{Content, Msg, Mute, NO_TAG, Out, Outs, Tags, is_message, read, write};
-use ab_num::{Cluster, Kind, OutOfMemory, Party, Plan};
+use ab_abs::{Entry, Protocol, ReplyRule};
+use ab_hist::History;
+use ab_msg::{Mute, read};
+use ab_num::{Cluster, Kind, OutOfMemory, Plan};
 use ab_svc::Echo;
-use arrayvec::ArrayVec;
 use std::alloc::Global;
 
-/// The digest of the history with client 3's request `hi` of stamp 1 alone.
-const DIGEST: [u8; 32] = [
-    0x82, 0xbd, 0x55, 0x5d, 0x03, 0xf3, 0x81, 0x82, 0x00, 0x86, 0x49, 0x6d, 0x09, 0x5a, 0xd6, 0x96,
-    0xea, 0x10, 0x7a, 0x23, 0x68, 0x18, 0xb7, 0x8f, 0x74, 0xcb, 0x50, 0x59, 0xcc, 0x3e, 0xea, 0x8e,
+/// Client 0's request `put a 1` of stamp 1 in instance 1, with a tag for replica 0.
+const REQUEST: [u8; 62] = [
+    1, 1, 1, 0, 0, 0, 0, 0, 1, 0, 0, 0, 0, 0, 0, 0, 0, 0, 1, 0, 7, 0x70, 0x75, 0x74, 0x20, 0x61,
+    0x20, 0x31, 1, 0, 0, 0, 0, 0, 0, 0, 0, 0, 0, 0, 0, 0, 0, 0, 0, 0, 0, 0, 0, 0, 0, 0, 0, 0, 0, 0,
+    0, 0, 0, 0, 0, 0,
 ];
 
-/// The bytes of client 3's request `hi` of this stamp, none where it has none.
-fn request(alloc: Global, stamp: u64) -> Result<Vec<u8>, OutOfMemory> {
-    let mut command = ArrayVec::new();
-    let _ = command.try_extend_from_slice(b"hi");
-    let content = Content::Req {
-        maker: Party::Client(3),
-        instance: 1,
-        request: Request {
-            client: 3,
-            stamp,
-            command,
-        },
+/// The digest of the history with that request alone.
+const DIGEST: [u8; 32] = [
+    0x68, 0x8e, 0x05, 0xe3, 0x25, 0x0f, 0x60, 0x3f, 0xe4, 0x24, 0x68, 0xfe, 0x71, 0x56, 0x05, 0x25,
+    0x86, 0x8d, 0x0b, 0x25, 0x4b, 0xa6, 0x46, 0x3c, 0x94, 0x98, 0x5b, 0x87, 0xd2, 0x90, 0x9a, 0xc0,
+];
+
+/// How many messages a replica sends on the request, None where it takes none.
+fn sent<P: Protocol<Echo>>(alloc: Global, replica: &mut P) -> Option<usize> {
+    let Ok(m) = read(&REQUEST) else {
+        return None;
     };
-    let mut tags = Tags::new();
-    let _ = tags.try_push((2, NO_TAG));
-    let m = Msg::Req { content, tags };
-    if is_message(&m) {
-        write(alloc, &m)
-    } else {
-        Ok(Vec::new(alloc))
+    match replica.on(alloc, &m, &mut Mute) {
+        Ok(outs) => Some(outs.len()),
+        Err(_) => None,
     }
 }
 
-/// What a replica sends on the message that the bytes spell, nothing where they spell none.
-fn heard<P: Protocol<Echo>>(
-    alloc: Global,
-    replica: &mut P,
-    bytes: &[u8],
-) -> Result<Vec<Out>, StepFault> {
-    match read(bytes) {
-        Ok(m) => {
-            let outs = replica.on(alloc, &m, &mut Mute)?;
-            Ok(listed(alloc, outs)?)
-        }
-        Err(_) => Ok(Vec::new(alloc)),
-    }
-}
-
-fn listed(alloc: Global, outs: Outs) -> Result<Vec<Out>, OutOfMemory> {
-    let mut all = Vec::with_capacity(alloc, outs.len())?;
-    outs.append_to(&mut all);
-    Ok(all)
-}
-
-/// Whether the messages are the one answer to client 3's first request.
-fn are_answer(all: &Vec<Out>) -> bool {
-    if all.len() != 1 {
-        return false;
-    }
-    let Msg::Resp { content, .. } = &all[0].msg else {
-        return false;
-    };
-    let Content::Resp {
-        maker,
-        instance,
-        client,
-        stamp,
-        n,
-        d,
-        reply,
-    } = content
-    else {
-        return false;
-    };
-    all[0].to == Party::Client(3)
-        && *maker == Party::Replica(2)
-        && *instance == 1
-        && *client == 3
-        && *stamp == 1
-        && *n == 1
-        && *d == DIGEST
-        && reply.as_slice() == b"hi".as_slice()
-}
-
-/// Whether a replica answers the first request, and so again.
-fn answers_twice<P: Protocol<Echo>>(alloc: Global, replica: &mut P) -> Result<bool, StepFault> {
-    let bytes = request(alloc, 1)?;
-    let first = heard(alloc, replica, &bytes)?;
-    let again = heard(alloc, replica, &bytes)?;
-    Ok(are_answer(&first) && are_answer(&again) && replica.log().len() == 1)
-}
-
-/// Whether it answers nothing once it is stopped, and a copy is as it is.
-fn rests<P: Protocol<Echo>>(alloc: Global, replica: &mut P) -> Result<bool, StepFault> {
+/// Whether a replica answers the request, and again, and logs it once; and answers nothing once it is
+/// stopped.
+fn answers<P: Protocol<Echo>>(alloc: Global, replica: &mut P) -> bool {
+    let first = sent(alloc, replica) == Some(1);
+    let again = sent(alloc, replica) == Some(1);
+    let log = replica.log();
+    let logged = log.len() == 1 && log.digest_at(1) == DIGEST;
     let open = replica.may_panic() && !replica.stopped();
-    let quiet = replica.timeout(alloc, &mut Mute)?.len() == 0;
     replica.stop();
-    let bytes = request(alloc, 2)?;
-    let Ok(m) = read(&bytes) else {
-        return Ok(false);
-    };
-    let outs = replica.on(alloc, &m, &mut Mute)?;
-    let same = replica.copy(alloc)?;
-    let none = same.first().is_none() && same.timer().is_none();
-    Ok(open && quiet && outs.len() == 0 && same.stopped() && none && same.log().len() == 1)
+    first && again && logged && open && replica.stopped() && sent(alloc, replica) == Some(0)
 }
 
-fn keeps_rules<P: Protocol<Echo>>(alloc: Global, c: &Cluster) -> Result<bool, StepFault>
+fn keeps_rules<P: Protocol<Echo>>(alloc: Global, c: &Cluster) -> Result<bool, OutOfMemory>
     requires { IsTrue (P.serves (kind_of c.now.plan 1)) }
 {
-    let base = History::new(alloc);
-    let mut replica = P::start(alloc, c, 1, 2, &Entry { base, cert: None })?;
-    let numbers = P::runs(Kind::Quorum)
-        && !P::runs(Kind::Chain)
-        && P::need(c, 1) == 3
-        && P::reply_rule(c, 1) == ReplyRule::All;
-    Ok(numbers && answers_twice(alloc, &mut replica)? && rests(alloc, &mut replica)?)
+    let entry = Entry {
+        base: History::new(alloc),
+        cert: None,
+    };
+    let mut replica = P::start(alloc, c, 1, 2, &entry)?;
+    let numbers = P::need(c, 1) == 3 && P::reply_rule(c, 1) == ReplyRule::All;
+    let kinds = P::runs(Kind::Quorum) && !P::runs(Kind::Chain);
+    let same = replica.copy(alloc)?;
+    let none = same.first().is_none() && same.timer().is_none() && same.log().len() == 0;
+    Ok(numbers && kinds && none && answers(alloc, &mut replica))
 }
 
 #[test]
