@@ -1,6 +1,6 @@
 //! Quorum in its own instances, and a protocol that rests in those of ZLight and Chain.
 
-ghost use Rattle.std.specs.Prelude.{IsTrue};
+ghost use Rattle.std.specs.Prelude.{◌≡◌, ◌≤◌, IsTrue};
 ghost use Rattle.ab_num.specs.Places.{kind_of};
 
 use super::Choice;

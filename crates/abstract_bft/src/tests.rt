@@ -6,7 +6,6 @@ use ab_cast::Setup;
 use ab_hist::array_of;
 use ab_io::{MemClock, MemLink, MemSink, MemSource, SureSink, SureSource};
 use ab_num::{Cluster, Party, Plan};
-use ab_quorum::{quorum_sends_drafts, quorum_sends_its_own};
 use ab_svc::Echo;
 use ab_text::{Core, Event};
 use std::alloc::Global;
@@ -333,8 +332,6 @@ fn a_world_shows_itself(rt: HostRuntime) -> Result<(), Fail> {
     let Some(c) = Cluster::new(1, 2, Plan::Quorum) else {
         return Err(Fail::from("in bounds"));
     };
-    quorum_sends_its_own::<Echo>();
-    quorum_sends_drafts::<Echo>();
     let mut world = QuorumWorld::<Echo>::new(alloc, Setup::new(alloc, &c, &[])?)?;
     assert_eq!(rt; idle(&world), (true, true, false));
     let invoke = Event::Invoke {
