@@ -110,8 +110,18 @@ fn message(rt: &HostRuntime, name: &str, out: &Out, maker: Party) -> io::Result<
     eprintln!(rt; "{opened} opened: {} ms", taken.as_millis())
 }
 
+fn of_request(rt: &HostRuntime) -> io::Result<()> {
+    let out = request();
+    message(rt, "a request", &out, Party::Client(0))
+}
+
+fn of_answer(rt: &HostRuntime) -> io::Result<()> {
+    let out = answer();
+    message(rt, "an answer", &out, Party::Replica(0))
+}
+
 fn main(rt: HostRuntime) -> io::Result<()> {
     signatures(&rt)?;
-    message(&rt, "a request", &request(), Party::Client(0))?;
-    message(&rt, "an answer", &answer(), Party::Replica(0))
+    of_request(&rt)?;
+    of_answer(&rt)
 }

@@ -5,7 +5,7 @@ use ab_hist::{Request, array_of};
 use ab_keys::{KeyRing, is_party};
 use ab_msg::{Content, Msg, NO_TAG, Out, Tags, read};
 use ab_num::{Cluster, OutOfMemory, Party, Plan};
-use ab_seal::{is_draft, open, seal};
+use ab_seal::{is_draft, is_own, open, seal};
 use std::alloc::Global;
 
 /// The ring of a party, in a cluster of four replicas and one client.
@@ -98,7 +98,7 @@ pub(crate) fn sealed(
     out: &Out,
     times: u32,
 ) -> Result<Option<Vec<u8>>, OutOfMemory> {
-    if !is_draft(&out.msg) || out.msg.content().maker() != ring.me() {
+    if !is_draft(&out.msg) || !is_own(ring, &out.msg) {
         return Ok(None);
     }
     let mut bytes = Vec::new(alloc);
