@@ -7,8 +7,9 @@ ghost use Rattle.ab_num.specs.Places.{kind_of};
 use super::Quorum;
 use ab_abs::{Entry, Protocol, ReplyRule};
 use ab_hist::History;
-use ab_msg::{Mute, read};
+use ab_msg::Mute;
 use ab_num::{Cluster, Kind, OutOfMemory, Plan};
+use ab_read::read;
 use ab_svc::Echo;
 use std::alloc::Global;
 
@@ -30,7 +31,7 @@ fn sent<P: Protocol<Echo>>(alloc: Global, replica: &mut P) -> Option<usize> {
     let Ok(m) = read(&REQUEST) else {
         return None;
     };
-    match replica.on(alloc, &m, &mut Mute) {
+    match replica.on(alloc, m, &mut Mute) {
         Ok(outs) => Some(outs.len()),
         Err(_) => None,
     }
