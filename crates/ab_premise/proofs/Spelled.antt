@@ -1,5 +1,6 @@
 -- What correct parties make in a run has bytes.
-use Rattle.std.proofs.Common.{◌≡◌, ℕ, suc, ◌+◌, ◌*◌, ◌<◌, ◌≤◌, ◌⊎◌, true, false, Bool, Some, None, Option, List, [], ◌∷◌, ◌++◌, length, refl, sym, ap, ◌∙◌, subst, inl, inr, arith, append-nil}
+use Rattle.std.proofs.Common.{◌≡◌, ℕ, zero, suc, ◌+◌, ◌*◌, ◌<◌, ◌≤◌, ◌⊎◌, true, false, Bool, Some, None, Option, List, [], ◌∷◌, ◌++◌, length, refl, sym, ap, ◌∙◌, subst, inl, inr, arith, append-nil}
+use Rattle.std.proofs.Math.Dec.{eqb-zero-suc}
 use Rattle.std.proofs.lemmas.Grind.{flat_map-append}
 use Rattle.std.specs.Prelude.{All, IsTrue, Contains, nat_le, nat_lt, ◌==◌, ◌&&◌, ◌^◌, if◌then◌else◌, flat_map, map}
 use Rattle.arrayvec.specs.ArrayVec.{ArrayVec}
@@ -68,9 +69,10 @@ some_need kind.Chain f = omega arith
 some_need kind.Backup f = omega arith
 
 none_held : (kd : Kind) (f n : ℕ) (h : List Request) → need_of kd f ≡ n → 1 ≤ n → history_held kd f (Some []) ≡ Some h → ⊥
-none_held kd f 0 h need some is = omega (arith, some)
+none_held kd f zero h need some is = omega (arith, some)
 none_held kd f (suc n) h need some is =
-    let empty : history_held kd f (Some []) ≡ None = ap (λ z. if is_whole z [] then history_by (needs_equal kd) f [] else None) need in
+    let empty : history_held kd f (Some []) ≡ None =
+    ap (λ z. if is_whole z [] then history_by (needs_equal kd) f [] else None) need ∙ ap (λ (b : Bool). if b && true then history_by (needs_equal kd) f [] else None) (eqb-zero-suc n) in
     let both : None ≡ Some h = sym empty ∙ is in
     cc (both)
 
@@ -140,10 +142,10 @@ module _ {P : Type 0} (k : Setup) (proto : Proto P) where
       let may = nat_le s.at j && nat_lt j last_instance in
       let some : AreAborts 1 7 cert = ((some_aborts k.cluster j cert h valid, aborts.0.1), aborts.1) in
       elim (cases_Bool may) [
-        | inl yes ↦
-            subst AllGood (sym (ap (λ (b : Bool). if b then turn_enter j cert h ∷ taken k proto there m else taken k proto s m) yes))
-            ((ltb-true j last_instance (and_parts (nat_le s.at j) (nat_lt j last_instance) yes).1, (some, certificate_written k.cluster j 1 7 cert h some valid)), taken_good there m (instance_in m) is)
-        | inr no ↦ subst AllGood (sym (ap (λ (b : Bool). if b then turn_enter j cert h ∷ taken k proto there m else taken k proto s m) no)) (taken_good s m (instance_in m) is)
+        | inl goes ↦
+            subst AllGood (sym (ap (λ (b : Bool). if b then turn_enter j cert h ∷ taken k proto there m else taken k proto s m) goes))
+            ((ltb-true j last_instance (and_parts (nat_le s.at j) (nat_lt j last_instance) goes).1, (some, certificate_written k.cluster j 1 7 cert h some valid)), taken_good there m (instance_in m) is)
+        | inr rests ↦ subst AllGood (sym (ap (λ (b : Bool). if b then turn_enter j cert h ∷ taken k proto there m else taken k proto s m) rests)) (taken_good s m (instance_in m) is)
       ]
 
   by_good : (r : ℕ) (s : Rep P) (m : Msg) (o : Option (List Signed)) → IsMessage m → brought m ≡ o → AllGood (due_by k proto r s m o)
@@ -316,10 +318,10 @@ module _ (k : Setup) (c n : ℕ) where
   taking_fine s m j cert (Some h) owned =
       let may = nat_le s.at j && nat_lt j last_instance in
       elim (cases_Bool may) [
-        | inl yes ↦
-            subst (AllFine c n) (sym (ap (λ (b : Bool). if b then move_take j cert h m ∷ [] else []) yes))
-            ((ltb-true j last_instance (and_parts (nat_le s.at j) (nat_lt j last_instance) yes).1, owned), tt)
-        | inr no ↦ subst (AllFine c n) (sym (ap (λ (b : Bool). if b then move_take j cert h m ∷ [] else []) no)) tt
+        | inl goes ↦
+            subst (AllFine c n) (sym (ap (λ (b : Bool). if b then move_take j cert h m ∷ [] else []) goes))
+            ((ltb-true j last_instance (and_parts (nat_le s.at j) (nat_lt j last_instance) goes).1, owned), tt)
+        | inr rests ↦ subst (AllFine c n) (sym (ap (λ (b : Bool). if b then move_take j cert h m ∷ [] else []) rests)) tt
       ]
 
   keeping_fine : (s : Cli) (m : Request) (v : Signed) → IsOwned c m → AllFine c n (keeping k s m v)
