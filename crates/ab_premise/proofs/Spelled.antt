@@ -81,7 +81,7 @@ module _ {P : Type 0} (k : Setup) (proto : Proto P) {serves : Kind → Bool} (fo
       let found = flat_map_cases (λ o. stated k.cluster.f (Replica r) o.msg) sends c has in
       let o = found.0 in
       let fresh_in = Contains-filter_cases (λ q. party_eq (maker_of q) (Replica r)) (fresh k.cluster.f (Replica r) o.msg) c found.2 in
-      let draft = turn_drafts k proto form are r (turn_call call) s good was o found.1 in
+      let draft = turn_drafts k proto form are r (turn_call call) s lt good was o found.1 in
       All-contains IsContent (fresh k.cluster.f (Replica r) o.msg) c (contents.stated r o.msg (few_replicas k.cluster r lt) draft.draft) fresh_in.0
   turn_makes r turn_halt s lt good was = nothing
   turn_makes r turn_sign s lt good was = λ c has. one_of (content.Abort (Replica r) s.at (state_at k proto s).log) c (abort_written k proto form are r s lt was) has

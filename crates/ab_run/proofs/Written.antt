@@ -168,7 +168,7 @@ module _ {P : Type 0} (k : Setup) (proto : Proto P) {serves : Kind → Bool} (fo
         entry = entry;
         abort = λ v is. absurd (cc (is));
       }
-  turn_keeps r (turn_call call) s lt good was = record { arises = by_call (pen_of k proto r s) s.value call (are.signs r) good was.arises; entry = was.entry; abort = was.abort }
+  turn_keeps r (turn_call call) s lt good was = record { arises = by_call (pen_of k proto r s) s.value call (λ q n. are.signs r q n lt) good was.arises; entry = was.entry; abort = was.abort }
   turn_keeps r turn_halt s lt good was = record { arises = by_stop s.value was.arises; entry = was.entry; abort = was.abort }
   turn_keeps r turn_sign s lt good was = record {
     arises = was.arises;
@@ -177,7 +177,7 @@ module _ {P : Type 0} (k : Setup) (proto : Proto P) {serves : Kind → Bool} (fo
         let signed : Signed = record { maker = r; content = Abort (Replica r) s.at (state_at k proto s).log; sig = k.sig r (Abort (Replica r) s.at (state_at k proto s).log) s.used } in
         let same : signed ≡ v = cc (is) in
         subst (λ (w : Signed). IsSigned IsAbort w × (maker_of w.content ≡ Replica r)) same
-        ((refl, (abort_written r s lt was, are.signs r (Abort (Replica r) s.at (state_at k proto s).log) s.used)), refl);
+        ((refl, (abort_written r s lt was, are.signs r (Abort (Replica r) s.at (state_at k proto s).log) s.used lt)), refl);
   }
   turn_keeps r (turn_bring c) s lt good was = was
   turn_keeps r (turn_abort c) s lt good was = was
@@ -195,16 +195,16 @@ module _ {P : Type 0} (k : Setup) (proto : Proto P) {serves : Kind → Bool} (fo
       let is = all v refl in
       subst (IsDraftOf k.cluster.f (Replica r)) (one_of sent out has) (record { draft = is.0; own = λ q at. subst (λ (z : Content). maker_of z ≡ Replica r) (one_of v.content q at) is.1 })
 
-  pub turn_drafts : (r : ℕ) (t : Turn) (s : Rep P) → IsGood t → Stands r s → (o : Out) → Contains (sent_in_turn k proto r s t) o → IsDraftOf k.cluster.f (Replica r) o
-  turn_drafts r (turn_enter j cert h) s good was o has = absurd (none_of o has)
-  turn_drafts r (turn_call call) s good was o has = record {
-    draft = form.drafts k.cluster s.at r (pen_of k proto r s) s.value call (are.signs r) was.arises good o has;
+  pub turn_drafts : (r : ℕ) (t : Turn) (s : Rep P) → r < replicas k → IsGood t → Stands r s → (o : Out) → Contains (sent_in_turn k proto r s t) o → IsDraftOf k.cluster.f (Replica r) o
+  turn_drafts r (turn_enter j cert h) s lt good was o has = absurd (none_of o has)
+  turn_drafts r (turn_call call) s lt good was o has = record {
+    draft = form.drafts k.cluster s.at r (pen_of k proto r s) s.value call (λ q n. are.signs r q n lt) was.arises good o has;
     own = λ q at. (form.own k.cluster s.at r (pen_of k proto r s) s.value call o q (belongs proto serves k.cluster s.at r s.value was.arises) has at).0;
   }
-  turn_drafts r turn_halt s good was o has = absurd (none_of o has)
-  turn_drafts r turn_sign s good was o has = absurd (none_of o has)
-  turn_drafts r (turn_bring c) s good was o has = cert_drafts r c s.entry.cert was.entry.cert o has
-  turn_drafts r (turn_abort c) s good was o has = abort_drafts r c s.abort was.abort o has
+  turn_drafts r turn_halt s lt good was o has = absurd (none_of o has)
+  turn_drafts r turn_sign s lt good was o has = absurd (none_of o has)
+  turn_drafts r (turn_bring c) s lt good was o has = cert_drafts r c s.entry.cert was.entry.cert o has
+  turn_drafts r (turn_abort c) s lt good was o has = abort_drafts r c s.abort was.abort o has
 
   -- where turns leave a replica that stands so, and what it sends in them
   pub record Goes (r : ℕ) (now : Rep P) (sent : List Out) : Type 0 where
@@ -218,7 +218,7 @@ module _ {P : Type 0} (k : Setup) (proto : Proto P) {serves : Kind → Bool} (fo
       record {
         stands = rest.stands;
         drafts = λ o has. elim (Contains-append_cases (sent_in_turn k proto r s t) (sent_in_turns k proto r (after_turn k proto r s t) ts) o has) [
-          | inl now ↦ turn_drafts r t s good.0 was o now
+          | inl now ↦ turn_drafts r t s lt good.0 was o now
           | inr later ↦ rest.drafts o later
         ];
       }

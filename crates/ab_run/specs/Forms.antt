@@ -1,5 +1,5 @@
 -- What a party sends, before it is sealed, and what a replica keeps that it may send.
-use Rattle.std.specs.Prelude.{◌≡◌, ℕ, Bool, Some, Contains}
+use Rattle.std.specs.Prelude.{◌≡◌, ◌<◌, ℕ, Bool, Some, Contains}
 use Rattle.ab_num.specs.declared.cluster.Cluster.{Cluster}
 use Rattle.ab_num.specs.declared.party.Party.{Party}
 use Rattle.ab_num.specs.declared.party.Party.TheVariants.{Replica}
@@ -15,7 +15,7 @@ use Rattle.ab_msg.specs.Messages.{IsDraft}
 use Rattle.ab_abs.specs.Ensembles.{Proto}
 use Rattle.ab_abs.specs.Places.{Arises, IsWrittenEntry}
 use Rattle.ab_abs.specs.Promises.{ServesAll}
-use Rattle.ab_run.specs.Setups.{Setup}
+use Rattle.ab_run.specs.Setups.{Setup, replicas}
 use Rattle.ab_run.specs.Replicas.{Rep}
 
 -- it is of the grammar but for the tags that sealing makes, and whatever in it needs those of party p, where f replicas may be faulty, p
@@ -30,7 +30,7 @@ pub record IsWrittenRep {P : Type 0} (proto : Proto P) (serves : Kind → Bool) 
   pub entry : IsWrittenEntry s.entry
   pub abort : (v : Signed) → s.abort ≡ Some v → IsSigned IsAbort v × (maker_of v.content ≡ Replica r)
 
--- the protocol serves each kind of the plan, and each signature has the length of one
+-- the protocol serves each kind of the plan, and each signature of a replica has the length of one
 pub record IsWrittenSetup (k : Setup) (serves : Kind → Bool) : Type 0 where
   pub serves_all : ServesAll serves k.cluster
-  pub signs : (r : ℕ) (s : Content) (n : ℕ) → IsSig (k.sig r s n)
+  pub signs : (r : ℕ) (s : Content) (n : ℕ) → r < replicas k → IsSig (k.sig r s n)
