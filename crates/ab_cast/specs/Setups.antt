@@ -97,9 +97,10 @@ party_at (place.Client c) = Client c
 party_at (place.ReplicaTwin r at) = Replica r
 party_at (place.ClientTwin c at) = Client c
 
--- the faulty ones are parties, the rings of the parties stand by their numbers, and the further cores of the faulty parties in the order of the list
-pub record IsSetup (x : Setup) (replica_rings client_rings : List Ring) (replicas clients : List (ℕ × ℕ)) : Type 0 where
+-- the faulty ones are parties, the signature keys and rings stand by the numbers of their parties, and the further cores of the faulty parties in the order of the list
+pub record IsSetup (x : Setup) (signers : List SignKey) (replica_rings client_rings : List Ring) (replicas clients : List (ℕ × ℕ)) : Type 0 where
   pub parties : All (λ e. IsTrue (is_party x.cluster.f x.cluster.clients e.0)) x.faulty
+  pub keys : signers ≡ keys_of x
   pub of_replicas : (r : ℕ) → r < 3 * x.cluster.f + 1 → slice_get replica_rings r ≡ Some (ring_at x (Replica r))
   pub of_clients : (c : ℕ) → c < x.cluster.clients → slice_get client_rings c ≡ Some (ring_at x (Client c))
   pub twins_of_replicas : replicas ≡ replica_twins x.faulty
