@@ -1,0 +1,1 @@
+//! A replica signs, and another finds it right.
