@@ -68,7 +68,9 @@ impl SecretKey {
     fn kept_public(&self) -> Option<[u8; 56]>
         ensures { IfSome result (λ p. p ≡ public_key self.now.height self.now.id self.now.seed) }
     {
-        self.public.get()?.bytes_of(self.height, &self.id, &self.seed)
+        self.public
+            .get()?
+            .bytes_of(self.height, &self.id, &self.seed)
     }
 
     /// The public key, from the tree if it was made.
@@ -89,7 +91,9 @@ impl SecretKey {
             return public;
         }
         let public = self.made_public();
-        let _ = self.public.set(Published::of(self.height, self.id, self.seed, public));
+        let _ = self
+            .public
+            .set(Published::of(self.height, self.id, self.seed, public));
         public
     }
 

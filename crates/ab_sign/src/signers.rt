@@ -106,13 +106,7 @@ impl Signers {
     }
 
     /// The signature of a text by leaf `q` of replica `r`. It is then known to verify.
-    pub fn sign_at(
-        &self,
-        alloc: Global,
-        r: u8,
-        q: u64,
-        text: &[u8],
-    ) -> Result<Vec<u8>, OutOfMemory>
+    pub fn sign_at(&self, alloc: Global, r: u8, q: u64, text: &[u8]) -> Result<Vec<u8>, OutOfMemory>
         requires { q < leaves_of self.now r }
         ensures { IfOk result (λ v. v.items ≡ signature_of self.now r q text.now) }
     {
