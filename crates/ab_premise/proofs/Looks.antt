@@ -1,8 +1,8 @@
 -- What is looked at in an event is what the run then has.
-use Rattle.std.proofs.Common.{◌≡◌, ℕ, ◌<◌, ◌⊎◌, true, false, Bool, Some, None, Option, List, [], ◌∷◌, ◌++◌, length, map, refl, sym, ap, ◌∙◌, subst, inl, inr, arith, append-nil, true≢false}
-use Rattle.std.specs.Prelude.{Contains, nat_lt, ◌==◌, if◌then◌else◌}
+use Rattle.std.proofs.Common.{◌≡◌, ℕ, ◌+◌, ◌<◌, ◌≤◌, ◌⊎◌, true, false, Bool, Some, None, Option, List, [], ◌∷◌, ◌++◌, length, map, refl, sym, ap, ◌∙◌, subst, inl, inr, arith, append-nil, true≢false}
+use Rattle.std.specs.Prelude.{Contains, nat_le, nat_lt, ◌==◌, ◌&&◌, if◌then◌else◌}
 use mathlib.Core.List.{IsPrefix}
-use Rattle.std.proofs.lemmas.Bool.{cases_Bool, cases_eq, ltb-true}
+use Rattle.std.proofs.lemmas.Bool.{cases_Bool, cases_eq, and_parts, eqb-true, leb-true, ltb-true}
 use Rattle.std.proofs.lemmas.Grind.{flat_map-append}
 use Rattle.std.proofs.lemmas.List.Elements.{Contains-append_left, Contains-append_right, Contains-append_cases}
 use Rattle.ab_num.specs.declared.party.Party.{Party}
@@ -13,40 +13,28 @@ use Rattle.ab_msg.specs.declared.signed.Signed.{Signed}
 use Rattle.ab_msg.specs.declared.message.Msg.{Msg}
 use Rattle.ab_msg.specs.declared.message.Msg.TheVariants as msg
 use Rattle.ab_msg.specs.Claims.{instance_in, maker_of}
-use Rattle.ab_msg.specs.Grammar.{IsMessage}
 use Rattle.ab_abs.specs.Faults.{is_faulty}
 use Rattle.ab_abs.specs.Acts.{with_first}
 use Rattle.ab_abs.specs.Messages.{Call, took, timed}
-use Rattle.ab_abs.specs.Ensembles.{Proto}
+use Rattle.ab_abs.specs.Ensembles.{Proto, entry_of}
+use Rattle.ab_abs.specs.Certificates.{history_of}
 use Rattle.ab_abs.specs.Places.{KeepsForm}
 use Rattle.ab_abs.proofs.Prefixes.{prefix_is_take}
 use Rattle.ab_links.specs.Links.{Continues}
 use Rattle.ab_links.specs.Digested.{Item, history, request, item_histories, item_requests, histories_of, requests_of, BeginsIn}
 use Rattle.ab_links.proofs.ListLemmas.{HasSame, Contains-cons_cases, Contains-head, Contains-tail}
-use Rattle.ab_run.specs.Setups.{Setup, replicas}
-use Rattle.ab_run.specs.Replicas.{Rep, Turn, turn_call, turn_sign, turn_bring, turn_abort, state_at, after_turn, client_of, aborting, aborting_with, late, here, taken_in, due, is_spent, turns}
+use Rattle.ab_run.specs.Setups.{Setup, replicas, last_instance}
+use Rattle.ab_run.specs.Replicas.{Rep, Turn, turn_enter, turn_call, turn_halt, turn_sign, turn_bring, turn_abort, state_at, after_turn, client_of, cert_instance, brought, aborting, aborting_with, halting, late, here, taken, taken_in, due, due_by, due_with, is_spent, turns}
 use Rattle.ab_run.specs.Runs.{Event, invoke, to_replica, to_client, replica_time, client_time, Run, step, start, had_at, histories_for, requests_for}
 use Rattle.ab_run.specs.Local.{after_turns, rep_after, cue_command, cue_message, cue_time, Cue}
 use Rattle.ab_run.specs.Stages.{had_in_turns, had_in_call, call_histories, call_requests}
 use Rattle.ab_run.proofs.Effects.{at_call, at_cue, called, reps_apart}
 use Rattle.ab_run.proofs.Shown.{grown, followed}
-use Rattle.ab_premise.specs.Collisions.{checked_items, first_items, known_of, state_items, call_items, client_items, items_of}
-
--- a call that is a message whose bytes are known, or the timer
-abbrev pub IsBuilt : Call → Type 0
-IsBuilt (took m) = IsMessage m
-IsBuilt timed = Unit {0}
-
-abbrev pub IsBuiltEvent : Event → Type 0
-IsBuiltEvent (invoke c command) = Unit {0}
-IsBuiltEvent (to_replica r m) = IsMessage m
-IsBuiltEvent (to_client c m) = IsMessage m
-IsBuiltEvent (replica_time r) = Unit {0}
-IsBuiltEvent (client_time c) = Unit {0}
+use Rattle.ab_premise.specs.Collisions.{checked_items, entered_items, first_items, known_of, state_items, call_items, client_items, items_of}
 
 -- ---- the turns of an event
 
--- turns that leave the value where it is, or one call
+-- turns that leave the value where it is
 pub data IsQuiet : Turn → Type 0 where
   signs : IsQuiet turn_sign
   brings : (c : ℕ) → IsQuiet (turn_bring c)
@@ -56,46 +44,96 @@ abbrev pub AllQuiet : List Turn → Type 0
 AllQuiet [] = Unit {0}
 AllQuiet (t ∷ ts) = IsQuiet t × AllQuiet ts
 
+-- in one instance the value stays, takes one call, or is stopped
 pub data IsCalm : List Turn → Type 0 where
   still : (ts : List Turn) → AllQuiet ts → IsCalm ts
-  once : (call : Call) → IsBuilt call → IsCalm (turn_call call ∷ [])
+  once : (call : Call) → IsCalm (turn_call call ∷ [])
+  stops : (ts : List Turn) → AllQuiet ts → IsCalm (turn_halt ∷ ts)
+
+-- the same, in the instance where a replica is or in a later one that it enters first
+pub data IsCalmFrom {P : Type 0} (s : Rep P) : List Turn → Type 0 where
+  stays : (ts : List Turn) → IsCalm ts → IsCalmFrom s ts
+  enters : (j : ℕ) (cert : List Signed) (h : List Request) (ts : List Turn) → s.at ≤ j → IsCalm ts → IsCalmFrom s (turn_enter j cert h ∷ ts)
 
 calm_if : (b : Bool) (ts us : List Turn) → IsCalm ts → IsCalm us → IsCalm (if b then ts else us)
 calm_if true ts us one other = one
 calm_if false ts us one other = other
 
-aborting_calm : (c : ℕ) (o : Option Signed) → IsCalm (aborting_with c o)
-aborting_calm c None = still (turn_sign ∷ turn_abort c ∷ []) (signs, (aborts c, tt))
-aborting_calm c (Some abort) = still (turn_abort c ∷ []) (aborts c, tt)
+aborting_quiet : (c : ℕ) (o : Option Signed) → AllQuiet (aborting_with c o)
+aborting_quiet c None = (signs, (aborts c, tt))
+aborting_quiet c (Some abort) = (aborts c, tt)
+
+quiet_if : (b : Bool) (ts : List Turn) → AllQuiet ts → AllQuiet (if b then ts else [])
+quiet_if true ts all = all
+quiet_if false ts all = tt
 
 module _ {P : Type 0} (k : Setup) (proto : Proto P) where
-  here_calm : (s : Rep P) (m : Msg) → IsMessage m → IsCalm (here k proto s m)
-  here_calm s (msg.Req content tags) is =
-      calm_if (state_at k proto s).stopped (aborting k proto (client_of (maker_of content)) s) (turn_call (took (msg.Req content tags)) ∷ []) (aborting_calm (client_of (maker_of content)) s.abort) (once (took (msg.Req content tags)) is)
-  here_calm s (msg.Resp content tag) is = once (took (msg.Resp content tag)) is
-  here_calm s _ is = absurd (is)
+  halting_calm : (c : ℕ) (s : Rep P) → IsCalm (halting k proto c s)
+  halting_calm c s =
+      let due = aborting k proto c s in
+      let after = (proto.state (proto.halt s.value)).stopped in
+      let quiet = aborting_quiet c s.abort in
+      calm_if (state_at k proto s).stopped due (turn_halt ∷ (if after then due else [])) (still due quiet) (stops (if after then due else []) (quiet_if after due quiet))
 
-  late_calm : (m : Msg) → IsMessage m → IsCalm (late m)
-  late_calm (msg.Req content tags) is = still (turn_bring (client_of (maker_of content)) ∷ []) (brings (client_of (maker_of content)), tt)
-  late_calm (msg.Resp content tag) is = still [] tt
-  late_calm _ is = absurd (is)
+  here_calm : (s : Rep P) (m : Msg) → IsCalm (here k proto s m)
+  here_calm s (msg.Req content tags) =
+      let c = client_of (maker_of content) in
+      calm_if (state_at k proto s).stopped (aborting k proto c s) (turn_call (took (msg.Req content tags)) ∷ []) (still (aborting k proto c s) (aborting_quiet c s.abort)) (once (took (msg.Req content tags)))
+  here_calm s (msg.Panic content tag) = halting_calm (client_of (maker_of content)) s
+  here_calm s _ = once (took _)
 
-  taken_calm : (s : Rep P) (m : Msg) (i : Option ℕ) → IsMessage m → IsCalm (taken_in k proto s m i)
-  taken_calm s m None is = still [] tt
-  taken_calm s m (Some i) is =
-      calm_if (i == s.at) (here k proto s m) (if nat_lt i s.at then late m else []) (here_calm s m is) (calm_if (nat_lt i s.at) (late m) [] (late_calm m is) (still [] tt))
+  late_calm : (m : Msg) → IsCalm (late m)
+  late_calm (msg.Req content tags) = still (turn_bring (client_of (maker_of content)) ∷ []) (brings (client_of (maker_of content)), tt)
+  late_calm (msg.Panic content tag) = still (turn_bring (client_of (maker_of content)) ∷ []) (brings (client_of (maker_of content)), tt)
+  late_calm _ = still [] tt
 
-  pub due_calm : (r : ℕ) (s : Rep P) (call : Call) → IsBuilt call → IsCalm (due k proto r s call)
-  due_calm r s (took (msg.Req content tags)) is = taken_calm s (msg.Req content tags) (instance_in (msg.Req content tags)) is
-  due_calm r s (took (msg.Resp content tag)) is = taken_calm s (msg.Resp content tag) (instance_in (msg.Resp content tag)) is
-  due_calm r s (took _) is = absurd (is)
-  due_calm r s timed is = once timed tt
+  taken_calm : (s : Rep P) (m : Msg) (i : Option ℕ) → IsCalm (taken_in k proto s m i)
+  taken_calm s m None = still [] tt
+  taken_calm s m (Some i) =
+      calm_if (i == s.at) (here k proto s m) (if nat_lt i s.at then late m else []) (here_calm s m) (calm_if (nat_lt i s.at) (late m) [] (late_calm m) (still [] tt))
 
-  pub turns_calm : (r : ℕ) (s : Rep P) (call : Call) → IsBuilt call → IsCalm (turns k proto r s call)
-  turns_calm r s call is = calm_if (is_spent k proto r s call) [] (due k proto r s call) (still [] tt) (due_calm r s call is)
+  calm_there : (s : Rep P) (m : Msg) → IsCalmFrom s (taken k proto s m)
+  calm_there s m = stays (taken k proto s m) (taken_calm s m (instance_in m))
+
+  entering_calm : (r : ℕ) (s : Rep P) (m : Msg) (j : ℕ) (cert : List Signed) (o : Option (List Request)) → IsCalmFrom s (due_with k proto r s m j cert o)
+  entering_calm r s m j cert None = calm_there s m
+  entering_calm r s m j cert (Some h) =
+      let there = after_turn k proto r s (turn_enter j cert h) in
+      let may = nat_le s.at j && nat_lt j last_instance in
+      elim (cases_Bool may) [
+        | inl yes ↦
+            subst (IsCalmFrom s) (sym (ap (λ (b : Bool). if b then turn_enter j cert h ∷ taken k proto there m else taken k proto s m) yes))
+            (enters j cert h (taken k proto there m) (leb-true s.at j (and_parts (nat_le s.at j) (nat_lt j last_instance) yes).0) (taken_calm there m (instance_in m)))
+        | inr no ↦ subst (IsCalmFrom s) (sym (ap (λ (b : Bool). if b then turn_enter j cert h ∷ taken k proto there m else taken k proto s m) no)) (calm_there s m)
+      ]
+
+  by_calm : (r : ℕ) (s : Rep P) (m : Msg) (o : Option (List Signed)) → IsCalmFrom s (due_by k proto r s m o)
+  by_calm r s m None = calm_there s m
+  by_calm r s m (Some cert) = entering_calm r s m (cert_instance cert) cert (history_of k.cluster (cert_instance cert) cert)
+
+  pub due_calm : (r : ℕ) (s : Rep P) (call : Call) → IsCalmFrom s (due k proto r s call)
+  due_calm r s (took m) = by_calm r s m (brought m)
+  due_calm r s timed = stays (turn_call timed ∷ []) (once timed)
+
+  from_if : (s : Rep P) (b : Bool) (ts : List Turn) → IsCalmFrom s ts → IsCalmFrom s (if b then [] else ts)
+  from_if s true ts calm = stays [] (still [] tt)
+  from_if s false ts calm = calm
+
+  pub turns_calm : (r : ℕ) (s : Rep P) (call : Call) → IsCalmFrom s (turns k proto r s call)
+  turns_calm r s call = from_if s (is_spent k proto r s call) (due k proto r s call) (due_calm r s call)
 
   -- a replica went from s to now, and had these on the way
   record Went (s now : Rep P) (had : List (List Request)) : Type 0 where
+    entered : (s.at == now.at) ≡ true → (state_at k proto now).entered ≡ (state_at k proto s).entered
+    grows : (s.at == now.at) ≡ true → IsPrefix (state_at k proto s).log (state_at k proto now).log
+    based : (s.at == now.at) ≡ false → now.entry.base ≡ (state_at k proto now).entered
+    each : (h : List Request) → Contains had h → (Contains (had_at (state_at k proto s)) h ⊎ Contains (had_at (state_at k proto now)) h) ⊎ (h ≡ [])
+    last : (h : List Request) → Contains (had_at (state_at k proto now)) h → Contains had h ⊎ Contains (had_at (state_at k proto s)) h
+
+  -- it stays in its instance
+  record Moved (s now : Rep P) (had : List (List Request)) : Type 0 where
+    at : now.at ≡ s.at
+    base : now.entry.base ≡ s.entry.base
     entered : (state_at k proto now).entered ≡ (state_at k proto s).entered
     grows : IsPrefix (state_at k proto s).log (state_at k proto now).log
     each : (h : List Request) → Contains had h → Contains (had_at (state_at k proto s)) h ⊎ Contains (had_at (state_at k proto now)) h
@@ -103,24 +141,33 @@ module _ {P : Type 0} (k : Setup) (proto : Proto P) where
 
   -- the value stays
   record Stays (r : ℕ) (ts : List Turn) (s : Rep P) : Type 0 where
+    at : (after_turns k proto r s ts).at ≡ s.at
+    base : (after_turns k proto r s ts).entry.base ≡ s.entry.base
     same : (after_turns k proto r s ts).value ≡ s.value
     each : (h : List Request) → Contains (had_in_turns k proto r s ts) h → Contains (had_at (state_at k proto s)) h
 
-  quiet_one : (r : ℕ) (t : Turn) (ts : List Turn) (s : Rep P) → IsQuiet t → (after_turn k proto r s t).value ≡ s.value
-  quiet_one r t ts s signs = refl
-  quiet_one r t ts s (brings c) = refl
-  quiet_one r t ts s (aborts c) = refl
+  record Same (s now : Rep P) : Type 0 where
+    at : now.at ≡ s.at
+    base : now.entry.base ≡ s.entry.base
+    value : now.value ≡ s.value
+
+  quiet_one : (r : ℕ) (t : Turn) (s : Rep P) → IsQuiet t → Same s (after_turn k proto r s t)
+  quiet_one r t s signs = record { at = refl; base = refl; value = refl }
+  quiet_one r t s (brings c) = record { at = refl; base = refl; value = refl }
+  quiet_one r t s (aborts c) = record { at = refl; base = refl; value = refl }
 
   quiet_stays : (r : ℕ) (ts : List Turn) (s : Rep P) → AllQuiet ts → Stays r ts s
-  quiet_stays r [] s all = record { same = refl; each = λ h gone. absurd (omega (arith, gone.1)) }
+  quiet_stays r [] s all = record { at = refl; base = refl; same = refl; each = λ h gone. absurd (omega (arith, gone.1)) }
   quiet_stays r (t ∷ ts) s all =
       let now = after_turn k proto r s t in
       let rest = quiet_stays r ts now all.1 in
-      let one = quiet_one r t ts s all.0 in
+      let one = quiet_one r t s all.0 in
       record {
-        same = rest.same ∙ one;
+        at = rest.at ∙ one.at;
+        base = rest.base ∙ one.base;
+        same = rest.same ∙ one.value;
         each = λ h has.
-            subst (λ (v : P). Contains (had_at (proto.state v)) h) one
+            subst (λ (v : P). Contains (had_at (proto.state v)) h) one.value
             (elim (Contains-append_cases (had_in_turns k proto r now ts) (had_at (state_at k proto now)) h has) [
               | inl later ↦ rest.each h later
               | inr first ↦ first
@@ -128,24 +175,96 @@ module _ {P : Type 0} (k : Setup) (proto : Proto P) where
       }
 
   module _ {serves : Kind → Bool} (form : KeepsForm proto serves) where
-    calm_went : (r : ℕ) (ts : List Turn) (s : Rep P) → IsCalm ts → Went s (after_turns k proto r s ts) (had_in_turns k proto r s ts)
-    calm_went r ts s (still _ all) =
+    calm_moved : (r : ℕ) (ts : List Turn) (s : Rep P) → IsCalm ts → Moved s (after_turns k proto r s ts) (had_in_turns k proto r s ts)
+    calm_moved r ts s (still _ all) =
         let is = quiet_stays r ts s all in
         record {
+          at = is.at;
+          base = is.base;
           entered = ap (λ (v : P). (proto.state v).entered) is.same;
           grows = subst (λ (v : P). IsPrefix (state_at k proto s).log (proto.state v).log) (sym is.same) ([], append-nil (state_at k proto s).log);
           each = λ h has. inl (is.each h has);
           last = λ h has. inr (subst (λ (v : P). Contains (had_at (proto.state v)) h) is.same has);
         }
-    calm_went r ts s (once call built) = record {
+    calm_moved r ts s (once call) = record {
+      at = refl;
+      base = refl;
       entered = form.entered_stays (record { used = s.used; sig = k.sig r }) s.value call;
       grows = form.grows (record { used = s.used; sig = k.sig r }) s.value call;
       each = λ h has. inr has;
       last = λ h has. inl has;
     }
+    calm_moved r ts s (stops us all) =
+        let halted = after_turn k proto r s turn_halt in
+        let is = quiet_stays r us halted all in
+        let log_is = (form.halts s.value).0 in
+        record {
+          at = is.at;
+          base = is.base;
+          entered = ap (λ (v : P). (proto.state v).entered) is.same ∙ form.entered_rests s.value;
+          grows = subst (λ (v : P). IsPrefix (state_at k proto s).log (proto.state v).log) (sym is.same) (subst (IsPrefix (state_at k proto s).log) (sym log_is) ([], append-nil (state_at k proto s).log));
+          each = λ h has. inr (subst (λ (v : P). Contains (had_at (proto.state v)) h) (sym is.same) (elim (Contains-append_cases (had_in_turns k proto r halted us) (had_at (state_at k proto halted)) h has) [
+            | inl later ↦ is.each h later
+            | inr first ↦ first
+          ]));
+          last = λ h has. inl (Contains-append_right (had_in_turns k proto r halted us) (had_at (state_at k proto halted)) h (subst (λ (v : P). Contains (had_at (proto.state v)) h) is.same has));
+        }
 
-    call_went : (r : ℕ) (s : Rep P) (call : Call) → IsBuilt call → Went s (rep_after k proto r s call) (had_in_turns k proto r s (turns k proto r s call))
-    call_went r s call is = calm_went r (turns k proto r s call) s (turns_calm r s call is)
+    -- what a replica has as it enters, it has by what it entered with
+    entry_had : (log h' g : List Request) (first : Option (List Request)) → (log ≡ h') ⊎ (log ≡ []) → first ≡ None → Contains (log ∷ h' ∷ with_first first) g → (h' ≡ g) ⊎ (g ≡ [])
+    entry_had log h' g first begins none has = elim (Contains-cons_cases log (h' ∷ with_first first) g has) [
+      | inl e ↦ elim begins [ inl based ↦ inl (sym based ∙ e) | inr empty ↦ inr (sym e ∙ empty) ]
+      | inr rest ↦ elim (Contains-cons_cases h' (with_first first) g rest) [
+        | inl e ↦ inl e
+        | inr more ↦ let gone : Contains [] g = subst (λ o. Contains (with_first o) g) none more in absurd (omega (arith, gone.1))
+      ]
+    ]
+
+    calm_went : (r : ℕ) (ts : List Turn) (s : Rep P) → IsCalmFrom s ts → Went s (after_turns k proto r s ts) (had_in_turns k proto r s ts)
+    calm_went r ts s (stays _ calm) =
+        let is = calm_moved r ts s calm in
+        record {
+          entered = λ same. is.entered;
+          grows = λ same. is.grows;
+          based = λ differs. absurd (true≢false (sym (eqb-refl s.at) ∙ ap (λ n. s.at == n) (sym is.at) ∙ differs));
+          each = λ h has. inl (is.each h has);
+          last = is.last;
+        }
+    calm_went r ts s (enters j cert h us le calm) =
+        let there = after_turn k proto r s (turn_enter j cert h) in
+        let now = after_turns k proto r there us in
+        let is = calm_moved r us there calm in
+        let entry = entry_of h (Some cert) in
+        let begins = form.begins k.cluster (j + 1) r entry in
+        let entered : (state_at k proto there).entered ≡ h = form.enters k.cluster (j + 1) r entry in
+        let apart : (s.at == now.at) ≡ true → ⊥ = λ same. let e : s.at ≡ now.at = eqb-true s.at now.at same in omega (arith, e, is.at, le) in
+        let own : Contains (had_at (state_at k proto now)) h =
+        subst (Contains (had_at (state_at k proto now))) (is.entered ∙ entered)
+        (Contains-tail (state_at k proto now).log ((state_at k proto now).entered ∷ with_first (state_at k proto now).first) (state_at k proto now).entered (Contains-head (state_at k proto now).entered (with_first (state_at k proto now).first))) in
+        let first_had : (g : List Request) → Contains (had_at (state_at k proto there)) g → Contains (had_at (state_at k proto now)) g ⊎ (g ≡ []) =
+        λ g has. elim (entry_had (state_at k proto there).log (state_at k proto there).entered g (state_at k proto there).first (subst (λ (e : List Request). ((state_at k proto there).log ≡ e) ⊎ ((state_at k proto there).log ≡ [])) (sym entered) begins.0) begins.1 has) [
+          | inl e ↦ inl (subst (Contains (had_at (state_at k proto now))) (sym entered ∙ e) own)
+          | inr none ↦ inr none
+        ] in
+        record {
+          entered = λ same. absurd (apart same);
+          grows = λ same. absurd (apart same);
+          based = λ differs. is.base ∙ sym (is.entered ∙ entered);
+          each = λ g has. elim (Contains-append_cases (had_in_turns k proto r there us) (had_at (state_at k proto there)) g has) [
+            | inl later ↦ elim (is.each g later) [
+              | inl first ↦ elim (first_had g first) [ inl here ↦ inl (inr here) | inr none ↦ inr none ]
+              | inr after ↦ inl (inr after)
+            ]
+            | inr first ↦ elim (first_had g first) [ inl here ↦ inl (inr here) | inr none ↦ inr none ]
+          ];
+          last = λ g has. elim (is.last g has) [
+            | inl later ↦ inl (Contains-append_left (had_in_turns k proto r there us) (had_at (state_at k proto there)) g later)
+            | inr first ↦ inl (Contains-append_right (had_in_turns k proto r there us) (had_at (state_at k proto there)) g first)
+          ];
+        }
+
+    call_went : (r : ℕ) (s : Rep P) (call : Call) → Went s (rep_after k proto r s call) (had_in_turns k proto r s (turns k proto r s call))
+    call_went r s call = calm_went r (turns k proto r s call) s (turns_calm r s call)
 
 -- ---- what items hold
 
@@ -220,32 +339,65 @@ checked_looks w v hs ms had asked = record {
 }
 
 module _ {P : Type 0} (k : Setup) (proto : Proto P) {serves : Kind → Bool} (form : KeepsForm proto serves) where
-  -- what each correct replica has, the run has
-  abbrev pub HasOwn : Run P → Type 0
-  HasOwn w = (r : ℕ) → r < replicas k → is_faulty k.faulty (Replica r) ≡ false → (h : List Request) → Contains (had_at (state_at k proto (w.reps r))) h → Contains w.had h
+  -- what each correct replica has, the run has, and the empty history
+  pub record HasOwn (w : Run P) : Type 0 where
+    pub each : (r : ℕ) → r < replicas k → is_faulty k.faulty (Replica r) ≡ false → (h : List Request) → Contains (had_at (state_at k proto (w.reps r))) h → Contains w.had h
+    pub empty : Contains w.had []
 
-  state_histories : (s now : Rep P) → histories_of (state_items k proto s now) ≡ (state_at k proto now).log ∷ with_first (state_at k proto now).first
-  state_histories s now = ap (λ l. (state_at k proto now).log ∷ l) (histories_first (state_at k proto now).first)
+  entered_part : Rep P → Rep P → List (List Request)
+  entered_part s now = if s.at == now.at then [] else now.entry.base ∷ []
 
-  known_begins : (had : List (List Request)) (s now : Rep P) (b : Bool) → IsPrefix (state_at k proto s).log (state_at k proto now).log → Contains had (state_at k proto s).log
-      → Continues had (state_at k proto now).log (if b then length (state_at k proto s).log else 0)
-  known_begins had s now true grows has some =
-      ((state_at k proto s).log, has, subst (λ l. IsPrefix l (state_at k proto s).log) (prefix_is_take (state_at k proto s).log (state_at k proto now).log grows) ([], append-nil (state_at k proto s).log))
-  known_begins had s now false grows has some = absurd (omega (arith, some))
+  histories_entered : (b : Bool) (base : List Request) → histories_of (if b then [] else history base 0 ∷ []) ≡ (if b then [] else base ∷ [])
+  histories_entered true base = refl
+  histories_entered false base = refl
 
-  state_begins : (had : List (List Request)) (s now : Rep P) → IsPrefix (state_at k proto s).log (state_at k proto now).log → Contains had (state_at k proto s).log
-      → (item : Item) → Contains (state_items k proto s now) item → BeginsIn had item
-  state_begins had s now grows has item at = elim (Contains-cons_cases (history (state_at k proto now).log (known_of k proto s now)) (first_items (state_at k proto now).first) item at) [
-    | inl e ↦ subst (BeginsIn had) e (known_begins had s now (s.at == now.at) grows has)
-    | inr more ↦ first_begin had (state_at k proto now).first item more
+  requests_entered : (b : Bool) (base : List Request) → requests_of (if b then [] else history base 0 ∷ []) ≡ []
+  requests_entered true base = refl
+  requests_entered false base = refl
+
+  entered_begin : (had : List (List Request)) (b : Bool) (base : List Request) (item : Item) → Contains (if b then [] else history base 0 ∷ []) item → BeginsIn had item
+  entered_begin had true base item gone = absurd (omega (arith, gone.1))
+  entered_begin had false base item has = elim (Contains-cons_cases (history base 0) [] item has) [
+    | inl e ↦ subst (BeginsIn had) e (λ some. absurd (omega (arith, some)))
+    | inr gone ↦ absurd (omega (arith, gone.1))
   ]
 
-  module _ (w v : Run P) (s now : Rep P) (hs more : List (List Request)) (ms : List Request) (went : Went k proto s now more) (own : (h : List Request) → Contains (had_at (state_at k proto s)) h → Contains w.had h)
+  state_histories : (s now : Rep P) → histories_of (state_items k proto s now) ≡ (state_at k proto now).log ∷ (entered_part s now ++ with_first (state_at k proto now).first)
+  state_histories s now =
+      ap (λ l. (state_at k proto now).log ∷ l)
+      (flat_map-append item_histories (entered_items k proto s now) (first_items (state_at k proto now).first)
+      ∙ (λ j. histories_entered (s.at == now.at) now.entry.base j ++ histories_first (state_at k proto now).first j))
+
+  state_requests : (s now : Rep P) → requests_of (state_items k proto s now) ≡ []
+  state_requests s now =
+      flat_map-append item_requests (entered_items k proto s now) (first_items (state_at k proto now).first)
+      ∙ (λ j. requests_entered (s.at == now.at) now.entry.base j ++ requests_first (state_at k proto now).first j)
+
+  known_begins : (had : List (List Request)) (s now : Rep P) (b : Bool) → (b ≡ true → IsPrefix (state_at k proto s).log (state_at k proto now).log) → Contains had (state_at k proto s).log
+      → Continues had (state_at k proto now).log (if b then length (state_at k proto s).log else 0)
+  known_begins had s now true grows has some =
+      ((state_at k proto s).log, has, subst (λ l. IsPrefix l (state_at k proto s).log) (prefix_is_take (state_at k proto s).log (state_at k proto now).log (grows refl)) ([], append-nil (state_at k proto s).log))
+  known_begins had s now false grows has some = absurd (omega (arith, some))
+
+  state_begins : (had : List (List Request)) (s now : Rep P) → ((s.at == now.at) ≡ true → IsPrefix (state_at k proto s).log (state_at k proto now).log) → Contains had (state_at k proto s).log
+      → (item : Item) → Contains (state_items k proto s now) item → BeginsIn had item
+  state_begins had s now grows has item at = elim (Contains-cons_cases (history (state_at k proto now).log (known_of k proto s now)) (entered_items k proto s now ++ first_items (state_at k proto now).first) item at) [
+    | inl e ↦ subst (BeginsIn had) e (known_begins had s now (s.at == now.at) grows has)
+    | inr more ↦ elim (Contains-append_cases (entered_items k proto s now) (first_items (state_at k proto now).first) item more) [
+      | inl base ↦ entered_begin had (s.at == now.at) now.entry.base item base
+      | inr first ↦ first_begin had (state_at k proto now).first item first
+    ]
+  ]
+
+  module _ (w v : Run P) (s now : Rep P) (hs more : List (List Request)) (ms : List Request) (went : Went k proto s now more) (empty : Contains w.had []) (own : (h : List Request) → Contains (had_at (state_at k proto s)) h → Contains w.had h)
       (had : v.had ≡ more ++ (hs ++ w.had)) (asked : v.asked ≡ ms ++ w.asked) where
     abbrev items : List Item
     items = checked_items hs ms ++ state_items k proto s now
 
-    histories_are : histories_of items ≡ hs ++ ((state_at k proto now).log ∷ with_first (state_at k proto now).first)
+    abbrev New : List (List Request)
+    New = (state_at k proto now).log ∷ (entered_part s now ++ with_first (state_at k proto now).first)
+
+    histories_are : histories_of items ≡ hs ++ New
     histories_are =
         flat_map-append item_histories (checked_items hs ms) (state_items k proto s now)
         ∙ (λ j. histories_all hs ms j ++ state_histories s now j)
@@ -253,31 +405,50 @@ module _ {P : Type 0} (k : Setup) (proto : Proto P) {serves : Kind → Bool} (fo
     requests_are : requests_of items ≡ ms
     requests_are =
         flat_map-append item_requests (checked_items hs ms) (state_items k proto s now)
-        ∙ (λ j. requests_none hs ms j ++ requests_first (state_at k proto now).first j)
+        ∙ (λ j. requests_none hs ms j ++ state_requests s now j)
         ∙ append-nil ms
 
-    of_new : (h : List Request) → Contains ((state_at k proto now).log ∷ with_first (state_at k proto now).first) h → Contains (had_at (state_at k proto now)) h
-    of_new h has = elim (Contains-cons_cases (state_at k proto now).log (with_first (state_at k proto now).first) h has) [
-      | inl e ↦ subst (Contains (had_at (state_at k proto now))) e (Contains-head (state_at k proto now).log ((state_at k proto now).entered ∷ with_first (state_at k proto now).first))
-      | inr first ↦ Contains-tail (state_at k proto now).log ((state_at k proto now).entered ∷ with_first (state_at k proto now).first) h (Contains-tail (state_at k proto now).entered (with_first (state_at k proto now).first) h first)
+    now_entered : Contains (had_at (state_at k proto now)) (state_at k proto now).entered
+    now_entered =
+        Contains-tail (state_at k proto now).log ((state_at k proto now).entered ∷ with_first (state_at k proto now).first) (state_at k proto now).entered
+        (Contains-head (state_at k proto now).entered (with_first (state_at k proto now).first))
+
+    of_base : (b : Bool) → (s.at == now.at) ≡ b → (h : List Request) → Contains (if b then [] else now.entry.base ∷ []) h → Contains (had_at (state_at k proto now)) h
+    of_base true at h gone = absurd (omega (arith, gone.1))
+    of_base false at h has = elim (Contains-cons_cases now.entry.base [] h has) [
+      | inl e ↦ subst (Contains (had_at (state_at k proto now))) (sym (went.based at) ∙ e) now_entered
+      | inr gone ↦ absurd (omega (arith, gone.1))
     ]
 
-    entered_had : Contains w.had (state_at k proto now).entered
-    entered_had =
-        subst (Contains w.had) (sym went.entered)
-        (own (state_at k proto s).entered (Contains-tail (state_at k proto s).log ((state_at k proto s).entered ∷ with_first (state_at k proto s).first) (state_at k proto s).entered (Contains-head (state_at k proto s).entered (with_first (state_at k proto s).first))))
-
-    is_looked : (h : List Request) → Contains (had_at (state_at k proto now)) h → Contains w.had h ⊎ Contains ((state_at k proto now).log ∷ with_first (state_at k proto now).first) h
-    is_looked h has = elim (Contains-cons_cases (state_at k proto now).log ((state_at k proto now).entered ∷ with_first (state_at k proto now).first) h has) [
-      | inl e ↦ inr (subst (Contains ((state_at k proto now).log ∷ with_first (state_at k proto now).first)) e (Contains-head (state_at k proto now).log (with_first (state_at k proto now).first)))
-      | inr rest ↦ elim (Contains-cons_cases (state_at k proto now).entered (with_first (state_at k proto now).first) h rest) [
-        | inl e ↦ inl (subst (Contains w.had) e entered_had)
-        | inr first ↦ inr (Contains-tail (state_at k proto now).log (with_first (state_at k proto now).first) h first)
+    of_new : (h : List Request) → Contains New h → Contains (had_at (state_at k proto now)) h
+    of_new h has = elim (Contains-cons_cases (state_at k proto now).log (entered_part s now ++ with_first (state_at k proto now).first) h has) [
+      | inl e ↦ subst (Contains (had_at (state_at k proto now))) e (Contains-head (state_at k proto now).log ((state_at k proto now).entered ∷ with_first (state_at k proto now).first))
+      | inr rest ↦ elim (Contains-append_cases (entered_part s now) (with_first (state_at k proto now).first) h rest) [
+        | inl base ↦ of_base (s.at == now.at) refl h base
+        | inr first ↦ Contains-tail (state_at k proto now).log ((state_at k proto now).entered ∷ with_first (state_at k proto now).first) h (Contains-tail (state_at k proto now).entered (with_first (state_at k proto now).first) h first)
       ]
     ]
 
-    abbrev New : List (List Request)
-    New = (state_at k proto now).log ∷ with_first (state_at k proto now).first
+    behind : (h : List Request) → Contains (entered_part s now ++ with_first (state_at k proto now).first) h → Contains New h
+    behind h has = Contains-tail (state_at k proto now).log (entered_part s now ++ with_first (state_at k proto now).first) h has
+
+    entered_had : (b : Bool) → (s.at == now.at) ≡ b → Contains w.had (state_at k proto now).entered ⊎ Contains (if b then [] else now.entry.base ∷ []) (state_at k proto now).entered
+    entered_had true at =
+        inl (subst (Contains w.had) (sym (went.entered at))
+        (own (state_at k proto s).entered (Contains-tail (state_at k proto s).log ((state_at k proto s).entered ∷ with_first (state_at k proto s).first) (state_at k proto s).entered (Contains-head (state_at k proto s).entered (with_first (state_at k proto s).first)))))
+    entered_had false at = inr (subst (Contains (now.entry.base ∷ [])) (went.based at) (Contains-head now.entry.base []))
+
+    is_looked : (h : List Request) → Contains (had_at (state_at k proto now)) h → Contains w.had h ⊎ Contains New h
+    is_looked h has = elim (Contains-cons_cases (state_at k proto now).log ((state_at k proto now).entered ∷ with_first (state_at k proto now).first) h has) [
+      | inl e ↦ inr (subst (Contains New) e (Contains-head (state_at k proto now).log (entered_part s now ++ with_first (state_at k proto now).first)))
+      | inr rest ↦ elim (Contains-cons_cases (state_at k proto now).entered (with_first (state_at k proto now).first) h rest) [
+        | inl e ↦ elim (entered_had (s.at == now.at) refl) [
+          | inl old ↦ inl (subst (Contains w.had) e old)
+          | inr base ↦ inr (subst (Contains New) e (behind (state_at k proto now).entered (Contains-append_left (entered_part s now) (with_first (state_at k proto now).first) (state_at k proto now).entered base)))
+        ]
+        | inr first ↦ inr (behind h (Contains-append_right (entered_part s now) (with_first (state_at k proto now).first) h first))
+      ]
+    ]
 
     there : (h : List Request) → Contains (w.had ++ (hs ++ New)) h → Contains (more ++ (hs ++ w.had)) h
     there h has = elim (Contains-append_cases w.had (hs ++ New) h has) [
@@ -294,11 +465,14 @@ module _ {P : Type 0} (k : Setup) (proto : Proto P) {serves : Kind → Bool} (fo
     back : (h : List Request) → Contains (more ++ (hs ++ w.had)) h → Contains (w.had ++ (hs ++ New)) h
     back h has = elim (Contains-append_cases more (hs ++ w.had) h has) [
       | inl on_way ↦ elim (went.each h on_way) [
-        | inl before ↦ Contains-append_left w.had (hs ++ New) h (own h before)
-        | inr after ↦ elim (is_looked h after) [
-          | inl old ↦ Contains-append_left w.had (hs ++ New) h old
-          | inr new ↦ Contains-append_right w.had (hs ++ New) h (Contains-append_right hs New h new)
+        | inl had_then ↦ elim had_then [
+          | inl before ↦ Contains-append_left w.had (hs ++ New) h (own h before)
+          | inr after ↦ elim (is_looked h after) [
+            | inl old ↦ Contains-append_left w.had (hs ++ New) h old
+            | inr new ↦ Contains-append_right w.had (hs ++ New) h (Contains-append_right hs New h new)
+          ]
         ]
+        | inr none ↦ Contains-append_left w.had (hs ++ New) h (subst (Contains w.had) (sym none) empty)
       ]
       | inr rest ↦ elim (Contains-append_cases hs w.had h rest) [
         | inl checked ↦ Contains-append_right w.had (hs ++ New) h (Contains-append_left hs New h checked)
@@ -336,13 +510,16 @@ module _ {P : Type 0} (k : Setup) (proto : Proto P) {serves : Kind → Bool} (fo
 
   others_own : (w v : Run P) (r : ℕ) → HasOwn w → ((q : ℕ) → (q ≡ r → ⊥) → v.reps q ≡ w.reps q) → ((h : List Request) → Contains w.had h → Contains v.had h)
       → (is_faulty k.faulty (Replica r) ≡ false → (h : List Request) → Contains (had_at (state_at k proto (v.reps r))) h → Contains v.had h) → HasOwn v
-  others_own w v r own others more here q lt good h has = elim (cases_eq q r) [
-    | inl e ↦ here (subst (λ n. is_faulty k.faulty (Replica n) ≡ false) e good) h (subst (λ n. Contains (had_at (state_at k proto (v.reps n))) h) e has)
-    | inr ne ↦ more h (own q lt good h (subst (λ s. Contains (had_at (state_at k proto s)) h) (others q ne) has))
-  ]
+  others_own w v r own others more here = record {
+    each = λ q lt good h has. elim (cases_eq q r) [
+      | inl e ↦ here (subst (λ n. is_faulty k.faulty (Replica n) ≡ false) e good) h (subst (λ n. Contains (had_at (state_at k proto (v.reps n))) h) e has)
+      | inr ne ↦ more h (own.each q lt good h (subst (λ s. Contains (had_at (state_at k proto s)) h) (others q ne) has))
+    ];
+    empty = more [] own.empty;
+  }
 
-  call_seen : (w : Run P) (r : ℕ) (call : Call) → HasOwn w → IsBuilt call → Seen w (at_call k proto w r call) (if nat_lt r (replicas k) then call_items k proto r (w.reps r) call else [])
-  call_seen w r call own built = elim (cases_Bool (nat_lt r (replicas k))) [
+  call_seen : (w : Run P) (r : ℕ) (call : Call) → HasOwn w → Seen w (at_call k proto w r call) (if nat_lt r (replicas k) then call_items k proto r (w.reps r) call else [])
+  call_seen w r call own = elim (cases_Bool (nat_lt r (replicas k))) [
     | inl there ↦
         let lt = ltb-true r (replicas k) there in
         let v = at_call k proto w r call in
@@ -368,20 +545,23 @@ module _ {P : Type 0} (k : Setup) (proto : Proto P) {serves : Kind → Bool} (fo
                 owns = others_own w v r own c.others wider (λ good. absurd (true≢false (sym bad ∙ good)));
               }
           | inr good ↦
-              let went = call_went k proto form r s call built in
+              let went = call_went k proto form r s call in
               let something : all ≡ checked_items hs ms ++ state_items k proto s now = ap (λ (b : Bool). if b then [] else checked_items hs ms ++ state_items k proto s now) good in
               let had : v.had ≡ more ++ (hs ++ w.had) = g.had ∙ ap (λ (b : Bool). (if b then [] else more) ++ (hs ++ w.had)) good in
               record {
-                looks = subst (Looks w v) (sym (taken ∙ something)) (went_looks w v s now hs more ms went (own r lt good) had g.asked);
+                looks = subst (Looks w v) (sym (taken ∙ something)) (went_looks w v s now hs more ms went own.empty (own.each r lt good) had g.asked);
                 owns = others_own w v r own c.others wider
-                    (λ _ h has. own_again w v s now hs more ms went (own r lt good) had g.asked h (subst (λ z. Contains (had_at (state_at k proto z)) h) c.own has));
+                    (λ _ h has. own_again w v s now hs more ms went own.empty (own.each r lt good) had g.asked h (subst (λ z. Contains (had_at (state_at k proto z)) h) c.own has));
               }
         ]
     | inr gone ↦ rw gone (record { looks = nothing_looks w w refl refl; owns = own })
   ]
 
   clients_own : (w v : Run P) → HasOwn w → ((q : ℕ) → v.reps q ≡ w.reps q) → ((h : List Request) → Contains w.had h → Contains v.had h) → HasOwn v
-  clients_own w v own reps more q lt good h has = more h (own q lt good h (subst (λ s. Contains (had_at (state_at k proto s)) h) (reps q) has))
+  clients_own w v own reps more = record {
+    each = λ q lt good h has. more h (own.each q lt good h (subst (λ s. Contains (had_at (state_at k proto s)) h) (reps q) has));
+    empty = more [] own.empty;
+  }
 
   message_seen : (w : Run P) (c : ℕ) (m : Msg) → HasOwn w → Seen w (at_cue k proto w c (cue_message m)) (if nat_lt c k.cluster.clients then client_items k proto c m else [])
   message_seen w c m own = elim (cases_Bool (nat_lt c k.cluster.clients)) [
@@ -409,19 +589,22 @@ module _ {P : Type 0} (k : Setup) (proto : Proto P) {serves : Kind → Bool} (fo
     | inr gone ↦ rw gone (record { looks = nothing_looks w w refl refl; owns = own })
   ]
 
-  pub event_seen : (w : Run P) (e : Event) → HasOwn w → IsBuiltEvent e → Seen w (step k proto w e) (items_of k proto w e)
-  event_seen w (invoke c command) own built = silent_seen w c (cue_command command) (λ lt. let f = followed k proto w c (cue_command command) lt in (f.had, f.asked)) own
-  event_seen w (to_replica r m) own built = call_seen w r (took m) own built
-  event_seen w (to_client c m) own built = message_seen w c m own
-  event_seen w (replica_time r) own built = call_seen w r timed own tt
-  event_seen w (client_time c) own built = silent_seen w c cue_time (λ lt. let f = followed k proto w c cue_time lt in (f.had, f.asked)) own
+  pub event_seen : (w : Run P) (e : Event) → HasOwn w → Seen w (step k proto w e) (items_of k proto w e)
+  event_seen w (invoke c command) own = silent_seen w c (cue_command command) (λ lt. let f = followed k proto w c (cue_command command) lt in (f.had, f.asked)) own
+  event_seen w (to_replica r m) own = call_seen w r (took m) own
+  event_seen w (to_client c m) own = message_seen w c m own
+  event_seen w (replica_time r) own = call_seen w r timed own
+  event_seen w (client_time c) own = silent_seen w c cue_time (λ lt. let f = followed k proto w c cue_time lt in (f.had, f.asked)) own
 
   -- before the first event a replica has nothing
   pub start_own : HasOwn (start k proto)
-  start_own r lt good h has =
-      let blank = form.starts k.cluster r in
-      let had : had_at (state_at k proto ((start k proto).reps r)) ≡ [] ∷ [] ∷ [] = λ j. blank.logged j ∷ (blank.entered j ∷ with_first (blank.first j)) in
-      elim (Contains-cons_cases [] ([] ∷ []) h (subst (λ l. Contains l h) had has)) [
-        | inl e ↦ subst (Contains ([] ∷ [])) e (Contains-head [] [])
-        | inr more ↦ more
-      ]
+  start_own = record {
+    each = λ r lt good h has.
+        let blank = form.starts k.cluster r in
+        let had : had_at (state_at k proto ((start k proto).reps r)) ≡ [] ∷ [] ∷ [] = λ j. blank.logged j ∷ (blank.entered j ∷ with_first (blank.first j)) in
+        elim (Contains-cons_cases [] ([] ∷ []) h (subst (λ l. Contains l h) had has)) [
+          | inl e ↦ subst (Contains ([] ∷ [])) e (Contains-head [] [])
+          | inr more ↦ more
+        ];
+    empty = Contains-head [] [];
+  }

@@ -1,54 +1,57 @@
--- What correct parties make in a run has bytes, as long as nobody can sign and no timer runs out.
-use Rattle.std.proofs.Common.{◌≡◌, ℕ, suc, ◌+◌, ◌<◌, ◌≤◌, true, false, Bool, Some, None, Option, List, [], ◌∷◌, ◌++◌, length, refl, sym, ap, ◌∙◌, subst, inl, inr, arith, append-nil}
+-- What correct parties make in a run has bytes.
+use Rattle.std.proofs.Common.{◌≡◌, ℕ, suc, ◌+◌, ◌*◌, ◌<◌, ◌≤◌, ◌⊎◌, true, false, Bool, Some, None, Option, List, [], ◌∷◌, ◌++◌, length, refl, sym, ap, ◌∙◌, subst, inl, inr, arith, append-nil}
 use Rattle.std.proofs.lemmas.Grind.{flat_map-append}
-use Rattle.ab_num.specs.declared.party.Party.{Party}
-use Rattle.ab_num.specs.Places.{kind_of}
-use Rattle.std.specs.Prelude.{IsTrue, Contains, nat_lt, ◌^◌, if◌then◌else◌, flat_map, map}
+use Rattle.std.specs.Prelude.{All, IsTrue, Contains, nat_le, nat_lt, ◌==◌, ◌&&◌, ◌^◌, if◌then◌else◌, flat_map, map}
 use Rattle.arrayvec.specs.ArrayVec.{ArrayVec}
-use Rattle.std.proofs.lemmas.Bool.{cases_Bool, cases_eq, ltb-true, ltb-false}
-use Rattle.std.proofs.lemmas.List.Elements.{Contains-append_cases}
+use Rattle.std.proofs.lemmas.Bool.{cases_Bool, cases_eq, and_parts, ltb-true, ltb-false}
+use Rattle.std.specs.List.{list_any}
+use Rattle.std.proofs.lemmas.List.Elements.{All-contains, All-nil, Contains-append_cases}
+use Rattle.ab_num.specs.declared.cluster.Cluster.{Cluster}
+use Rattle.ab_num.specs.declared.party.Party.{Party}
 use Rattle.ab_num.specs.declared.party.Party.TheVariants.{Replica, Client}
 use Rattle.ab_num.specs.declared.plan.Kind.{Kind}
+use Rattle.ab_num.specs.declared.plan.Kind.TheVariants as kind
+use Rattle.ab_num.specs.Places.{kind_of}
+use Rattle.ab_num.specs.Parties.{party_eq}
 use Rattle.ab_hist.specs.declared.request.Request.{Request}
+use Rattle.ab_hist.specs.Histories.{IsHistory}
+use Rattle.ab_svc.specs.Machines.{Reply}
 use Rattle.ab_msg.specs.declared.content.Content.{Content}
 use Rattle.ab_msg.specs.declared.content.Content.TheVariants as content
+use Rattle.ab_msg.specs.declared.signed.Signed.{Signed}
 use Rattle.ab_msg.specs.declared.message.Msg.{Msg}
 use Rattle.ab_msg.specs.declared.message.Msg.TheVariants as msg
-use Rattle.ab_msg.specs.Claims.{fresh, maker_of, stated, claims}
-use Rattle.ab_num.specs.Parties.{party_eq}
-use Rattle.ab_msg.specs.Grammar.{IsContent, IsDraft, IsMessage, IsReq, IsResp, spell_content}
+use Rattle.ab_msg.specs.declared.message.Offer.{Offer}
+use Rattle.ab_msg.specs.declared.message.Offer.TheVariants as offer
+use Rattle.ab_msg.specs.Claims.{fresh, maker_of, stated, claims, instance_in, tail_claims}
+use Rattle.ab_msg.specs.Fields.{IsInstance, IsRequest, IsSig, IsWritten}
+use Rattle.ab_msg.specs.Contents.{IsAbort, IsContent, spell_content}
+use Rattle.ab_msg.specs.Certs.{AreAborts, IsSigned}
+use Rattle.ab_msg.specs.Messages.{IsDraft, IsMessage, IsOffer, slot_in}
+use Rattle.ab_abs.specs.declared.ballot.Ballot.{Ballot}
 use Rattle.ab_abs.specs.Faults.{is_faulty}
-use Rattle.ab_abs.specs.Messages.{Call, took, timed, IsFormed}
+use Rattle.ab_abs.specs.Kinds.{need_of, needs_equal, rule_in}
+use Rattle.ab_abs.specs.Votes.{has_voted, is_full_by}
+use Rattle.ab_abs.specs.Messages.{Call, took, timed, IsFormed, offered_cert}
+use Rattle.ab_abs.specs.Certificates.{history_of, held_in, history_held, history_by, is_whole}
 use Rattle.ab_abs.specs.Ensembles.{Proto, entry_of}
-use Rattle.ab_abs.specs.Places.{KeepsForm, Arises, from_entry, by_call}
+use Rattle.ab_abs.specs.Promises.{ServesAll}
+use Rattle.ab_abs.specs.Places.{KeepsForm, Arises, from_entry, by_call, by_stop}
+use Rattle.ab_abs.proofs.Certified.{certificate_written}
+use Rattle.ab_abs.proofs.Drafts.{few_replicas}
 use Rattle.ab_abs.proofs.Lists.{flat_map_cases, Contains-filter_cases}
 use Rattle.ab_links.proofs.ListLemmas.{Contains-cons_cases}
-use Rattle.ab_run.specs.Setups.{Setup, replicas, within}
-use Rattle.ab_run.specs.Replicas.{Rep, Turn, turn_call, turn_sign, turn_bring, turn_abort, made_in_turn, pen_of, wanted, due, is_spent, turns}
-use Rattle.ab_run.specs.Clients.{Cli, Move, move_vote, move_commit, asking, after_move, hears, hears_response, counting, if_open, moves, vote_claim}
+use Rattle.ab_run.specs.Setups.{Setup, replicas, within, last_instance}
+use Rattle.ab_run.specs.Replicas.{Rep, Turn, turn_enter, turn_call, turn_halt, turn_sign, turn_bring, turn_abort, after_turn, made_in_turn, state_at, pen_of, client_of, cert_instance, brought, aborting, aborting_with, halting, late, here, taken, taken_in, due, due_by, due_with, is_spent, turns}
+use Rattle.ab_run.specs.Clients.{Cli, Move, move_ask, move_vote, move_commit, move_keep, move_take, move_panic, move_again, asking, after_move, made_in_move, hears, hears_response, hears_tail, counting, keeping, taking, taking_with, own_cert, keep, kind_at, panics, panics_in, if_open, moves, vote_claim, is_abort_of, is_chain, counts_responses}
 use Rattle.ab_run.specs.declared.phase.Phase.{Phase}
 use Rattle.ab_run.specs.declared.phase.Phase.TheVariants.{Idle, Waiting, Panicking}
-use Rattle.ab_abs.specs.declared.ballot.Ballot.{Ballot}
-use Rattle.ab_abs.specs.Votes.{has_voted, is_full_by}
-use Rattle.ab_abs.specs.Kinds.{rule_in}
 use Rattle.ab_run.specs.Runs.{Event, invoke, to_replica, to_client, replica_time, client_time, Run, run, step, start}
-use Rattle.ab_run.specs.Local.{after_turns, made_in_turns, rep_after, rep_makes, Cue, cue_command, cue_message, after_moves, made_in_moves, moves_at, cli_after, cli_makes}
+use Rattle.ab_run.specs.Local.{after_turns, made_in_turns, rep_after, rep_makes, Cue, cue_command, cue_message, cue_time, after_moves, made_in_moves, moves_at, cli_after, cli_makes}
 use Rattle.ab_run.specs.Premises.{checked}
 use Rattle.ab_run.specs.Inputs.{Input, told, came, rang, elsewhere, Opener, opened, event_in, events_in, all_checked, SpellsApart}
 use Rattle.ab_run.proofs.Effects.{at_call, at_cue, called, cued}
-use Rattle.ab_premise.specs.Collisions.{OpensMessages}
-use Rattle.ab_premise.specs.Spelled.{IsSpelledInput, AreSpelledInputs, IsSpelledRun}
-use Rattle.ab_premise.proofs.Looks.{IsBuilt, AllQuiet, IsCalm, still, once, due_calm}
-
--- ---- contents
-
-req_content : (s : Content) → IsReq s → IsContent s
-req_content (content.Req maker i m) is = is
-req_content _ is = absurd (is)
-
-resp_content : (s : Content) → IsResp s → IsContent s
-resp_content (content.Resp maker i c stamp n d reply) is = is
-resp_content _ is = absurd (is)
+use Rattle.ab_premise.specs.Spelled.{IsSpelledInput, AreSpelledInputs, OpensSpelled, IsSpelledRun, AreSpelledContents}
 
 one_of : (s c : Content) → IsContent s → Contains (s ∷ []) c → IsContent c
 one_of s c is has = elim (Contains-cons_cases s [] c has) [
@@ -56,227 +59,377 @@ one_of s c is has = elim (Contains-cons_cases s [] c has) [
   | inr gone ↦ absurd (omega (arith, gone.1))
 ]
 
-fresh_content : (f r : ℕ) (m : Msg) → IsDraft m → (c : Content) → Contains (fresh f (Replica r) m) c → IsContent c
-fresh_content f r (msg.Req s tags) is c has = one_of s c (req_content s is) has
-fresh_content f r (msg.Resp s tag) is c has = one_of s c (resp_content s is) has
-fresh_content f r _ is c has = absurd (is)
+-- ---- certificates
 
-pub claims_content : (f : ℕ) (p : _) (m : Msg) → IsMessage m → (c : Content) → Contains (claims f p m) c → IsContent c
-claims_content f p (msg.Req s tags) is c has = one_of s c (req_content s is.0) has
-claims_content f p (msg.Resp s tag) is c has = one_of s c (resp_content s is.0) has
-claims_content f p _ is c has = absurd (is)
+some_need : (kd : Kind) (f : ℕ) → 1 ≤ need_of kd f
+some_need kind.Quorum f = omega arith
+some_need kind.ZLight f = omega arith
+some_need kind.Chain f = omega arith
+some_need kind.Backup f = omega arith
 
-built_formed : (call : Call) → IsBuilt call → IsFormed call
-built_formed (took (msg.Req s tags)) is = is
-built_formed (took (msg.Resp s tag)) is = is
-built_formed (took _) is = absurd (is)
-built_formed timed is = tt
+none_held : (kd : Kind) (f n : ℕ) (h : List Request) → need_of kd f ≡ n → 1 ≤ n → history_held kd f (Some []) ≡ Some h → ⊥
+none_held kd f 0 h need some is = omega (arith, some)
+none_held kd f (suc n) h need some is =
+    let empty : history_held kd f (Some []) ≡ None = ap (λ z. if is_whole z [] then history_by (needs_equal kd) f [] else None) need in
+    let both : None ≡ Some h = sym empty ∙ is in
+    cc (both)
 
--- ---- replicas
+-- an empty one has no history
+some_aborts : (c : Cluster) (j : ℕ) (cert : List Signed) (h : List Request) → history_of c j cert ≡ Some h → 1 ≤ length cert
+some_aborts c j [] h is = absurd (none_held (kind_of c.plan j) c.f (need_of (kind_of c.plan j) c.f) h refl (some_need (kind_of c.plan j) c.f) is)
+some_aborts c j (s ∷ cert) h is = omega arith
 
-module _ {P : Type 0} (k : Setup) (proto : Proto P) {serves : Kind → Bool} (form : KeepsForm proto serves) (unsigned : k.signatures ≡ 0) where
+brought_aborts : (m : Msg) (cert : List Signed) → IsMessage m → brought m ≡ Some cert → AreAborts 0 7 cert
+brought_aborts (msg.Init aborts) cert of_grammar is =
+    let same : aborts ≡ cert = cc (is) in
+    subst (AreAborts 0 7) same ((omega arith, of_grammar.0.1), of_grammar.1)
+brought_aborts (msg.PrePrepare content tag (offer.Base aborts)) cert of_grammar is = let same : aborts ≡ cert = cc (is) in subst (AreAborts 0 7) same of_grammar.1.1
+brought_aborts (msg.PrePrepare content tag (offer.Request m t)) cert of_grammar is = absurd (cc (is))
+brought_aborts _ cert of_grammar is = absurd (cc (is))
+
+-- ---- the turns of replicas
+
+-- a turn whose parts have bytes
+abbrev IsGood : Turn → Type 0
+IsGood (turn_enter j cert h) = (j < last_instance) × (AreAborts 1 7 cert × IsWritten h)
+IsGood (turn_call call) = IsFormed call
+IsGood turn_halt = Unit {0}
+IsGood turn_sign = Unit {0}
+IsGood (turn_bring c) = Unit {0}
+IsGood (turn_abort c) = Unit {0}
+
+abbrev AllGood : List Turn → Type 0
+AllGood [] = Unit {0}
+AllGood (t ∷ ts) = IsGood t × AllGood ts
+
+good_if : (b : Bool) (ts us : List Turn) → AllGood ts → AllGood us → AllGood (if b then ts else us)
+good_if true ts us one other = one
+good_if false ts us one other = other
+
+aborting_good : (c : ℕ) (o : Option Signed) → AllGood (aborting_with c o)
+aborting_good c None = (tt, (tt, tt))
+aborting_good c (Some abort) = (tt, tt)
+
+module _ {P : Type 0} (k : Setup) (proto : Proto P) where
+  halting_good : (c : ℕ) (s : Rep P) → AllGood (halting k proto c s)
+  halting_good c s =
+      let due = aborting k proto c s in
+      let after = (proto.state (proto.halt s.value)).stopped in
+      good_if (state_at k proto s).stopped due (turn_halt ∷ (if after then due else [])) (aborting_good c s.abort) (tt, good_if after due [] (aborting_good c s.abort) tt)
+
+  here_good : (s : Rep P) (m : Msg) → IsMessage m → AllGood (here k proto s m)
+  here_good s (msg.Req content tags) is =
+      let c = client_of (maker_of content) in
+      good_if (state_at k proto s).stopped (aborting k proto c s) (turn_call (took (msg.Req content tags)) ∷ []) (aborting_good c s.abort) (is, tt)
+  here_good s (msg.Panic content tag) is = halting_good (client_of (maker_of content)) s
+  here_good s _ is = (is, tt)
+
+  late_good : (m : Msg) → AllGood (late m)
+  late_good (msg.Req content tags) = (tt, tt)
+  late_good (msg.Panic content tag) = (tt, tt)
+  late_good _ = tt
+
+  taken_good : (s : Rep P) (m : Msg) (i : Option ℕ) → IsMessage m → AllGood (taken_in k proto s m i)
+  taken_good s m None is = tt
+  taken_good s m (Some i) is = good_if (i == s.at) (here k proto s m) (if nat_lt i s.at then late m else []) (here_good s m is) (good_if (nat_lt i s.at) (late m) [] (late_good m) tt)
+
+  entering_good : (r : ℕ) (s : Rep P) (m : Msg) (j : ℕ) (cert : List Signed) (o : Option (List Request)) → IsMessage m → AreAborts 0 7 cert → history_of k.cluster j cert ≡ o → AllGood (due_with k proto r s m j cert o)
+  entering_good r s m j cert None is aborts valid = taken_good s m (instance_in m) is
+  entering_good r s m j cert (Some h) is aborts valid =
+      let there = after_turn k proto r s (turn_enter j cert h) in
+      let may = nat_le s.at j && nat_lt j last_instance in
+      let some : AreAborts 1 7 cert = ((some_aborts k.cluster j cert h valid, aborts.0.1), aborts.1) in
+      elim (cases_Bool may) [
+        | inl yes ↦
+            subst AllGood (sym (ap (λ (b : Bool). if b then turn_enter j cert h ∷ taken k proto there m else taken k proto s m) yes))
+            ((ltb-true j last_instance (and_parts (nat_le s.at j) (nat_lt j last_instance) yes).1, (some, certificate_written k.cluster j 1 7 cert h some valid)), taken_good there m (instance_in m) is)
+        | inr no ↦ subst AllGood (sym (ap (λ (b : Bool). if b then turn_enter j cert h ∷ taken k proto there m else taken k proto s m) no)) (taken_good s m (instance_in m) is)
+      ]
+
+  by_good : (r : ℕ) (s : Rep P) (m : Msg) (o : Option (List Signed)) → IsMessage m → brought m ≡ o → AllGood (due_by k proto r s m o)
+  by_good r s m None is brings = taken_good s m (instance_in m) is
+  by_good r s m (Some cert) is brings = entering_good r s m (cert_instance cert) cert (history_of k.cluster (cert_instance cert) cert) is (brought_aborts m cert is brings) refl
+
+  due_good : (r : ℕ) (s : Rep P) (call : Call) → IsFormed call → AllGood (due k proto r s call)
+  due_good r s (took m) is = by_good r s m (brought m) is refl
+  due_good r s timed is = (tt, tt)
+
+-- what each signature and each draft has
+module _ {P : Type 0} (k : Setup) (proto : Proto P) {serves : Kind → Bool} (form : KeepsForm proto serves) (serves_all : ServesAll serves k.cluster)
+    (signs : (r : ℕ) (s : Content) (n : ℕ) → IsSig (k.sig r s n)) (contents : AreSpelledContents k.cluster.f) where
   abbrev AriseAt : ℕ → Rep P → Type 0
   AriseAt r s = Arises proto serves k.cluster s.at r s.value
 
-  record Makes (r : ℕ) (s : Rep P) (made : List Content) (now : Rep P) : Type 0 where
+  placed : (i r : ℕ) (p : P) → Arises proto serves k.cluster i r p → IsInstance i
+  placed i r p (from_entry e served one lt entry) = one
+  placed i r p (by_call pen q call lawful formed was) = placed i r q was
+  placed i r p (by_stop q was) = placed i r q was
+
+  record Makes (r : ℕ) (made : List Content) (now : Rep P) : Type 0 where
     each : (c : Content) → Contains made c → IsContent c
     arises : AriseAt r now
 
-  quiet_makes : (r : ℕ) (ts : List Turn) (s : Rep P) → AllQuiet ts → wanted k proto r s ts ≡ 0 → AriseAt r s → Makes r s (made_in_turns k proto r s ts) (after_turns k proto r s ts)
-  quiet_makes r [] s all none arises = record { each = λ c gone. absurd (omega (arith, gone.1)); arises = arises }
-  quiet_makes r (turn_sign ∷ ts) s all none arises = absurd (omega (arith, none))
-  quiet_makes r (turn_bring d ∷ ts) s all none arises =
-      let rest = quiet_makes r ts s all.1 (omega (arith, none)) arises in
-      record { each = λ c has. elim (Contains-append_cases (made_in_turns k proto r s ts) [] c has) [ inl one ↦ rest.each c one | inr gone ↦ absurd (omega (arith, gone.1)) ]; arises = rest.arises }
-  quiet_makes r (turn_abort d ∷ ts) s all none arises =
-      let rest = quiet_makes r ts s all.1 (omega (arith, none)) arises in
-      record { each = λ c has. elim (Contains-append_cases (made_in_turns k proto r s ts) [] c has) [ inl one ↦ rest.each c one | inr gone ↦ absurd (omega (arith, gone.1)) ]; arises = rest.arises }
-  quiet_makes r (_ ∷ ts) s all none arises = absurd (elim all.0 [ ])
+  nothing : (c : Content) → Contains [] c → IsContent c
+  nothing c gone = absurd (omega (arith, gone.1))
 
-  call_content : (r : ℕ) (s : Rep P) (call : Call) → IsBuilt call → AriseAt r s → (c : Content) → Contains (made_in_turn k proto r s (turn_call call)) c → IsContent c
-  call_content r s call built arises c has =
+  both : (xs ys : List Content) → ((c : Content) → Contains xs c → IsContent c) → ((c : Content) → Contains ys c → IsContent c) → (c : Content) → Contains (xs ++ ys) c → IsContent c
+  both xs ys one other c has = elim (Contains-append_cases xs ys c has) [ inl here ↦ one c here | inr there ↦ other c there ]
+
+  call_content : (r : ℕ) (s : Rep P) (call : Call) → r < replicas k → IsFormed call → AriseAt r s → (c : Content) → Contains (made_in_turn k proto r s (turn_call call)) c → IsContent c
+  call_content r s call lt formed arises c has =
       let sends = proto.sends (pen_of k proto r s) s.value call in
-      let (o, there, stated_in) = flat_map_cases (λ o. stated k.cluster.f (Replica r) o.msg) sends c has in
-      let fresh_in = Contains-filter_cases (λ q. party_eq (maker_of q) (Replica r)) (fresh k.cluster.f (Replica r) o.msg) c stated_in in
-      fresh_content k.cluster.f r o.msg (form.drafts k.cluster s.at r (pen_of k proto r s) s.value call arises (built_formed call built) o there) c fresh_in.0
+      let found = flat_map_cases (λ o. stated k.cluster.f (Replica r) o.msg) sends c has in
+      let o = found.0 in
+      let fresh_in = Contains-filter_cases (λ q. party_eq (maker_of q) (Replica r)) (fresh k.cluster.f (Replica r) o.msg) c found.2 in
+      let draft = form.drafts k.cluster s.at r (pen_of k proto r s) s.value call (signs r) arises formed o found.1 in
+      All-contains IsContent (fresh k.cluster.f (Replica r) o.msg) c (contents.stated r o.msg (few_replicas k.cluster r lt) draft) fresh_in.0
 
-  calm_makes : (r : ℕ) (ts : List Turn) (s : Rep P) → IsCalm ts → wanted k proto r s ts ≡ 0 → AriseAt r s
-      → Makes r s (made_in_turns k proto r s ts) (after_turns k proto r s ts)
-  calm_makes r ts s (still _ all) none arises = quiet_makes r ts s all none arises
-  calm_makes r ts s (once call built) none arises = record {
-    each = λ c has. call_content r s call built arises c has;
-    arises = by_call (pen_of k proto r s) s.value call (built_formed call built) arises;
+  turn_makes : (r : ℕ) (t : Turn) (s : Rep P) → r < replicas k → IsGood t → AriseAt r s → Makes r (made_in_turn k proto r s t) (after_turn k proto r s t)
+  turn_makes r (turn_enter j cert h) s lt good arises = record {
+    each = nothing;
+    arises =
+        from_entry (entry_of h (Some cert)) (serves_all (j + 1) (omega arith)) (omega arith, omega (arith, good.0)) lt
+        (record { base = good.1.1; cert = λ other is. let same : cert ≡ other = cc (is) in subst (AreAborts 1 7) same good.1.0 });
   }
+  turn_makes r (turn_call call) s lt good arises = record {
+    each = call_content r s call lt good arises;
+    arises = by_call (pen_of k proto r s) s.value call (signs r) good arises;
+  }
+  turn_makes r turn_halt s lt good arises = record { each = nothing; arises = by_stop s.value arises }
+  turn_makes r turn_sign s lt good arises = record {
+    each = λ c has.
+        one_of (content.Abort (Replica r) s.at (state_at k proto s).log) c
+        ((omega arith, few_replicas k.cluster r lt), (placed s.at r s.value arises, form.written k.cluster s.at r s.value arises)) has;
+    arises = arises;
+  }
+  turn_makes r (turn_bring c) s lt good arises = record { each = nothing; arises = arises }
+  turn_makes r (turn_abort c) s lt good arises = record { each = nothing; arises = arises }
 
-  call_makes : (r : ℕ) (s : Rep P) (call : Call) → IsBuilt call → AriseAt r s → Makes r s (rep_makes k proto r s call) (rep_after k proto r s call)
-  call_makes r s call built arises = elim (cases_Bool (is_spent k proto r s call)) [
-    | inl spent ↦
-        let none : turns k proto r s call ≡ [] = ap (λ (b : Bool). if b then [] else due k proto r s call) spent in
-        subst (λ ts. Makes r s (made_in_turns k proto r s ts) (after_turns k proto r s ts)) (sym none) (record { each = λ c gone. absurd (omega (arith, gone.1)); arises = arises })
-    | inr lasts ↦
-        let all : turns k proto r s call ≡ due k proto r s call = ap (λ (b : Bool). if b then [] else due k proto r s call) lasts in
-        let none : wanted k proto r s (due k proto r s call) ≡ 0 = omega (arith, ltb-false k.signatures (s.used + wanted k proto r s (due k proto r s call)) lasts, unsigned) in
-        subst (λ ts. Makes r s (made_in_turns k proto r s ts) (after_turns k proto r s ts)) (sym all) (calm_makes r (due k proto r s call) s (due_calm k proto r s call built) none arises)
-  ]
+  turns_make : (r : ℕ) (ts : List Turn) (s : Rep P) → r < replicas k → AllGood ts → AriseAt r s → Makes r (made_in_turns k proto r s ts) (after_turns k proto r s ts)
+  turns_make r [] s lt good arises = record { each = nothing; arises = arises }
+  turns_make r (t ∷ ts) s lt good arises =
+      let one = turn_makes r t s lt good.0 arises in
+      let rest = turns_make r ts (after_turn k proto r s t) lt good.1 one.arises in
+      record { each = both (made_in_turns k proto r (after_turn k proto r s t) ts) (made_in_turn k proto r s t) rest.each one.each; arises = rest.arises }
 
-  -- ---- clients
+  call_makes : (r : ℕ) (s : Rep P) (call : Call) → r < replicas k → IsFormed call → AriseAt r s → Makes r (rep_makes k proto r s call) (rep_after k proto r s call)
+  call_makes r s call lt formed arises =
+      turns_make r (turns k proto r s call) s lt (good_if (is_spent k proto r s call) [] (due k proto r s call) tt (due_good k proto r s call formed)) arises
 
-  -- moves that make nothing and leave the client in its instance, with its stamp
-  data IsPlain : Move → Type 0 where
-    votes : (b : Ballot) → IsPlain (move_vote b)
-    commits : (m : Request) (n : ℕ) (d : List ℕ) (reply : ArrayVec ℕ) (cs : List Content) → IsPlain (move_commit m n d reply cs)
+-- ---- the moves of clients
 
-  abbrev AllPlain : List Move → Type 0
-  AllPlain [] = Unit {0}
-  AllPlain (t ∷ ts) = IsPlain t × AllPlain ts
+-- a client's own request, which has bytes
+abbrev IsOwned : ℕ → Request → Type 0
+IsOwned c m = IsRequest 0 15 m × (m.client ≡ c)
 
-  record Idles (c : ℕ) (s : Cli) (ts : List Move) : Type 0 where
-    none : made_in_moves c s ts ≡ []
-    at : (after_moves s ts).at ≡ s.at
-    stamp : (after_moves s ts).stamp ≡ s.stamp
+-- a move whose parts have bytes, of a client after at most n events
+abbrev IsFine : ℕ → ℕ → Move → Type 0
+IsFine c n (move_ask m) = IsOwned c m × (m.stamp ≤ n)
+IsFine c n (move_vote b) = Unit {0}
+IsFine c n (move_commit m d e reply claims) = Unit {0}
+IsFine c n (move_keep v) = Unit {0}
+IsFine c n (move_take j cert h m) = (j < last_instance) × IsOwned c m
+IsFine c n move_panic = Unit {0}
+IsFine c n (move_again m) = Unit {0}
 
-  plain_idles : (c : ℕ) (ts : List Move) (s : Cli) → AllPlain ts → Idles c s ts
-  plain_idles c [] s all = record { none = refl; at = refl; stamp = refl }
-  plain_idles c (move_vote b ∷ ts) s all = let rest = plain_idles c ts (after_move s (move_vote b)) all.1 in record { none = ap (λ l. l ++ []) rest.none; at = rest.at; stamp = rest.stamp }
-  plain_idles c (move_commit m n d reply cs ∷ ts) s all = let rest = plain_idles c ts (after_move s (move_commit m n d reply cs)) all.1 in record { none = ap (λ l. l ++ []) rest.none; at = rest.at; stamp = rest.stamp }
-  plain_idles c (_ ∷ ts) s all = absurd (elim all.0 [ ])
+abbrev AllFine : ℕ → ℕ → List Move → Type 0
+AllFine c n [] = Unit {0}
+AllFine c n (t ∷ ts) = IsFine c n t × AllFine c n ts
 
-  plain_if : (b : Bool) (ts us : List Move) → AllPlain ts → AllPlain us → AllPlain (if b then ts else us)
-  plain_if true ts us one other = one
-  plain_if false ts us one other = other
+-- where a client is after at most n events
+record Sits (c n : ℕ) (s : Cli) : Type 0 where
+  at : IsInstance s.at
+  stamp : s.stamp ≤ n
+  last : (m : Request) → s.last ≡ Some m → IsOwned c m
 
-  counting_plain : (c : ℕ) (s : Cli) (m : Request) (b : Ballot) → AllPlain (counting k c s m b)
-  counting_plain c s m b =
+record Does (c n : ℕ) (made : List Content) (now : Cli) : Type 0 where
+  each : (t : Content) → Contains made t → IsContent t
+  sits : Sits c n now
+
+no_content : (c : Content) → Contains [] c → IsContent c
+no_content c gone = absurd (omega (arith, gone.1))
+
+move_does : (c n : ℕ) (t : Move) (s : Cli) → c ≤ 15 → IsFine c n t → Sits c n s → Does c n (made_in_move c s t) (after_move s t)
+move_does c n (move_ask m) s le fine sits = record {
+  each = λ q has. one_of (content.Req (Client c) s.at m) q (sym (ap Client fine.0.1), (sits.at, fine.0.0)) has;
+  sits = record { at = sits.at; stamp = fine.1; last = λ q is. let same : m ≡ q = cc (is) in subst (IsOwned c) same fine.0 };
+}
+move_does c n (move_vote b) s le fine sits = record { each = no_content; sits = record { at = sits.at; stamp = sits.stamp; last = sits.last } }
+move_does c n (move_commit m d e reply claims) s le fine sits = record { each = no_content; sits = record { at = sits.at; stamp = sits.stamp; last = sits.last } }
+move_does c n (move_keep v) s le fine sits = record { each = no_content; sits = record { at = sits.at; stamp = sits.stamp; last = sits.last } }
+move_does c n (move_take j cert h m) s le fine sits = record {
+  each = λ q has. one_of (content.Req (Client c) (j + 1) m) q (sym (ap Client fine.1.1), ((omega arith, omega (arith, fine.0)), fine.1.0)) has;
+  sits = record { at = (omega arith, omega (arith, fine.0)); stamp = sits.stamp; last = sits.last };
+}
+move_does c n move_panic s le fine sits = record {
+  each = λ q has. one_of (content.Panic (Client c) s.at) q ((omega arith, le), sits.at) has;
+  sits = record { at = sits.at; stamp = sits.stamp; last = sits.last };
+}
+move_does c n (move_again m) s le fine sits = record { each = no_content; sits = record { at = sits.at; stamp = sits.stamp; last = sits.last } }
+
+moves_do : (c n : ℕ) (ts : List Move) (s : Cli) → c ≤ 15 → AllFine c n ts → Sits c n s → Does c n (made_in_moves c s ts) (after_moves s ts)
+moves_do c n [] s le fine sits = record { each = no_content; sits = sits }
+moves_do c n (t ∷ ts) s le fine sits =
+    let one = move_does c n t s le fine.0 sits in
+    let rest = moves_do c n ts (after_move s t) le fine.1 one.sits in
+    record {
+      each = λ q has. elim (Contains-append_cases (made_in_moves c (after_move s t) ts) (made_in_move c s t) q has) [ inl later ↦ rest.each q later | inr now ↦ one.each q now ];
+      sits = rest.sits;
+    }
+
+fine_if : (c n : ℕ) (b : Bool) (ts us : List Move) → AllFine c n ts → AllFine c n us → AllFine c n (if b then ts else us)
+fine_if c n true ts us one other = one
+fine_if c n false ts us one other = other
+
+tail_fine : (c n : ℕ) (m : Request) (x : ℕ) (d : List ℕ) (reply : Option Reply) (claims : List Content) → AllFine c n (hears_tail m x d reply claims)
+tail_fine c n m x d None claims = tt
+tail_fine c n m x d (Some reply) claims = (tt, tt)
+
+panics_fine : (c n : ℕ) (kd : Kind) (waits : Bool) (m : Request) → AllFine c n (panics_in kd waits m)
+panics_fine c n kind.Quorum waits m = (tt, tt)
+panics_fine c n kind.ZLight waits m = (tt, tt)
+panics_fine c n kind.Chain waits m = (tt, tt)
+panics_fine c n kind.Backup waits m = fine_if c n waits (move_again m ∷ []) [] (tt, tt) tt
+
+open_fine : (c n : ℕ) (phase : Phase) (last : Option Request) (ms : Bool → Request → List Move) → ((waits : Bool) (q : Request) → last ≡ Some q → AllFine c n (ms waits q)) → AllFine c n (if_open phase last ms)
+open_fine c n Idle last ms all = tt
+open_fine c n Waiting None ms all = tt
+open_fine c n Waiting (Some q) ms all = all true q refl
+open_fine c n Panicking None ms all = tt
+open_fine c n Panicking (Some q) ms all = all false q refl
+
+module _ (k : Setup) (c n : ℕ) where
+  counting_fine : (s : Cli) (m : Request) (b : Ballot) → AllFine c n (counting k c s m b)
+  counting_fine s m b =
       let last : List Move = move_commit m b.n b.d b.reply (map (vote_claim s.at c m.stamp) (b ∷ s.votes)) ∷ [] in
       let full : Bool = is_full_by (rule_in (within k s.at)) (replicas k) (b ∷ s.votes) b in
-      let ends : AllPlain (if full then last else []) = plain_if full last [] (commits m b.n b.d b.reply (map (vote_claim s.at c m.stamp) (b ∷ s.votes)), tt) tt in
       let voting : List Move = move_vote b ∷ (if full then last else []) in
-      let votes_all : AllPlain voting = (votes b, ends) in
-      plain_if (nat_lt b.by (replicas k)) (if has_voted s.votes b.by then [] else voting) []
-      (plain_if (has_voted s.votes b.by) [] voting tt votes_all) tt
+      let all : AllFine c n voting = (tt, fine_if c n full last [] (tt, tt) tt) in
+      fine_if c n (nat_lt b.by (replicas k)) (if has_voted s.votes b.by then [] else voting) [] (fine_if c n (has_voted s.votes b.by) [] voting tt all) tt
 
-  response_plain : (c : ℕ) (s : Cli) (waits : Bool) (m : Request) (q : Content) → AllPlain (hears_response k c s waits m q)
-  response_plain c s waits m (content.Resp (Replica r) i d stamp n digest reply) =
-      plain_if _ _ [] (counting_plain c s m (record { by = r; n = n; d = digest; reply = reply })) tt
-  response_plain c s waits m _ = tt
+  response_fine : (s : Cli) (waits : Bool) (m : Request) (q : Content) → AllFine c n (hears_response k c s waits m q)
+  response_fine s waits m (content.Resp (Replica r) i d stamp x digest reply) = fine_if c n _ _ [] (counting_fine s m (record { by = r; n = x; d = digest; reply = reply })) tt
+  response_fine s waits m _ = tt
 
-  hears_plain : (c : ℕ) (s : Cli) (waits : Bool) (q : Request) (m : Msg) → IsMessage m → AllPlain (hears k c s waits q m)
-  hears_plain c s waits q (msg.Req t tags) is = tt
-  hears_plain c s waits q (msg.Resp t tag) is = response_plain c s waits q t
-  hears_plain c s waits q _ is = absurd (is)
+  taking_fine : (s : Cli) (m : Request) (j : ℕ) (cert : List Signed) (o : Option (List Request)) → IsOwned c m → AllFine c n (taking_with k s m j cert o)
+  taking_fine s m j cert None owned = tt
+  taking_fine s m j cert (Some h) owned =
+      let may = nat_le s.at j && nat_lt j last_instance in
+      elim (cases_Bool may) [
+        | inl yes ↦
+            subst (AllFine c n) (sym (ap (λ (b : Bool). if b then move_take j cert h m ∷ [] else []) yes))
+            ((ltb-true j last_instance (and_parts (nat_le s.at j) (nat_lt j last_instance) yes).1, owned), tt)
+        | inr no ↦ subst (AllFine c n) (sym (ap (λ (b : Bool). if b then move_take j cert h m ∷ [] else []) no)) tt
+      ]
 
-  open_plain : (phase : Phase) (last : Option Request) (ms : Bool → Request → List Move) → ((waits : Bool) (q : Request) → AllPlain (ms waits q)) → AllPlain (if_open phase last ms)
-  open_plain Idle last ms all = tt
-  open_plain Waiting None ms all = tt
-  open_plain Waiting (Some q) ms all = all true q
-  open_plain Panicking None ms all = tt
-  open_plain Panicking (Some q) ms all = all false q
+  keeping_fine : (s : Cli) (m : Request) (v : Signed) → IsOwned c m → AllFine c n (keeping k s m v)
+  keeping_fine s m v owned =
+      let cert = own_cert (kind_at k s) v s.kept in
+      fine_if c n (list_any (λ w. w.maker == v.maker) s.kept) [] (move_keep v ∷ taking k s m s.at cert) tt (tt, taking_fine s m s.at cert (history_of k.cluster s.at cert) owned)
 
-  message_idles : (c : ℕ) (s : Cli) (m : Msg) → IsMessage m → Idles c s (moves_at k c s (cue_message m))
-  message_idles c s m is = plain_idles c (moves k c s m) s (open_plain s.phase s.last (λ waits q. hears k c s waits q m) (λ waits q. hears_plain c s waits q m is))
+  hears_fine : (s : Cli) (waits : Bool) (q : Request) (m : Msg) → IsOwned c q → AllFine c n (hears k c s waits q m)
+  hears_fine s waits q (msg.Resp t tag) owned = response_fine s waits q t
+  hears_fine s waits q (msg.Chain i r x d reply tags) owned =
+      fine_if c n ((waits && is_chain (kind_at k s)) && ((i == s.at) && ((r.client == c) && (r.stamp == s.stamp)))) (hears_tail q x d reply (tail_claims k.cluster.f i r x d reply)) []
+      (tail_fine c n q x d reply (tail_claims k.cluster.f i r x d reply)) tt
+  hears_fine s waits q (msg.Abort abort) owned = fine_if c n (is_abort_of s.at abort.content) (keeping k s q abort) [] (keeping_fine s q abort owned) tt
+  hears_fine s waits q (msg.Init cert) owned = taking_fine s q (cert_instance cert) cert (history_of k.cluster (cert_instance cert) cert) owned
+  hears_fine s waits q _ owned = tt
 
-  -- where a client is after n events
-  record Sits (n : ℕ) (s : Cli) : Type 0 where
-    at : s.at ≡ 1
-    stamp : s.stamp ≤ n
+  message_fine : (s : Cli) (m : Msg) → Sits c n s → AllFine c n (moves k c s m)
+  message_fine s m sits = open_fine c n s.phase s.last (λ waits q. hears k c s waits q m) (λ waits q is. hears_fine s waits q m (sits.last q is))
 
-  record Asks (c n : ℕ) (s : Cli) (made : List Content) (now : Cli) : Type 0 where
-    each : (t : Content) → Contains made t → IsContent t
-    sits : Sits (n + 1) now
+  time_fine : (s : Cli) → AllFine c n (panics k s)
+  time_fine s = open_fine c n s.phase s.last (λ waits m. panics_in (kind_at k s) waits m) (λ waits q is. panics_fine c n (kind_at k s) waits q)
 
-  asking_asks : (c n : ℕ) (s : Cli) (phase : Phase) (command : ArrayVec ℕ) → c < k.cluster.clients → n + 1 < 2 ^ 64 → (1 ≤ length command.items) × (length command.items ≤ 128) → Sits n s
-      → Asks c n s (made_in_moves c s (asking c s phase command)) (after_moves s (asking c s phase command))
-  asking_asks c n s Idle command lt few is sits = record {
-    each = λ t has. one_of (content.Req (Client c) s.at (record { client = c; stamp = s.stamp + 1; command = command })) t
-        (refl, ((omega (arith, sits.at), omega (arith, sits.at)), ((omega arith, omega (arith, lt, k.cluster.in_bounds.few_clients)), ((omega arith, omega (arith, few, sits.stamp)), is)))) has;
-    sits = record { at = sits.at; stamp = omega (arith, sits.stamp) };
-  }
-  asking_asks c n s Waiting command lt few is sits = record { each = λ t gone. absurd (omega (arith, gone.1)); sits = record { at = sits.at; stamp = omega (arith, sits.stamp) } }
-  asking_asks c n s Panicking command lt few is sits = record { each = λ t gone. absurd (omega (arith, gone.1)); sits = record { at = sits.at; stamp = omega (arith, sits.stamp) } }
+asking_fine : (c n : ℕ) (s : Cli) (phase : Phase) (command : ArrayVec ℕ) → c ≤ 15 → n + 1 < 2 ^ 64 → (1 ≤ length command.items) × (length command.items ≤ 128) → s.stamp ≤ n → AllFine c (n + 1) (asking c s phase command)
+asking_fine c n s Idle command le few is stamp = (((((omega arith, le), ((omega arith, omega (arith, few, stamp)), is)), refl), omega (arith, stamp)), tt)
+asking_fine c n s Waiting command le few is stamp = tt
+asking_fine c n s Panicking command le few is stamp = tt
 
-  -- ---- events
+later : (c n : ℕ) (s : Cli) → Sits c n s → Sits c (n + 1) s
+later c n s sits = record { at = sits.at; stamp = omega (arith, sits.stamp); last = sits.last }
 
-  -- what was made has bytes, each replica arises, and each client is in instance 1, after n events
+-- ---- events
+
+more_made : (bad : Bool) (more was now : List Content) → now ≡ (if bad then was else more ++ was) → ((c : Content) → Contains was c → IsContent c) → ((c : Content) → Contains more c → IsContent c) → (c : Content) → Contains now c → IsContent c
+more_made true more was now is old new c has = old c (subst (λ l. Contains l c) is has)
+more_made false more was now is old new c has = elim (Contains-append_cases more was c (subst (λ l. Contains l c) is has)) [
+  | inl one ↦ new c one
+  | inr other ↦ old c other
+]
+
+module _ {P : Type 0} (k : Setup) (proto : Proto P) {serves : Kind → Bool} (form : KeepsForm proto serves) (serves_all : ServesAll serves k.cluster)
+    (signs : (r : ℕ) (s : Content) (n : ℕ) → IsSig (k.sig r s n)) (contents : AreSpelledContents k.cluster.f) where
+  abbrev Stands : ℕ → Rep P → Type 0
+  Stands r s = AriseAt k proto form serves_all signs contents r s
+
+  -- what was made has bytes, each replica arises, and each client is where it is after n events
   record IsSpelled (n : ℕ) (w : Run P) : Type 0 where
     made : (c : Content) → Contains w.made c → IsContent c
-    reps : (r : ℕ) → r < replicas k → AriseAt r (w.reps r)
-    clis : (c : ℕ) → Sits n (w.clis c)
-
-  later : (n : ℕ) (s : Cli) → Sits n s → Sits (n + 1) s
-  later n s sits = record { at = sits.at; stamp = omega (arith, sits.stamp) }
+    reps : (r : ℕ) → r < replicas k → Stands r (w.reps r)
+    clis : (c : ℕ) → Sits c n (w.clis c)
 
   still_spelled : (n : ℕ) (w : Run P) → IsSpelled n w → IsSpelled (n + 1) w
-  still_spelled n w is = record { made = is.made; reps = is.reps; clis = λ c. later n (w.clis c) (is.clis c) }
+  still_spelled n w is = record { made = is.made; reps = is.reps; clis = λ c. later c n (w.clis c) (is.clis c) }
 
-  more_made : (bad : Bool) (more was now : List Content) → now ≡ (if bad then was else more ++ was) → ((c : Content) → Contains was c → IsContent c) → ((c : Content) → Contains more c → IsContent c) → (c : Content) → Contains now c → IsContent c
-  more_made true more was now is old new c has = old c (subst (λ l. Contains l c) is has)
-  more_made false more was now is old new c has = elim (Contains-append_cases more was c (subst (λ l. Contains l c) is has)) [
-    | inl one ↦ new c one
-    | inr other ↦ old c other
-  ]
-
-  call_spelled : (n : ℕ) (w : Run P) (r : ℕ) (call : Call) → IsBuilt call → IsSpelled n w → IsSpelled (n + 1) (at_call k proto w r call)
-  call_spelled n w r call built is = elim (cases_Bool (nat_lt r (replicas k))) [
+  call_spelled : (n : ℕ) (w : Run P) (r : ℕ) (call : Call) → IsFormed call → IsSpelled n w → IsSpelled (n + 1) (at_call k proto w r call)
+  call_spelled n w r call formed is = elim (cases_Bool (nat_lt r (replicas k))) [
     | inl there ↦
         let lt = ltb-true r (replicas k) there in
         let c = called k proto w r call lt in
-        let makes = call_makes r (w.reps r) call built (is.reps r lt) in
+        let makes = call_makes k proto form serves_all signs contents r (w.reps r) call lt formed (is.reps r lt) in
         record {
           made = more_made (is_faulty k.faulty (Replica r)) (rep_makes k proto r (w.reps r) call) w.made (at_call k proto w r call).made c.made is.made makes.each;
           reps = λ q less. elim (cases_eq q r) [
-            | inl e ↦ subst (λ z. AriseAt z ((at_call k proto w r call).reps z)) (sym e) (subst (AriseAt r) (sym c.own) makes.arises)
-            | inr ne ↦ subst (AriseAt q) (sym (c.others q ne)) (is.reps q less)
+            | inl e ↦ subst (λ z. Stands z ((at_call k proto w r call).reps z)) (sym e) (subst (Stands r) (sym c.own) makes.arises)
+            | inr ne ↦ subst (Stands q) (sym (c.others q ne)) (is.reps q less)
           ];
-          clis = λ d. subst (Sits (n + 1)) (sym (c.clis d)) (later n (w.clis d) (is.clis d));
+          clis = λ d. subst (Sits d (n + 1)) (sym (c.clis d)) (later d n (w.clis d) (is.clis d));
         }
     | inr gone ↦ rw gone (still_spelled n w is)
   ]
 
-  cue_spelled : (n : ℕ) (w : Run P) (c : ℕ) (cue : Cue) → (c < k.cluster.clients → Asks c n (w.clis c) (cli_makes k c (w.clis c) cue) (cli_after k c (w.clis c) cue)) → IsSpelled n w → IsSpelled (n + 1) (at_cue k proto w c cue)
-  cue_spelled n w c cue asks is = elim (cases_Bool (nat_lt c k.cluster.clients)) [
+  cue_spelled : (n : ℕ) (w : Run P) (c : ℕ) (cue : Cue) → (c ≤ 15 → AllFine c (n + 1) (moves_at k c (w.clis c) cue)) → IsSpelled n w → IsSpelled (n + 1) (at_cue k proto w c cue)
+  cue_spelled n w c cue fine is = elim (cases_Bool (nat_lt c k.cluster.clients)) [
     | inl there ↦
         let lt = ltb-true c k.cluster.clients there in
+        let few : c ≤ 15 = omega (arith, lt, k.cluster.in_bounds.few_clients) in
         let d = cued k proto w c cue lt in
-        let does = asks lt in
+        let does = moves_do c (n + 1) (moves_at k c (w.clis c) cue) (w.clis c) few (fine few) (later c n (w.clis c) (is.clis c)) in
         record {
           made = more_made (is_faulty k.faulty (Client c)) (cli_makes k c (w.clis c) cue) w.made (at_cue k proto w c cue).made d.made is.made does.each;
-          reps = λ q less. subst (AriseAt q) (sym (d.reps q)) (is.reps q less);
+          reps = λ q less. subst (Stands q) (sym (d.reps q)) (is.reps q less);
           clis = λ b. elim (cases_eq b c) [
-            | inl e ↦ subst (λ z. Sits (n + 1) ((at_cue k proto w c cue).clis z)) (sym e) (subst (Sits (n + 1)) (sym d.own) does.sits)
-            | inr ne ↦ subst (Sits (n + 1)) (sym (d.others b ne)) (later n (w.clis b) (is.clis b))
+            | inl e ↦ subst (λ z. Sits z (n + 1) ((at_cue k proto w c cue).clis z)) (sym e) (subst (Sits c (n + 1)) (sym d.own) does.sits)
+            | inr ne ↦ subst (Sits b (n + 1)) (sym (d.others b ne)) (later b n (w.clis b) (is.clis b))
           ];
         }
     | inr gone ↦ rw gone (still_spelled n w is)
   ]
-
-  message_asks : (c n : ℕ) (s : Cli) (m : Msg) → IsMessage m → Sits n s → Asks c n s (cli_makes k c s (cue_message m)) (cli_after k c s (cue_message m))
-  message_asks c n s m is sits =
-      let idles = message_idles c s m is in
-      record {
-        each = λ t has. absurd (let gone : Contains [] t = subst (λ l. Contains l t) idles.none has in omega (arith, gone.1));
-        sits = record { at = idles.at ∙ sits.at; stamp = omega (arith, idles.stamp, sits.stamp) };
-      }
 
   abbrev IsSpelledEvent : Event → Type 0
   IsSpelledEvent (invoke c command) = (1 ≤ length command.items) × (length command.items ≤ 128)
   IsSpelledEvent (to_replica r m) = IsMessage m
   IsSpelledEvent (to_client c m) = IsMessage m
-  IsSpelledEvent (replica_time r) = ⊥
-  IsSpelledEvent (client_time c) = ⊥
+  IsSpelledEvent (replica_time r) = Unit {0}
+  IsSpelledEvent (client_time c) = Unit {0}
 
   event_spelled : (n : ℕ) (w : Run P) (e : Event) → n + 1 < 2 ^ 64 → IsSpelledEvent e → IsSpelled n w → IsSpelled (n + 1) (step k proto w e)
-  event_spelled n w (invoke c command) few built is = cue_spelled n w c (cue_command command) (λ lt. asking_asks c n (w.clis c) (w.clis c).phase command lt few built (is.clis c)) is
+  event_spelled n w (invoke c command) few built is = cue_spelled n w c (cue_command command) (λ le. asking_fine c n (w.clis c) (w.clis c).phase command le few built (is.clis c).stamp) is
   event_spelled n w (to_replica r m) few built is = call_spelled n w r (took m) built is
-  event_spelled n w (to_client c m) few built is = cue_spelled n w c (cue_message m) (λ lt. message_asks c n (w.clis c) m built (is.clis c)) is
-  event_spelled n w (replica_time r) few built is = absurd built
-  event_spelled n w (client_time c) few built is = absurd built
+  event_spelled n w (to_client c m) few built is = cue_spelled n w c (cue_message m) (λ le. message_fine k c (n + 1) (w.clis c) m (later c n (w.clis c) (is.clis c))) is
+  event_spelled n w (replica_time r) few built is = call_spelled n w r timed tt is
+  event_spelled n w (client_time c) few built is = cue_spelled n w c cue_time (λ le. time_fine k c (n + 1) (w.clis c)) is
 
-  module _ (opens : Opener) (messages : OpensMessages opens) (first : IsTrue (serves (kind_of k.cluster.plan 1))) where
+  module _ (opens : Opener) (spelled : OpensSpelled k opens) where
     start_spelled : IsSpelled 0 (start k proto)
     start_spelled = record {
       made = λ c gone. absurd (omega (arith, gone.1));
-      reps = λ r lt. from_entry (entry_of [] None) first (omega arith, omega arith) lt (λ i j d e less. absurd (omega (arith, less))) (omega arith);
-      clis = λ c. record { at = refl; stamp = omega arith };
+      reps = λ r lt.
+          from_entry (entry_of [] None) (serves_all 1 (omega arith)) (omega arith, omega arith) lt
+          (record { base = ((omega arith, omega arith), (All-nil (IsRequest 0 15), λ i j d e less. absurd (omega (arith, less)))); cert = λ cert is. absurd (cc (is)) });
+      clis = λ c. record { at = (omega arith, omega arith); stamp = omega arith; last = λ m is. absurd (cc (is)) };
     }
 
     opened_spelled : (n : ℕ) (w : Run P) (events : List Event) (p : Party) (o : Option Msg) → w ≡ run k proto events → n + 1 < 2 ^ 64 → ((m : Msg) → o ≡ Some m → IsMessage m) → IsSpelled n w → IsSpelled (n + 1) (run k proto (opened p o ++ events))
@@ -286,8 +439,9 @@ module _ {P : Type 0} (k : Setup) (proto : Proto P) {serves : Kind → Bool} (fo
 
     input_spelled : (g : Input) (inputs : List Input) (n : ℕ) → n + 1 < 2 ^ 64 → IsSpelledInput g → IsSpelled n (run k proto (events_in opens inputs)) → IsSpelled (n + 1) (run k proto (events_in opens (g ∷ inputs)))
     input_spelled (told c command) inputs n few is was = event_spelled n (run k proto (events_in opens inputs)) (invoke c command) few is was
-    input_spelled (came p bytes) inputs n few is was = opened_spelled n (run k proto (events_in opens inputs)) (events_in opens inputs) p (opens p bytes) refl few (messages p bytes) was
-    input_spelled (rang p) inputs n few is was = absurd is
+    input_spelled (came p bytes) inputs n few is was = opened_spelled n (run k proto (events_in opens inputs)) (events_in opens inputs) p (opens p bytes) refl few (λ m e. (spelled p bytes m e).0) was
+    input_spelled (rang (Replica r)) inputs n few is was = event_spelled n (run k proto (events_in opens inputs)) (replica_time r) few tt was
+    input_spelled (rang (Client c)) inputs n few is was = event_spelled n (run k proto (events_in opens inputs)) (client_time c) few tt was
     input_spelled elsewhere inputs n few is was = still_spelled n (run k proto (events_in opens inputs)) was
 
     all_spelled : (inputs : List Input) → AreSpelledInputs inputs → length inputs < 2 ^ 64 → IsSpelled (length inputs) (run k proto (events_in opens inputs))
@@ -299,30 +453,31 @@ module _ {P : Type 0} (k : Setup) (proto : Proto P) {serves : Kind → Bool} (fo
 
     -- ---- what is checked
 
-    party_content : (bad : Bool) (p : Party) (m : Msg) → IsMessage m → (c : Content) → Contains (if bad then [] else claims k.cluster.f p m) c → IsContent c
-    party_content true p m is c gone = absurd (omega (arith, gone.1))
-    party_content false p m is c has = claims_content k.cluster.f p m is c has
+    party_content : (bad : Bool) (p : Party) (m : Msg) → All IsContent (claims k.cluster.f p m) → (c : Content) → Contains (if bad then [] else claims k.cluster.f p m) c → IsContent c
+    party_content true p m all c gone = absurd (omega (arith, gone.1))
+    party_content false p m all c has = All-contains IsContent (claims k.cluster.f p m) c all has
 
-    opened_checked : (p : Party) (o : Option Msg) → ((m : Msg) → o ≡ Some m → IsMessage m) → (c : Content) → Contains (flat_map (checked k) (opened p o)) c → IsContent c
-    opened_checked p None built c gone = absurd (omega (arith, gone.1))
-    opened_checked (Replica r) (Some m) built c has = party_content (is_faulty k.faulty (Replica r)) (Replica r) m (built m refl) c (subst (λ l. Contains l c) (append-nil (checked k (to_replica r m))) has)
-    opened_checked (Client d) (Some m) built c has = party_content (is_faulty k.faulty (Client d)) (Client d) m (built m refl) c (subst (λ l. Contains l c) (append-nil (checked k (to_client d m))) has)
+    opened_checked : (p : Party) (o : Option Msg) → ((m : Msg) → o ≡ Some m → All IsContent (claims k.cluster.f p m)) → (c : Content) → Contains (flat_map (checked k) (opened p o)) c → IsContent c
+    opened_checked p None all c gone = absurd (omega (arith, gone.1))
+    opened_checked (Replica r) (Some m) all c has = party_content (is_faulty k.faulty (Replica r)) (Replica r) m (all m refl) c (subst (λ l. Contains l c) (append-nil (checked k (to_replica r m))) has)
+    opened_checked (Client d) (Some m) all c has = party_content (is_faulty k.faulty (Client d)) (Client d) m (all m refl) c (subst (λ l. Contains l c) (append-nil (checked k (to_client d m))) has)
 
-    input_checked : (g : Input) → IsSpelledInput g → (c : Content) → Contains (flat_map (checked k) (event_in opens g)) c → IsContent c
-    input_checked (told d command) is c gone = absurd (omega (arith, gone.1))
-    input_checked (came p bytes) is c has = opened_checked p (opens p bytes) (messages p bytes) c has
-    input_checked (rang p) is c has = absurd is
-    input_checked elsewhere is c gone = absurd (omega (arith, gone.1))
+    input_checked : (g : Input) (c : Content) → Contains (flat_map (checked k) (event_in opens g)) c → IsContent c
+    input_checked (told d command) c gone = absurd (omega (arith, gone.1))
+    input_checked (came p bytes) c has = opened_checked p (opens p bytes) (λ m e. (spelled p bytes m e).1) c has
+    input_checked (rang (Replica r)) c gone = absurd (omega (arith, gone.1))
+    input_checked (rang (Client d)) c gone = absurd (omega (arith, gone.1))
+    input_checked elsewhere c gone = absurd (omega (arith, gone.1))
 
-    each_checked : (inputs : List Input) → AreSpelledInputs inputs → (c : Content) → Contains (all_checked k (events_in opens inputs)) c → IsContent c
-    each_checked [] are c gone = absurd (omega (arith, gone.1))
-    each_checked (g ∷ inputs) are c has = elim (Contains-append_cases (flat_map (checked k) (event_in opens g)) (all_checked k (events_in opens inputs)) c (subst (λ l. Contains l c) (flat_map-append (checked k) (event_in opens g) (events_in opens inputs)) has)) [
-      | inl now ↦ input_checked g are.0 c now
-      | inr before ↦ each_checked inputs are.1 c before
+    each_checked : (inputs : List Input) (c : Content) → Contains (all_checked k (events_in opens inputs)) c → IsContent c
+    each_checked [] c gone = absurd (omega (arith, gone.1))
+    each_checked (g ∷ inputs) c has = elim (Contains-append_cases (flat_map (checked k) (event_in opens g)) (all_checked k (events_in opens inputs)) c (subst (λ l. Contains l c) (flat_map-append (checked k) (event_in opens g) (events_in opens inputs)) has)) [
+      | inl now ↦ input_checked g c now
+      | inr before ↦ each_checked inputs c before
     ]
 
-pub spells_apart : {P : Type 0} (k : Setup) (proto : Proto P) (serves : Kind → Bool) (opens : Opener) (inputs : List Input) → KeepsForm proto serves → IsSpelledRun k serves opens inputs
-    → ((x y : Content) → IsContent x → IsContent y → spell_content x ≡ spell_content y → x ≡ y) → SpellsApart k proto spell_content (events_in opens inputs)
-spells_apart k proto serves opens inputs form is own s t made checked same =
-    own s t ((all_spelled k proto form is.unsigned opens is.opens_messages is.serves_first inputs is.each is.few).made s made)
-    (each_checked k proto form is.unsigned opens is.opens_messages is.serves_first inputs is.each t checked) same
+pub spells_apart : {P : Type 0} (k : Setup) (proto : Proto P) (serves : Kind → Bool) (opens : Opener) (inputs : List Input) → KeepsForm proto serves → IsSpelledRun k serves opens inputs → AreSpelledContents k.cluster.f
+    → SpellsApart k proto spell_content (events_in opens inputs)
+spells_apart k proto serves opens inputs form is contents s t made checked same =
+    contents.apart s t ((all_spelled k proto form is.serves_all is.signs contents opens is.opens_spelled inputs is.each is.few).made s made)
+    (each_checked k proto form is.serves_all is.signs contents opens is.opens_spelled inputs t checked) same

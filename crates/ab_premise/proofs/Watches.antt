@@ -5,7 +5,6 @@ use Rattle.ab_num.specs.declared.party.Party.{Party}
 use Rattle.ab_num.specs.declared.party.Party.TheVariants.{Replica, Client}
 use Rattle.ab_num.specs.declared.plan.Kind.{Kind}
 use Rattle.ab_msg.specs.declared.message.Msg.{Msg}
-use Rattle.ab_msg.specs.Grammar.{IsMessage}
 use Rattle.ab_abs.specs.Ensembles.{Proto}
 use Rattle.ab_abs.specs.Places.{KeepsForm}
 use Rattle.ab_links.specs.Digested.{HasNoCollision, Item, history, keep_items, any_found, nothing, histories_of, requests_of, IsDigested}
@@ -14,8 +13,8 @@ use Rattle.ab_run.specs.Setups.{Setup}
 use Rattle.ab_run.specs.Runs.{Event, invoke, to_replica, to_client, replica_time, client_time, Run, run, step}
 use Rattle.ab_run.specs.Inputs.{Input, told, came, rang, elsewhere, Opener, opened, event_in, events_in}
 use Rattle.ab_premise.specs.declared.breach.Collision.{Collision}
-use Rattle.ab_premise.specs.Collisions.{taker_of, IsFree, IsCollidedAt, OpensMessages, Watch, first_watch, first_collision, looked, looked_in, items_of, watched}
-use Rattle.ab_premise.proofs.Looks.{IsBuiltEvent, Looks, HasOwn, event_seen, start_own}
+use Rattle.ab_premise.specs.Collisions.{taker_of, IsFree, IsCollidedAt, Watch, first_watch, first_collision, looked, looked_in, items_of, watched}
+use Rattle.ab_premise.proofs.Looks.{Looks, HasOwn, event_seen, start_own}
 
 mk : ℕ → Party → Collision
 mk n p = record { event = n; party = p }
@@ -27,19 +26,19 @@ not_found (Some c) n p = refl
 -- what comes is no event, or one of its taker
 data Came (opens : Opener) (g : Input) : Type 0 where
   quiet : event_in opens g ≡ [] → Came opens g
-  eventful : (e : Event) (p : Party) → event_in opens g ≡ e ∷ [] → taker_of g ≡ Some p → IsBuiltEvent e → Came opens g
+  eventful : (e : Event) (p : Party) → event_in opens g ≡ e ∷ [] → taker_of g ≡ Some p → Came opens g
 
-opened_came : (opens : Opener) (p : Party) (bytes : List ℕ) (o : Option Msg) → opens p bytes ≡ o → ((m : Msg) → o ≡ Some m → IsMessage m) → Came opens (came p bytes)
-opened_came opens p bytes None e built = quiet (ap (opened p) e)
-opened_came opens (Replica r) bytes (Some m) e built = eventful (to_replica r m) (Replica r) (ap (opened (Replica r)) e) refl (built m refl)
-opened_came opens (Client c) bytes (Some m) e built = eventful (to_client c m) (Client c) (ap (opened (Client c)) e) refl (built m refl)
+opened_came : (opens : Opener) (p : Party) (bytes : List ℕ) (o : Option Msg) → opens p bytes ≡ o → Came opens (came p bytes)
+opened_came opens p bytes None e = quiet (ap (opened p) e)
+opened_came opens (Replica r) bytes (Some m) e = eventful (to_replica r m) (Replica r) (ap (opened (Replica r)) e) refl
+opened_came opens (Client c) bytes (Some m) e = eventful (to_client c m) (Client c) (ap (opened (Client c)) e) refl
 
-came_so : (opens : Opener) → OpensMessages opens → (g : Input) → Came opens g
-came_so opens built (told c command) = eventful (invoke c command) (Client c) refl refl tt
-came_so opens built (came p bytes) = opened_came opens p bytes (opens p bytes) refl (built p bytes)
-came_so opens built (rang (Replica r)) = eventful (replica_time r) (Replica r) refl refl tt
-came_so opens built (rang (Client c)) = eventful (client_time c) (Client c) refl refl tt
-came_so opens built elsewhere = quiet refl
+came_so : (opens : Opener) (g : Input) → Came opens g
+came_so opens (told c command) = eventful (invoke c command) (Client c) refl refl
+came_so opens (came p bytes) = opened_came opens p bytes (opens p bytes) refl
+came_so opens (rang (Replica r)) = eventful (replica_time r) (Replica r) refl refl
+came_so opens (rang (Client c)) = eventful (client_time c) (Client c) refl refl
+came_so opens elsewhere = quiet refl
 
 module _ {P : Type 0} (k : Setup) (proto : Proto P) {serves : Kind → Bool} (form : KeepsForm proto serves) (opens : Opener) where
   abbrev at : List Input → Run P
@@ -223,9 +222,9 @@ module _ {P : Type 0} (k : Setup) (proto : Proto P) {serves : Kind → Bool} (fo
         tells = subst (λ z. Tells z (g ∷ inputs)) (sym same) (tells_quiet x g inputs none was.tells);
         owns = subst (λ es. HasOwn k proto form (run k proto (es ++ events_in opens inputs))) (sym none) was.owns;
       }
-  told_step g inputs (eventful e p is taker built) was =
+  told_step g inputs (eventful e p is taker) was =
       let x = watched k proto opens inputs in
-      let seen = event_seen k proto form (at inputs) e was.owns built in
+      let seen = event_seen k proto form (at inputs) e was.owns in
       let same : watched k proto opens (g ∷ inputs) ≡ looked x (length inputs + 1) p (items_of k proto (at inputs) e) =
       (λ j. looked_in k proto x (length inputs + 1) (taker j) (flat_map (items_of k proto (at inputs)) (is j)))
       ∙ ap (looked x (length inputs + 1) p) (append-nil (items_of k proto (at inputs) e)) in
@@ -234,12 +233,12 @@ module _ {P : Type 0} (k : Setup) (proto : Proto P) {serves : Kind → Bool} (fo
         owns = subst (λ es. HasOwn k proto form (run k proto (es ++ events_in opens inputs))) (sym is) seen.owns;
       }
 
-  all_told : OpensMessages opens → (inputs : List Input) → Told inputs
-  all_told built [] = record { tells = tells_first; owns = start_own k proto form }
-  all_told built (g ∷ inputs) = told_step g inputs (came_so opens built g) (all_told built inputs)
+  all_told : (inputs : List Input) → Told inputs
+  all_told [] = record { tells = tells_first; owns = start_own k proto form }
+  all_told (g ∷ inputs) = told_step g inputs (came_so opens g) (all_told inputs)
 
-  pub free_told : OpensMessages opens → (inputs : List Input) → ((watched k proto opens inputs).collided ≡ None) ↔ Free inputs
-  free_told built inputs = let all = (all_told built inputs).tells in (all.free, all.nothing_found)
+  pub free_told : (inputs : List Input) → ((watched k proto opens inputs).collided ≡ None) ↔ Free inputs
+  free_told inputs = let all = (all_told inputs).tells in (all.free, all.nothing_found)
 
-  pub earliest_told : OpensMessages opens → (inputs : List Input) (c : Collision) → ((watched k proto opens inputs).collided ≡ Some c) ↔ IsCollidedAt k proto opens inputs c.event c.party
-  earliest_told built inputs c = let all = (all_told built inputs).tells in (all.found c, all.only c)
+  pub earliest_told : (inputs : List Input) (c : Collision) → ((watched k proto opens inputs).collided ≡ Some c) ↔ IsCollidedAt k proto opens inputs c.event c.party
+  earliest_told inputs c = let all = (all_told inputs).tells in (all.found c, all.only c)

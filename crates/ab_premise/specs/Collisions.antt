@@ -4,7 +4,6 @@ use Rattle.ab_num.specs.declared.party.Party.{Party}
 use Rattle.ab_num.specs.declared.party.Party.TheVariants.{Replica, Client}
 use Rattle.ab_hist.specs.declared.request.Request.{Request}
 use Rattle.ab_msg.specs.declared.message.Msg.{Msg}
-use Rattle.ab_msg.specs.Grammar.{IsMessage}
 use Rattle.ab_abs.specs.Faults.{is_faulty}
 use Rattle.ab_abs.specs.Messages.{Call, took, timed}
 use Rattle.ab_abs.specs.Ensembles.{Proto}
@@ -43,12 +42,6 @@ module _ {P : Type 0} (k : Setup) (proto : Proto P) where
       pub before : IsFree (events_in opens earlier)
       pub after : IsFree (events_in opens (input ∷ earlier)) → ⊥
 
--- ---- what openers have to keep
-
--- what opens is a message whose bytes are known
-abbrev pub OpensMessages : Opener → Type 0
-OpensMessages opens = (p : Party) (bytes : List ℕ) (m : Msg) → opens p bytes ≡ Some m → IsMessage m
-
 -- ---- what a program looks at
 
 -- what is kept to find collisions, and the first
@@ -80,9 +73,13 @@ module _ {P : Type 0} (k : Setup) (proto : Proto P) where
   abbrev pub known_of : Rep P → Rep P → ℕ
   known_of s now = if s.at == now.at then length (state_at k proto s).log else 0
 
-  -- the log of a replica that went on from s, and the history that it accepted first
+  -- the history with which a replica entered, where it is new
+  abbrev pub entered_items : Rep P → Rep P → List Item
+  entered_items s now = if s.at == now.at then [] else history now.entry.base 0 ∷ []
+
+  -- the log of a replica that went on from s, the history with which it entered, and the one that it accepted first
   abbrev pub state_items : Rep P → Rep P → List Item
-  state_items s now = history (state_at k proto now).log (known_of s now) ∷ first_items (state_at k proto now).first
+  state_items s now = history (state_at k proto now).log (known_of s now) ∷ (entered_items s now ++ first_items (state_at k proto now).first)
 
   -- what is looked at as replica r, which is where s says, takes a call: what it checks, and where it then is. Of a faulty party nothing is
   -- looked at

@@ -6,7 +6,7 @@ ghost use Rattle.ab_num.specs.declared.plan.Kind.{Kind};
 ghost use Rattle.ab_text.specs.declared.line.Premise.{Premise as TheLine};
 ghost use Rattle.ab_msg.specs.declared.content.Content.{Content};
 ghost use Rattle.ab_msg.specs.Carried.{is_replica};
-ghost use Rattle.ab_msg.specs.Grammar.{IsContent, spell_content};
+ghost use Rattle.ab_msg.specs.Contents.{spell_content};
 ghost use Rattle.ab_abs.specs.Ensembles.{Proto};
 ghost use Rattle.ab_abs.specs.Places.{KeepsForm};
 ghost use Rattle.ab_run.specs.Setups.{Setup};
@@ -14,8 +14,8 @@ ghost use Rattle.ab_run.specs.Premises.{IsHonestRun};
 ghost use Rattle.ab_run.specs.Inputs.{Input, Opener, SpellsApart, events_in};
 ghost use Rattle.ab_run.specs.Stages.{Forgery, IsForgedAt};
 ghost use Rattle.ab_premise.specs.declared.breach.Collision.{Collision};
-ghost use Rattle.ab_premise.specs.Collisions.{IsCollidedAt, IsFree, OpensMessages, watched};
-ghost use Rattle.ab_premise.specs.Spelled.{IsSpelledRun};
+ghost use Rattle.ab_premise.specs.Collisions.{IsCollidedAt, IsFree, watched};
+ghost use Rattle.ab_premise.specs.Spelled.{AreSpelledContents, IsSpelledRun};
 ghost use Rattle.ab_premise.specs.Premises.{faulty_premise, first_premise, passing, IsPremise};
 
 /// At most f replicas are declared faulty exactly where none passes f.
@@ -28,10 +28,10 @@ pub fn few_are_faulty()
 /// has its first.
 pub fn collisions_are_told<P>()
     ensures free { (k : Setup) (proto : Proto P) (serves : Kind → Bool) (opens : Opener) (inputs : List Input)
-        → KeepsForm proto serves → OpensMessages opens
+        → KeepsForm proto serves
         → ((watched k proto opens inputs).collided ≡ None) ↔ IsFree k proto (events_in opens inputs) }
     ensures earliest { (k : Setup) (proto : Proto P) (serves : Kind → Bool) (opens : Opener) (inputs : List Input) (c : Collision)
-        → KeepsForm proto serves → OpensMessages opens
+        → KeepsForm proto serves
         → ((watched k proto opens inputs).collided ≡ Some c) ↔ IsCollidedAt k proto opens inputs c.event c.party }
 {}
 
@@ -46,11 +46,10 @@ pub fn premise_is_told<P>()
         → (line : TheLine) → (faulty_premise (passing k.cluster.f faulty) (first_premise forged collided) ≡ line) ↔ IsPremise k proto opens faulty inputs line }
 {}
 
-/// In a run in which what comes is spelled, nobody can sign and no timer runs out, whatever a correct
-/// party made and whatever one checked have bytes of their own, where contents of the grammar have.
+/// In a run in which what comes is spelled, whatever a correct party made and whatever one checked
+/// have bytes of their own, where contents of the grammar have.
 pub fn spelled_runs_are_apart<P>()
     ensures { (k : Setup) (proto : Proto P) (serves : Kind → Bool) (opens : Opener) (inputs : List Input)
-        → KeepsForm proto serves → IsSpelledRun k serves opens inputs
-        → ((x y : Content) → IsContent x → IsContent y → spell_content x ≡ spell_content y → x ≡ y)
+        → KeepsForm proto serves → IsSpelledRun k serves opens inputs → AreSpelledContents k.cluster.f
         → SpellsApart k proto spell_content (events_in opens inputs) }
 {}
