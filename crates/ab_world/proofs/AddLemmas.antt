@@ -5,7 +5,7 @@ use Rattle.ab_num.specs.declared.party.Party.{Party}
 use Rattle.ab_hist.specs.declared.request.Request.{Request}
 use Rattle.ab_text.specs.declared.line.Line.{Line}
 use Rattle.ab_msg.specs.declared.message.Out.{Out}
-use Rattle.ab_msg.specs.Grammar.{spell_content}
+use Rattle.ab_msg.specs.Contents.{spell_content}
 use Rattle.ab_abs.specs.declared.seen.Seen.{Seen}
 use Rattle.ab_abs.specs.Ensembles.{Proto}
 use Rattle.ab_links.specs.Digested.{Digested, keep_items, any_found}

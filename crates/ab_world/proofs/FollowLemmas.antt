@@ -18,7 +18,7 @@ use Rattle.ab_msg.specs.declared.message.Msg.TheVariants as msg
 use Rattle.ab_msg.specs.Claims.{claims}
 use Rattle.ab_msg.specs.Carried.{stated_history, value_histories, values_in}
 use Rattle.ab_msg.specs.Grammar.{IsMessage, spell_content}
-use Rattle.ab_seal.specs.declared.fault.OpenFault.{OpenFault}
+use Rattle.ab_open.specs.declared.fault.OpenFault.{OpenFault}
 use Rattle.ab_abs.specs.declared.seen.Seen.{Seen}
 use Rattle.ab_abs.specs.declared.seen.Seen.TheVariants as seen
 use Rattle.ab_abs.specs.Messages.{took}

@@ -20,8 +20,8 @@ use Rattle.ab_msg.specs.declared.message.Msg.TheVariants as msg
 use Rattle.ab_msg.specs.Claims.{claims}
 use Rattle.ab_msg.specs.Carried.{stated_history}
 use Rattle.ab_msg.specs.Grammar.{IsContent, IsMessage, spell_content}
-use Rattle.ab_seal.specs.declared.fault.OpenFault.{OpenFault}
-use Rattle.ab_seal.specs.declared.fault.OpenFault.TheVariants.{NotMine}
+use Rattle.ab_open.specs.declared.fault.OpenFault.{OpenFault}
+use Rattle.ab_open.specs.declared.fault.OpenFault.TheVariants.{NotMine}
 use Rattle.ab_seal.specs.Opening.{opening}
 use Rattle.ab_abs.specs.Messages.{IsKnown}
 use Rattle.ab_abs.specs.Places.{KeepsForm}

@@ -6,8 +6,8 @@ use Rattle.ab_num.specs.declared.party.Party.{Party}
 use Rattle.ab_num.specs.declared.party.Party.TheVariants.{Replica, Client}
 use Rattle.ab_text.specs.declared.line.Cause.{Cause}
 use Rattle.ab_msg.specs.declared.message.Msg.{Msg}
-use Rattle.ab_msg.specs.Grammar.{spell_content}
-use Rattle.ab_seal.specs.declared.fault.OpenFault.{OpenFault}
+use Rattle.ab_msg.specs.Contents.{spell_content}
+use Rattle.ab_open.specs.declared.fault.OpenFault.{OpenFault}
 use Rattle.ab_abs.specs.Messages.{took}
 use Rattle.ab_abs.specs.Ensembles.{Proto}
 use Rattle.ab_run.specs.Setups.{Setup as RunSetup}

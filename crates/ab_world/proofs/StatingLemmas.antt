@@ -10,12 +10,12 @@ use Rattle.ab_num.specs.Parties.{party_eq}
 use Rattle.ab_msg.specs.declared.content.Content.{Content}
 use Rattle.ab_msg.specs.declared.message.Out.{Out}
 use Rattle.ab_msg.specs.Claims.{fresh, maker_of}
-use Rattle.ab_msg.specs.Grammar.{spell_content}
+use Rattle.ab_msg.specs.Contents.{spell_content}
 use Rattle.ab_abs.proofs.Facts.{party_eq-Decides}
 use Rattle.ab_abs.specs.Faults.{is_faulty}
 use Rattle.ab_run.specs.Setups.{Setup}
 use Rattle.ab_run.specs.Stages.{keep, stated_by, made_after}
-use Rattle.ab_client.specs.Drafts.{IsDraftOf}
+use Rattle.ab_run.specs.Forms.{IsDraftOf}
 use Rattle.ab_links.proofs.ListLemmas.{Contains-head}
 
 -- what a party states of a draft that has one content of its own

@@ -6,7 +6,7 @@ ghost use Rattle.ab_num.specs.Places.{kind_of};
 ghost use Rattle.ab_text.specs.declared.event.Event.{Event as TheEvent};
 ghost use Rattle.ab_text.specs.declared.line.Premise.{Premise as TheLine};
 ghost use Rattle.ab_text.specs.declared.line.Premise.TheVariants.{Held};
-ghost use Rattle.ab_msg.specs.Grammar.{spell_content};
+ghost use Rattle.ab_msg.specs.Contents.{spell_content};
 ghost use Rattle.ab_abs.specs.Instances.{EachIsAbstract};
 ghost use Rattle.ab_abs.specs.Order.{Ordered};
 ghost use Rattle.ab_abs.specs.Promises.{ServesAll};

@@ -5,7 +5,7 @@ ghost use Rattle.std.specs.List.{flat_map};
 ghost use Rattle.std.specs.Option.{option_to_list};
 ghost use Rattle.ab_msg.specs.Claims.{claims};
 ghost use Rattle.ab_msg.specs.Carried.{stated_request, value_requests, values_in};
-ghost use Rattle.ab_msg.specs.Grammar.{IsMessage};
+ghost use Rattle.ab_msg.specs.Messages.{IsMessage};
 ghost use Rattle.ab_msg.specs.Views.{message};
 ghost use Rattle.ab_links.specs.Digested.{any_found, keep_items, request as asked_item};
 ghost use Rattle.ab_world.specs.Steps.{items_now, own_items, replica_items, standing, taken_requests};

@@ -7,7 +7,7 @@ ghost use Rattle.std.specs.Prelude.{ℕ};
 ghost use Rattle.ab_num.specs.declared.party.Party.{Party as TheParty};
 ghost use Rattle.ab_msg.specs.Claims.{fresh};
 ghost use Rattle.ab_msg.specs.Grammar.{IsContent, IsDraft, spell_content};
-ghost use Rattle.ab_client.specs.Drafts.{IsDraftOf};
+ghost use Rattle.ab_run.specs.Forms.{IsDraftOf};
 ghost use Rattle.ab_run.specs.Stages.{keep, made_after};
 ghost use Rattle.ab_cast.specs.Setups.{run_setup};
 ghost use Rattle.ab_world.specs.Steps.{posted};

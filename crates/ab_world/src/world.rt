@@ -4,7 +4,7 @@ ghost use Rattle.std.specs.Prelude.{◌≡◌, ◌⊎◌, ◌+◌, ◌<◌, ◌�
 ghost use Rattle.std.specs.Option.{option_map, option_to_list};
 ghost use Rattle.ab_num.specs.Places.{kind_of};
 ghost use Rattle.ab_keys.specs.Keys.{is_party};
-ghost use Rattle.ab_client.specs.Drafts.{IsDraftOf};
+ghost use Rattle.ab_run.specs.Forms.{IsDraftOf};
 ghost use Rattle.ab_post.specs.Packets.{total, most_bytes};
 ghost use Rattle.ab_cast.specs.Setups.{place_of, party_at};
 ghost use Rattle.ab_cast.specs.Casts.{is_free};

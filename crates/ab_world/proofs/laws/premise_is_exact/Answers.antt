@@ -1,4 +1,4 @@
-use Rattle.ab_msg.specs.Grammar.{spell_content}
+use Rattle.ab_msg.specs.Contents.{spell_content}
 use Rattle.ab_cast.specs.Setups.{run_setup}
 use Rattle.ab_world.specs.Worlds.{start, opener}
 use Rattle.ab_world.specs.Runs.{inputs_of}

@@ -1,6 +1,6 @@
 use Rattle.std.proofs.Common.{sym, subst, refl, arith}
 use Rattle.ab_hist.specs.Digests.{NoCollision}
-use Rattle.ab_msg.specs.Grammar.{spell_content}
+use Rattle.ab_msg.specs.Contents.{spell_content}
 use Rattle.ab_abs.specs.Acts.{SlotsApart}
 use Rattle.ab_run.specs.Runs.{run}
 use Rattle.ab_run.specs.Inputs.{events_in}

@@ -1,9 +1,9 @@
 use Rattle.std.proofs.Common.{◌≡◌, ◌++◌, ◌∷◌, [], ◌+◌, map, take, arith, ap, sym, ◌∙◌, subst, length, ◌<◌}
 use Rattle.std.specs.List.{fold}
 use Rattle.std.proofs.lemmas.List.{take_all, take_more}
-use Rattle.ab_msg.specs.Grammar.{spell_content}
+use Rattle.ab_msg.specs.Contents.{spell_content}
 use Rattle.ab_run.specs.Stages.{keep, stated_by}
-use Rattle.ab_client.specs.Drafts.{IsDraftOf}
+use Rattle.ab_run.specs.Forms.{IsDraftOf}
 use Rattle.ab_cast.specs.Setups.{run_setup}
 use Rattle.ab_world.proofs.StatingLemmas.{of_correct, states_one, states_more}
 use Rattle.ab_world.proofs.posting.state.Goals as goal

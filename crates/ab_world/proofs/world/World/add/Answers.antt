@@ -1,6 +1,6 @@
 use Rattle.std.proofs.Common.{◌≡◌, ◌≤◌, ◌++◌, map, sym, ap, ◌∙◌, subst}
 use Rattle.std.specs.Option.{option_to_list}
-use Rattle.ab_msg.specs.Grammar.{spell_content}
+use Rattle.ab_msg.specs.Contents.{spell_content}
 use Rattle.ab_run.specs.Stages.{forgery, first_of, made_after}
 use Rattle.ab_premise.specs.Premises.{forged_first}
 use Rattle.ab_premise.specs.Collisions.{first_collision}
