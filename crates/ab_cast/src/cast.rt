@@ -115,6 +115,15 @@ impl<S: Service, P: Protocol<S>> Cast<S, P> {
         replica.first()
     }
 
+    /// The history with which replica `r` entered its instance. None exactly where there is no such
+    /// replica.
+    pub fn base_of(&self, r: u8) -> Option<&History>
+        ensures { option_map (λ h. h.now) result ≡ option_map (λ s. s.rep.entry.base) (slice_get self.now.replicas r) }
+    {
+        let replica = self.replicas.get(r as usize)?;
+        Some(&replica.entry().base)
+    }
+
     /// The instance in which replica `r` is. None exactly where there is no such replica.
     pub fn instance_of(&self, r: u8) -> Option<u32>
         ensures { result ≡ option_map (λ s. s.rep.at) (slice_get self.now.replicas r) }
