@@ -4,7 +4,6 @@ use Rattle.std.specs.List.{range_with_len}
 use Rattle.ab_num.specs.declared.plan.Height.{Height}
 use Rattle.ab_lms.specs.Nodes.{levels}
 use Rattle.ab_lms.specs.Signatures.{lms_signature, public_key}
-use Rattle.ab_lms.specs.Signers.{TreeKey}
 use Rattle.ab_keys.specs.Secrets.{tree_name, tree_seed}
 use Rattle.ab_msg.specs.Contents.{spell_content}
 use Rattle.ab_msg.specs.Pens.{Pen}

@@ -1,7 +1,7 @@
 use Rattle.std.proofs.Common.{arith}
 use Rattle.ab_seal.proofs.ReceiverLemmas.{tag_added, tag_left_out}
-use Rattle.ab_seal.proofs.sealing.tags_made.Goals as goal
-use Rattle.ab_seal.proofs.sealing.tags_made.Goals.{then-is_receiver, else-is_receiver}
+use Rattle.ab_seal.proofs.tags.tags_made.Goals as goal
+use Rattle.ab_seal.proofs.tags.tags_made.Goals.{then-is_receiver, else-is_receiver}
 
 pub receivers-preserved : goal.receivers-preserved
 receivers-preserved c =
