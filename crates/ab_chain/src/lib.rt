@@ -1,0 +1,11 @@
+//! Chain: a request goes from position to position, and each logs what those before it stated.
+#![tactic(auto)]
+
+mod chain;
+mod route;
+mod trial;
+
+pub use chain::Chain;
+
+#[cfg(test)]
+mod tests;
