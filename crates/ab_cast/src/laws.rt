@@ -1,16 +1,10 @@
 //! What the places of cores mean.
 
-ghost use Rattle.std.specs.Prelude.{◌≡◌, ◌↔◌, ◌≤◌, ℕ, List, All, Contains, IsSome, IsTrue, Ok, Option, None, Some};
+ghost use Rattle.std.specs.Prelude.{◌≡◌, ◌↔◌, ◌≤◌, ℕ, All, Contains, IsSome, IsTrue, Option, None, Some};
 ghost use Rattle.ab_num.specs.declared.party.Party.{Party as TheParty};
 ghost use Rattle.ab_keys.specs.Keys.{is_party};
 ghost use Rattle.ab_cast.specs.declared.place.Place.{Place as ThePlace};
-ghost use Rattle.ab_form.specs.Formats.{IsBytes};
-ghost use Rattle.ab_msg.specs.declared.message.Msg.{Msg};
-ghost use Rattle.ab_run.specs.Premises.{IsFormedFor};
-ghost use Rattle.ab_seal.specs.Opening.{opening};
-ghost use Rattle.ab_cast.specs.Setups.{Setup as TheSetup, core_number, party_at, place_of, ring_at, run_setup};
-
-use ab_seal::opened_messages_are_of_the_grammar;
+ghost use Rattle.ab_cast.specs.Setups.{Setup as TheSetup, core_number, party_at, place_of};
 
 /// A party of the cluster that is declared faulty with n cores has those numbered 1 to n and no
 /// others, and no other party has a numbered core. Each party has its own. A place is that of one
@@ -23,10 +17,3 @@ pub fn faulty_parties_have_their_cores()
     ensures apart { (x : TheSetup) (p q : TheParty) (t u : Option ℕ) (at : ThePlace) → place_of x p t ≡ Some at → place_of x q u ≡ Some at
         → (p ≡ q) × (core_number t ≡ core_number u) }
 {}
-
-/// What opens at a party is a message as a run over the setup takes it.
-pub fn opened_messages_are_formed()
-    ensures { (x : TheSetup) (p : TheParty) (bytes : List ℕ) (m : Msg) → IsBytes bytes → opening (ring_at x p) bytes ≡ Ok m → IsFormedFor (run_setup x) p m }
-{
-    opened_messages_are_of_the_grammar()
-}

@@ -12,6 +12,6 @@ mod setup;
 
 pub use cast::{Cast, places_have_cores};
 pub use fault::CommandFault;
-pub use laws::{faulty_parties_have_their_cores, opened_messages_are_formed};
+pub use laws::faulty_parties_have_their_cores;
 pub use place::Place;
 pub use setup::Setup;

@@ -2,10 +2,9 @@
 use Rattle.std.proofs.Common.{◌≡◌, ℕ, zero, suc, ◌+◌, ◌-◌, ◌*◌, ◌%◌, ◌<◌, ◌≤◌, min, Bool, true, false, ◌||◌, cond, eqb, ltb, IsTrue, List, [], ◌∷◌, ◌++◌, map, length, get_or, replicate, unwrap_or, Option, Some, None, refl, sym, ap, ◌∙◌, arith, add-one, length-append, All}
 use Rattle.std.specs.List.{filter, list_any, range_with_len}
 use Rattle.std.specs.Option.{option_map}
-use Rattle.std.proofs.lemmas.Bool.{false≢true}
+use Rattle.std.proofs.lemmas.Bool.{false≢true, ltb-true}
 use Rattle.std.proofs.lemmas.List.Elements.{All-append, All-cons, All-map}
 use Rattle.std.proofs.lemmas.List.FromFn.{length-map-range_with_len}
-use borrow.Author.Tests.{ltb-true}
 use Rattle.arrayvec.specs.ArrayVec.{ArrayVec}
 use Rattle.ab_hist.specs.declared.request.Request.{Request}
 use Rattle.ab_form.specs.Lists.{AreCounted}
@@ -170,7 +169,7 @@ own-fits ring (Replica r) i m n d reply few by goes = at-own ring i m n d reply 
 own-fits ring (Client c) i m n d reply few by goes = (omega arith, none-fit)
 
 -- a party of a cluster is one of the grammar
-party-fits : (f clients : ℕ) (p : Party) → f ≤ 2 → clients ≤ 16 → IsTrue (is_party f clients p) → IsParty p
+pub party-fits : (f clients : ℕ) (p : Party) → f ≤ 2 → clients ≤ 16 → IsTrue (is_party f clients p) → IsParty p
 party-fits f clients (Replica r) few many h = (omega arith, omega (arith, ltb-true r (3 * f + 1) h))
 party-fits f clients (Client c) few many h = (omega arith, omega (arith, ltb-true c clients h))
 

@@ -1,6 +1,8 @@
 -- Lemmas of this crate.
 pub mod ReceiverLemmas
 pub mod DraftLemmas
+pub mod FreshLemmas
 pub mod ChainLemmas
-pub mod OpenLemmas
-pub mod LawLemmas
+pub mod PlaceLemmas
+pub mod PassedLemmas
+pub mod SealedLemmas

@@ -1,8 +1,9 @@
 -- The premise line of a world, and what a world promises.
 use Rattle.std.proofs.Common.{false, ◌≡◌, ℕ, suc, zero, ◌↔◌, Bool, true, Some, None, List, [], ◌∷◌, arith, refl, sym, ap, ◌∙◌, subst}
-use Rattle.std.specs.Prelude.{IsTrue, Contains, flat_map, map, nat_lt, slice_get, Result, Ok, Err}
+use Rattle.std.specs.Prelude.{IsTrue, All, if◌then◌else◌, Contains, flat_map, map, nat_lt, slice_get, Result, Ok, Err}
 use Rattle.std.specs.List.{filter, list_all}
 use Rattle.std.proofs.lemmas.Bool.{ltb-true}
+use Rattle.ab_num.specs.Bounds.{IsInBounds}
 use Rattle.ab_num.specs.declared.party.Party.{Party}
 use Rattle.ab_num.specs.declared.party.Party.TheVariants.{Replica}
 use Rattle.ab_num.specs.declared.plan.Kind.{Kind}
@@ -18,7 +19,11 @@ use Rattle.ab_msg.specs.Claims.{claims}
 use Rattle.ab_msg.specs.Carried.{stated_history}
 use Rattle.ab_msg.specs.declared.content.Content.TheVariants.{Abort}
 use Rattle.ab_msg.specs.Contents.{IsContent, spell_content}
+use Rattle.ab_msg.specs.Messages.{IsMessage}
+use Rattle.ab_check.specs.Checks.{Judge}
 use Rattle.ab_open.specs.declared.fault.OpenFault.{OpenFault}
+use Rattle.ab_open.specs.declared.fault.OpenFault.TheVariants.{NotMine}
+use Rattle.ab_open.specs.Opening.{opening}
 use Rattle.ab_abs.specs.Places.{KeepsForm}
 use Rattle.ab_abs.specs.Ensembles.{Proto}
 use Rattle.ab_run.specs.Setups.{Setup as RunSetup}
@@ -32,7 +37,7 @@ use Rattle.ab_run.specs.Premises.{IsHonestRun}
 use Rattle.ab_run.specs.Inputs.{Input, Opener, OpensFormed, SpellsApart, events_in}
 use Rattle.ab_run.specs.Stages.{Stage, Forgery, IsForgedAt, stage_over, find_log}
 use Rattle.ab_run.proofs.Staged.{stage_is_back}
-use Rattle.ab_cast.specs.Setups.{Setup, run_setup, is_bad}
+use Rattle.ab_cast.specs.Setups.{Setup, run_setup, is_bad, judge_at}
 use Rattle.ab_cast.proofs.ReplicaLemmas.{written_setup}
 use Rattle.ab_premise.specs.Collisions.{IsFree, watched}
 use Rattle.ab_premise.specs.Premises.{passing, first_premise, faulty_premise, IsPremise, is_held}
@@ -41,7 +46,7 @@ use Rattle.ab_premise.proofs.Lines.{premise_told}
 use Rattle.ab_premise.proofs.Watches.{free_told, earliest_told}
 use Rattle.ab_premise.proofs.Spelled.{spells_apart}
 use Rattle.ab_world.specs.Lines.{is_observed, line_of_noted}
-use Rattle.ab_world.specs.Worlds.{World, start, shown_on, premise_of, opened, opener}
+use Rattle.ab_world.specs.Worlds.{World, start, shown_on, premise_of, opening_at, opened, opener}
 use Rattle.ab_world.specs.Runs.{outcome, inputs_of, came_to}
 use Rattle.ab_world.proofs.PlaceLemmas.{parts_true}
 use Rattle.ab_world.proofs.SeatLemmas.{reps_of-get}
@@ -58,6 +63,19 @@ all_bytes (b ∷ bytes) are (suc i) = all_bytes bytes (parts_true (nat_lt b 256)
 pub opened_is : (o : Result Msg OpenFault) (m : Msg) → opened o ≡ Some m → o ≡ Ok m
 opened_is (Ok n) m e = let e' : n ≡ m = cc (e) in ap Ok e'
 opened_is (Err fault) m e = absurd (cc (e))
+
+-- what opens by the keys of a party is of the grammar, and so are its claims
+pub opens_spelled : (x : Setup) → ((judge : Judge) (f clients : ℕ) (me : Party) (bytes : List ℕ) (m : Msg) → IsBytes bytes → opening judge f clients me bytes ≡ Ok m → IsMessage m)
+    → ((f clients : ℕ) (me : Party) (m : Msg) → IsInBounds f clients → IsMessage m → All IsContent (claims f me m)) → OpensSpelled (run_setup x) (opener x)
+opens_spelled x grammar own p bytes m e =
+    let f = x.cluster.f in
+    let clients = x.cluster.clients in
+    let is = by f clients (list_all (λ b. nat_lt b 256) bytes) refl (opened_is (opening_at x p bytes) m e) in
+    (is, own f clients p m x.cluster.in_bounds is)
+  where
+    by : (f clients : ℕ) (b : Bool) → list_all (λ b. nat_lt b 256) bytes ≡ b → (if b then opening (judge_at x p) f clients p bytes else Err NotMine) ≡ Ok m → IsMessage m
+    by f clients true are ok = grammar (judge_at x p) f clients p bytes m (all_bytes bytes are) ok
+    by f clients false are ok = absurd (cc (ok))
 
 -- the histories of contents of the grammar rise
 content_rises : (s : Content) → IsContent s → (h : List Request) → Contains (stated_history s) h → IsHistory h

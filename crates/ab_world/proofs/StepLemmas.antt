@@ -12,10 +12,10 @@ use Rattle.ab_post.specs.Packets.{Packet, nth, total, most_bytes}
 use Rattle.ab_replica.specs.declared.effects.Effects.{Effects}
 use Rattle.ab_cast.specs.declared.place.Place.{Place}
 use Rattle.ab_cast.specs.Setups.{Setup, party_at, place_of, numbered_place}
-use Rattle.ab_run.specs.Replicas.{Rep}
+use Rattle.ab_replica.specs.Sites.{Site}
 use Rattle.ab_client.specs.Clients.{Seat}
 use Rattle.ab_cast.specs.declared.place.Place.TheVariants as place
-use Rattle.ab_cast.specs.Cores.{Core, replica, client, command, message, core_after}
+use Rattle.ab_cast.specs.Cores.{Core, replica, client, command, message, time, core_after}
 use Rattle.ab_cast.specs.Casts.{Cast, IsTaken, core_at, command_refusal, with_core, with_replica, with_client, next}
 use Rattle.ab_cast.proofs.PlaceLemmas.{owner_of_place}
 use Rattle.ab_world.specs.declared.fault.WorldFault.{WorldFault}
@@ -23,7 +23,8 @@ use Rattle.ab_world.specs.declared.fault.WorldFault.TheVariants.{EventLimit, Pac
 use Rattle.ab_world.specs.declared.handing.Handed.{Handed}
 use Rattle.ab_world.specs.declared.handing.Handed.TheVariants.{Missed, Heard}
 use Rattle.ab_world.specs.Worlds.{World}
-use Rattle.ab_world.specs.Steps.{Happening, ask, hand, addressed, handed, delivered, asked, asked_at, refuse_command, messages, standing, settled, missed, moved_at, after_taking, after, stepped_by, happening, CauseIn, SettleCause, HasEnded, Leaves}
+use Rattle.ab_world.specs.Steps.{Happening, ask, hand, ring, addressed, handed, delivered, asked, asked_at, refuse_command, messages, standing, settled, missed, moved_at, after_taking, after, stepped_by, happening, CauseIn, SettleCause, HasEnded, Leaves}
+use Rattle.ab_carried.specs.declared.carried.Carried.{Carried}
 use Rattle.ab_world.specs.Handing.{IsHanded, finished}
 use Rattle.ab_world.proofs.PlaceLemmas.{test_there}
 
@@ -48,17 +49,27 @@ module _ {P : Type 0} (proto : Proto P) (w : World P) where
       → finished proto (record w { cast = new }) (party_at at) (standing proto w.cast (party_at at)) h ≡ after proto w (record { place = at; given = hand bytes })
   handed_is at bytes new (Missed cause) is =
       (λ j. missed (record w { cast = is.next j }) (party_at at) (is.is j)) ∙ ap (λ r. after_taking proto w at (messages r)) (sym is.opens)
-  handed_is at bytes new (Heard found asked effects) is =
-      (λ j. settled proto (record w { cast = is.taken.after j }) (party_at at) (standing proto w.cast (party_at at)) (is.forged j) (is.requests j) (is.taken.sends j) (is.taken.shows j) (is.taken.spends j))
+  handed_is at bytes new (Heard found carried effects) is =
+      (λ j. settled proto (record w { cast = is.taken.after j }) (party_at at) (standing proto w.cast (party_at at)) (is.forged j) (is.histories j) (is.requests j) (is.taken.sends j) (is.taken.shows j) (is.taken.spends j))
       ∙ (ap (λ o. moved_at proto w at (message is.msg) o) (sym is.there) ∙ ap (λ r. after_taking proto w at (messages r)) (sym is.opens))
 
   -- a command that a core took
-  pub asked_is : (at : Place) (bytes : ArrayVec ℕ) (s : Core P) (new : Cast P) (effects : Effects) → core_at w.cast at ≡ Some s
+  pub asked_is : (at : Place) (bytes : ArrayVec ℕ) (s : Core P) (new : Cast P) (effects : Effects) (carried : Carried) → core_at w.cast at ≡ Some s
+      → carried.histories.items ≡ [] → carried.requests.items ≡ []
       → IsTaken proto w.cast at s (command bytes) new effects.outs effects.marks.items effects.spent
-      → finished proto (record w { cast = new }) (party_at at) (standing proto w.cast (party_at at)) (Heard None None effects) ≡ after proto w (record { place = at; given = ask bytes })
-  asked_is at bytes s new effects there taken =
-      (λ j. settled proto (record w { cast = taken.after j }) (party_at at) (standing proto w.cast (party_at at)) None [] (taken.sends j) (taken.shows j) (taken.spends j))
+      → finished proto (record w { cast = new }) (party_at at) (standing proto w.cast (party_at at)) (Heard None carried effects) ≡ after proto w (record { place = at; given = ask bytes })
+  asked_is at bytes s new effects carried there told asked taken =
+      (λ j. settled proto (record w { cast = taken.after j }) (party_at at) (standing proto w.cast (party_at at)) None (told j) (asked j) (taken.sends j) (taken.shows j) (taken.spends j))
       ∙ ap (λ o. moved_at proto w at (command bytes) o) (sym there)
+
+  -- a timer of a core that ran out
+  pub rung_is : (at : Place) (s : Core P) (new : Cast P) (effects : Effects) (carried : Carried) → core_at w.cast at ≡ Some s
+      → carried.histories.items ≡ [] → carried.requests.items ≡ []
+      → IsTaken proto w.cast at s time new effects.outs effects.marks.items effects.spent
+      → finished proto (record w { cast = new }) (party_at at) (standing proto w.cast (party_at at)) (Heard None carried effects) ≡ after proto w (record { place = at; given = ring })
+  rung_is at s new effects carried there told asked taken =
+      (λ j. settled proto (record w { cast = taken.after j }) (party_at at) (standing proto w.cast (party_at at)) None (told j) (asked j) (taken.sends j) (taken.shows j) (taken.spends j))
+      ∙ ap (λ o. moved_at proto w at time o) (sym there)
 
   pub within_is : (v : World P) (h : Happening) → v ≡ after proto w h → total v.packets ≤ most_bytes → stepped_by proto w (Ok h) ≡ Ok v
   within_is v h is few =
@@ -120,7 +131,7 @@ ok_then (Err f) x e h = absurd (cc)
 -- ---- what stays
 
 module _ {P : Type 0} where
-  replica_setup : (x : Cast P) (at : Place) (s : Rep P) → (with_replica x at s).setup ≡ x.setup
+  replica_setup : (x : Cast P) (at : Place) (s : Site P) → (with_replica x at s).setup ≡ x.setup
   replica_setup x (place.Replica r) s = refl
   replica_setup x (place.Client c) s = refl
   replica_setup x (place.ReplicaTwin r i) s = refl
@@ -138,7 +149,7 @@ module _ {P : Type 0} where
 
   pub handed_setup : (proto : Proto P) (made : List (List ℕ)) (bytes : List ℕ) (at : Place) (old new : Cast P) (h : Handed) → IsHanded proto made bytes at old new h → new.setup ≡ old.setup
   handed_setup proto made bytes at old new (Missed cause) is = ap (λ x. x.setup) is.next
-  handed_setup proto made bytes at old new (Heard found asked effects) is = ap (λ x. x.setup) is.taken.after ∙ core_setup old at (core_after old.setup proto (party_at at) is.core (message is.msg))
+  handed_setup proto made bytes at old new (Heard found carried effects) is = ap (λ x. x.setup) is.taken.after ∙ core_setup old at (core_after old.setup proto (party_at at) is.core (message is.msg))
 
   -- where the world has ended, that is all that a refusal leaves
   pub ended_leaves : (f : WorldFault) (w v x : World P) (new : Cast P) → new.setup ≡ w.cast.setup → SettleCause f x → HasEnded f (record w { cast = new }) v → Leaves f w v

@@ -10,14 +10,12 @@ use Rattle.ab_text.specs.declared.line.Premise.TheVariants.{Held}
 use Rattle.ab_text.specs.Heads.{Script}
 use Rattle.ab_text.specs.Schedules.{ReadsText, script_of}
 use Rattle.ab_text.specs.declared.schedule.Head.{Head}
-use Rattle.ab_seal.specs.declared.fault.OpenFault.{OpenFault}
+use Rattle.ab_open.specs.declared.fault.OpenFault.{OpenFault}
 use Rattle.ab_abs.specs.Ensembles.{Proto}
-use Rattle.ab_abs.specs.Members.{Member}
 use Rattle.ab_num.specs.declared.cluster.Cluster.{Cluster}
 use Rattle.ab_num.specs.declared.plan.Plan.{Plan}
 use Rattle.ab_svc.specs.Machines.{Machine}
-use Rattle.ab_quorum.specs.Rules.{quorum}
-use Rattle.ab_run.proofs.Shown.{first_length}
+use Rattle.std.proofs.lemmas.List.{length-append}
 use Rattle.std.proofs.lemmas.Bool.{lt-ltb}
 use Rattle.arrayvec.specs.ArrayVec.{ArrayVec}
 use Rattle.ab_text.specs.declared.event.Core.{Core as CoreName}
@@ -27,14 +25,15 @@ use Rattle.ab_cast.specs.declared.fault.CommandFault.{CommandFault}
 use Rattle.ab_cast.specs.declared.fault.CommandFault.TheVariants as command_fault
 use Rattle.ab_cast.specs.declared.place.Place.{Place}
 use Rattle.ab_cast.specs.declared.place.Place.TheVariants as place
-use Rattle.ab_cast.specs.Setups.{Setup, run_setup, party_at, place_of}
+use Rattle.ab_cast.specs.Setups.{Setup, party_at, place_of}
 use Rattle.ab_cast.specs.Cores.{Core, Taken, replica, client, core_after}
-use Rattle.ab_cast.specs.Casts.{Cast, with_core, core_at, command_refusal}
+use Rattle.ab_cast.specs.Casts.{Cast, with_core, core_at, command_refusal, first_site, first_sites}
 use Rattle.ab_world.specs.declared.fault.WorldFault.{WorldFault}
 use Rattle.ab_world.specs.declared.fault.WorldFault.TheVariants.{EventLimit, NotBuilt, PacketLimit}
 use Rattle.ab_world.specs.Runs.{outcome, refused_or}
-use Rattle.ab_world.specs.Steps.{Happening, ready, ready_in, happening, asked, asked_at, handed, addressed, delivered, refuse_command, after, after_taking, moved_at, stepped, stepped_by, taken_from}
+use Rattle.ab_world.specs.Steps.{Happening, ready, ready_in, happening, asked, asked_at, handed, addressed, delivered, rung, refuse_command, after, after_taking, moved_at, stepped, stepped_by, taken_from}
 use Rattle.ab_world.specs.Worlds.{World, start}
+use Rattle.abstract_bft.specs.Protocols.{Any}
 use Rattle.abstract_bft.specs.declared.replay.ReplayFault.{ReplayFault}
 use Rattle.abstract_bft.specs.declared.replay.ReplayFault.TheVariants.{Read, TooLong, Refused, TooManyEvents, TooManyPackets, OutOfMemory}
 use Rattle.abstract_bft.specs.Replays.{IsClusterOf, RunsTo, Runs, run_in, setup_in, proto_of, head_lines, EventsCause, TextCause}
@@ -42,7 +41,7 @@ use Rattle.abstract_bft.specs.Replays.{IsClusterOf, RunsTo, Runs, run_in, setup_
 -- ---- how many replicas a world has
 
 -- of the same setup, with as many replicas
-record Stays (x y : Cast Member) : Type 0 where
+record Stays (x y : Cast Any) : Type 0 where
   setup : y.setup ≡ x.setup
   replicas : length y.replicas ≡ length x.replicas
 
@@ -51,7 +50,7 @@ set_length [] r v = refl
 set_length (x ∷ xs) zero v = refl
 set_length (x ∷ xs) (suc r) v = ap suc (set_length xs r v)
 
-core_stays : (x : Cast Member) (at : Place) (s : Core Member) → Stays x (with_core x at s)
+core_stays : (x : Cast Any) (at : Place) (s : Core Any) → Stays x (with_core x at s)
 core_stays x (place.Replica r) (replica s) = record { setup = refl; replicas = set_length x.replicas r s }
 core_stays x (place.Client c) (replica s) = record { setup = refl; replicas = refl }
 core_stays x (place.ReplicaTwin r n) (replica s) = record { setup = refl; replicas = refl }
@@ -61,10 +60,10 @@ core_stays x (place.Client c) (client s) = record { setup = refl; replicas = ref
 core_stays x (place.ReplicaTwin r n) (client s) = record { setup = refl; replicas = refl }
 core_stays x (place.ClientTwin c n) (client s) = record { setup = refl; replicas = refl }
 
-stays_still : (w v : World Member) → v ≡ w → Stays w.cast v.cast
+stays_still : (w v : World Any) → v ≡ w → Stays w.cast v.cast
 stays_still w v same = record { setup = ap (λ u. u.cast.setup) same; replicas = ap (λ u. length u.cast.replicas) same }
 
-core_events : (x : Cast Member) (at : Place) (s : Core Member) → (with_core x at s).events ≡ x.events
+core_events : (x : Cast Any) (at : Place) (s : Core Any) → (with_core x at s).events ≡ x.events
 core_events x (place.Replica r) (replica s) = refl
 core_events x (place.Client c) (replica s) = refl
 core_events x (place.ReplicaTwin r n) (replica s) = refl
@@ -88,11 +87,11 @@ refuses_within (Some command_fault.Busy) at bytes e = cc (e)
 refuses_within (Some command_fault.NoClient) at bytes e = cc (e)
 refuses_within (Some command_fault.OutOfMemory) at bytes e = cc (e)
 
-asks_within : (at : Place) (bytes : ArrayVec ℕ) (o : Option (Core Member)) → NoLimit (asked_at at bytes o)
+asks_within : (at : Place) (bytes : ArrayVec ℕ) (o : Option (Core Any)) → NoLimit (asked_at at bytes o)
 asks_within at bytes None e = cc (e)
 asks_within at bytes (Some s) e = refuses_within (command_refusal s) at bytes e
 
-asked_within : (w : World Member) (bytes : ArrayVec ℕ) (o : Option Place) → NoLimit (asked w bytes o)
+asked_within : (w : World Any) (bytes : ArrayVec ℕ) (o : Option Place) → NoLimit (asked w bytes o)
 asked_within w bytes None e = cc (e)
 asked_within w bytes (Some at) e = asks_within at bytes (core_at w.cast at) e
 
@@ -100,44 +99,52 @@ handed_within : (bytes : List ℕ) (o : Option Place) → NoLimit (handed bytes 
 handed_within bytes None e = cc (e)
 handed_within bytes (Some at) e = cc (e)
 
+rung_within : (o : Option Place) → NoLimit (rung o)
+rung_within None e = cc (e)
+rung_within (Some at) e = cc (e)
+
 delivered_within : (x : Setup) (o : Option Packet) (core : Option CoreName) → NoLimit (delivered x o core)
 delivered_within x None core e = cc (e)
 delivered_within x (Some packet) core e = handed_within packet.bytes (addressed x packet.to core) e
 
-happens_within : (w : World Member) (e : Event) → NoLimit (happening w e)
+happens_within : (w : World Any) (e : Event) → NoLimit (happening w e)
 happens_within w (Invoke core bytes) = no_limit_if _ (asked w bytes (place_of w.cast.setup core.party core.twin)) (Err NotBuilt) (asked_within w bytes (place_of w.cast.setup core.party core.twin)) (λ e. cc (e))
 happens_within w (Deliver packet core) = delivered_within w.cast.setup (nth w.packets packet) core
-happens_within w (Timeout core) = λ e. cc (e)
+happens_within w (Timeout core) = rung_within (place_of w.cast.setup core.party core.twin)
 happens_within w (Inject core bytes) = handed_within bytes (place_of w.cast.setup core.party core.twin)
 
-module _ (proto : Proto Member) where
-  move_stays : (w : World Member) (at : Place) (t : Taken) (s : Option (Core Member)) → Stays w.cast (moved_at proto w at t s).cast
+sites_length : (proto : Proto Any) (x : Setup) (n : ℕ) → length (first_sites x proto n) ≡ n
+sites_length proto x zero = refl
+sites_length proto x (suc n) = length-append (first_sites x proto n) (first_site x proto n ∷ []) ∙ omega (arith, sites_length proto x n)
+
+module _ (proto : Proto Any) where
+  move_stays : (w : World Any) (at : Place) (t : Taken) (s : Option (Core Any)) → Stays w.cast (moved_at proto w at t s).cast
   move_stays w at t None = record { setup = refl; replicas = refl }
   move_stays w at t (Some s) =
       let stays = core_stays w.cast at (core_after w.cast.setup proto (party_at at) s t) in record { setup = stays.setup; replicas = stays.replicas }
 
-  taking_stays : (w : World Member) (at : Place) (t : Result Taken OpenFault) → Stays w.cast (after_taking proto w at t).cast
+  taking_stays : (w : World Any) (at : Place) (t : Result Taken OpenFault) → Stays w.cast (after_taking proto w at t).cast
   taking_stays w at (Ok t) = move_stays w at t (core_at w.cast at)
   taking_stays w at (Err fault) = record { setup = refl; replicas = refl }
 
   -- a step is one event more at most, and ends no world
-  record Steps (w v : World Member) : Type 0 where
+  record Steps (w v : World Any) : Type 0 where
     events : v.cast.events ≤ w.cast.events + 1
     ended : v.ended ≡ w.ended
 
-  move_steps : (w : World Member) (at : Place) (t : Taken) (s : Option (Core Member)) → Steps w (moved_at proto w at t s)
+  move_steps : (w : World Any) (at : Place) (t : Taken) (s : Option (Core Any)) → Steps w (moved_at proto w at t s)
   move_steps w at t None = record { events = omega arith; ended = refl }
   move_steps w at t (Some s) = record { events = omega (arith, core_events w.cast at (core_after w.cast.setup proto (party_at at) s t)); ended = refl }
 
-  taking_steps : (w : World Member) (at : Place) (t : Result Taken OpenFault) → Steps w (after_taking proto w at t)
+  taking_steps : (w : World Any) (at : Place) (t : Result Taken OpenFault) → Steps w (after_taking proto w at t)
   taking_steps w at (Ok t) = move_steps w at t (core_at w.cast at)
   taking_steps w at (Err fault) = record { events = omega arith; ended = refl }
 
-  kept_within : (w v : World Member) (fits : Bool) → (if fits then Ok w else Err PacketLimit) ≡ Ok v → v ≡ w
+  kept_within : (w v : World Any) (fits : Bool) → (if fits then Ok w else Err PacketLimit) ≡ Ok v → v ≡ w
   kept_within w v true is = cc
   kept_within w v false is = absurd (cc)
 
-  step_stays : (w v : World Member) (h : Result Happening WorldFault) → stepped_by proto w h ≡ Ok v → Stays w.cast v.cast
+  step_stays : (w v : World Any) (h : Result Happening WorldFault) → stepped_by proto w h ≡ Ok v → Stays w.cast v.cast
   step_stays w v (Ok h) is =
       let u = after proto w h in
       let same = stays_still u v (kept_within u v _ is) in
@@ -145,31 +152,31 @@ module _ (proto : Proto Member) where
       record { setup = same.setup ∙ stays.setup; replicas = same.replicas ∙ stays.replicas }
   step_stays w v (Err fault) is = absurd (cc)
 
-  stepped_steps : (w v : World Member) (h : Result Happening WorldFault) → stepped_by proto w h ≡ Ok v → Steps w v
+  stepped_steps : (w v : World Any) (h : Result Happening WorldFault) → stepped_by proto w h ≡ Ok v → Steps w v
   stepped_steps w v (Ok h) is =
       let same = kept_within (after proto w h) v _ is in
       subst (Steps w) (sym same) (taking_steps w h.place (taken_from w.cast.setup (party_at h.place) h.given))
   stepped_steps w v (Err fault) is = absurd (cc (is))
 
-  pub step_steps : (w v : World Member) (e : Event) → stepped proto w e ≡ Ok v → (v.cast.events ≤ w.cast.events + 1) × (v.ended ≡ w.ended)
+  pub step_steps : (w v : World Any) (e : Event) → stepped proto w e ≡ Ok v → (v.cast.events ≤ w.cast.events + 1) × (v.ended ≡ w.ended)
   step_steps w v e is = let steps = stepped_steps w v (ready w e) is in (steps.events, steps.ended)
 
-  within_other : (w : World Member) (fits : Bool) → ◌≡◌ {A = Result (World Member) WorldFault} (if fits then Ok w else Err PacketLimit) (Err EventLimit) → ⊥
+  within_other : (w : World Any) (fits : Bool) → ◌≡◌ {A = Result (World Any) WorldFault} (if fits then Ok w else Err PacketLimit) (Err EventLimit) → ⊥
   within_other w true is = cc (is)
   within_other w false is = cc (is)
 
   -- before the limit of events it is not the answer
-  pub no_limit : (w : World Member) (e : Event) → w.ended ≡ None → w.cast.events < 100000 → stepped proto w e ≡ Err EventLimit → ⊥
+  pub no_limit : (w : World Any) (e : Event) → w.ended ≡ None → w.cast.events < 100000 → stepped proto w e ≡ Err EventLimit → ⊥
   no_limit w e goes few is =
       let here : ready w e ≡ happening w e = (λ j. ready_in w e (goes j)) ∙ ap (λ (b : Bool). if b then happening w e else Err EventLimit) (lt-ltb w.cast.events 100000 few) in
       by (happening w e) refl (ap (stepped_by proto w) (sym here) ∙ is)
     where
       by : (r : Result Happening WorldFault) → happening w e ≡ r → stepped_by proto w (happening w e) ≡ Err EventLimit → ⊥
       by (Ok h) e' limit = within_other (after proto w h) _ (ap (stepped_by proto w) (sym e') ∙ limit)
-      by (Err f) e' limit = let both : ◌≡◌ {A = Result (World Member) WorldFault} (Err f) (Err EventLimit) = ap (stepped_by proto w) (sym e') ∙ limit in let same : f ≡ EventLimit = cc (both) in happens_within w e (e' ∙ ap Err same)
+      by (Err f) e' limit = let both : ◌≡◌ {A = Result (World Any) WorldFault} (Err f) (Err EventLimit) = ap (stepped_by proto w) (sym e') ∙ limit in let same : f ≡ EventLimit = cc (both) in happens_within w e (e' ∙ ap Err same)
 
-  rest_stays : (w t : World Member) (n : ℕ) (r : Result (World Member) WorldFault) (rest : World Member → Result (World Member) (ℕ × WorldFault))
-      → ((v : World Member) → r ≡ Ok v → Stays w.cast v.cast) → ((v : World Member) → rest v ≡ Ok t → Stays v.cast t.cast)
+  rest_stays : (w t : World Any) (n : ℕ) (r : Result (World Any) WorldFault) (rest : World Any → Result (World Any) (ℕ × WorldFault))
+      → ((v : World Any) → r ≡ Ok v → Stays w.cast v.cast) → ((v : World Any) → rest v ≡ Ok t → Stays v.cast t.cast)
       → refused_or proto n r rest ≡ Ok t → Stays w.cast t.cast
   rest_stays w t n (Ok v) rest first later is =
       let a = first v refl in
@@ -177,16 +184,16 @@ module _ (proto : Proto Member) where
       record { setup = b.setup ∙ a.setup; replicas = b.replicas ∙ a.replicas }
   rest_stays w t n (Err fault) rest first later is = absurd (cc)
 
-  run_stays : (es : List Event) (n : ℕ) (w t : World Member) → outcome proto n w es ≡ Ok t → Stays w.cast t.cast
+  run_stays : (es : List Event) (n : ℕ) (w t : World Any) → outcome proto n w es ≡ Ok t → Stays w.cast t.cast
   run_stays [] n w t is = stays_still w t (cc)
   run_stays (e ∷ es) n w t is =
       rest_stays w t n (stepped proto w e) (λ v. outcome proto (n + 1) v es) (λ v. step_stays w v (ready w e)) (λ v. run_stays es (n + 1) v t) is
 
   -- a world at the end of a run has the replicas of its cluster
-  pub all_replicas : (c : Cluster) (s : Script) (end : World Member) → run_in proto c s ≡ Ok end → length end.cast.replicas ≡ 3 * end.cast.setup.cluster.f + 1
+  pub all_replicas : (c : Cluster) (s : Script) (end : World Any) → run_in proto c s ≡ Ok end → length end.cast.replicas ≡ 3 * end.cast.setup.cluster.f + 1
   all_replicas c s end runs =
       let stays = run_stays s.events 1 (start proto (setup_in c s)) end runs in
-      stays.replicas ∙ first_length (run_setup (setup_in c s)) proto (3 * c.f + 1) ∙ ap (λ (x : Setup). 3 * x.cluster.f + 1) (sym stays.setup)
+      stays.replicas ∙ sites_length proto (setup_in c s) (3 * c.f + 1) ∙ ap (λ (x : Setup). 3 * x.cluster.f + 1) (sym stays.setup)
 
 -- ---- clusters of one size
 
@@ -204,7 +211,7 @@ one_cluster c d f n plan =
     (λ b. ap (of_size c.f c.clients c.plan) (bounds_once c.f c.clients c.in_bounds b)))) d.in_bounds
 
 -- the run of a schedule has one end
-pub one_end : (proto : Proto Member) (s : Script) (r q : Result (World Member) (ℕ × WorldFault)) → RunsTo proto s r → RunsTo proto s q → r ≡ q
+pub one_end : (proto : Proto Any) (s : Script) (r q : Result (World Any) (ℕ × WorldFault)) → RunsTo proto s r → RunsTo proto s q → r ≡ q
 one_end proto s r q a b =
     sym a.runs
     ∙ ap (λ (c : Cluster). run_in proto c s) (one_cluster a.cluster b.cluster (a.sized.f ∙ sym b.sized.f) (a.sized.clients ∙ sym b.sized.clients) (a.sized.plan ∙ sym b.sized.plan))
@@ -213,11 +220,11 @@ one_end proto s r q a b =
 -- ---- the run of a schedule
 
 -- a run from the world that the head of a schedule sets up, through its events
-pub runs_schedule : (proto : Proto Member) (head : Head) (events es : List Event) (found : List (Party × ℕ)) (x : Setup) (w : World Member) (end : Result (World Member) (ℕ × WorldFault))
-    → found ≡ head.faulty → x ≡ record { cluster = head.cluster; faulty = found } → w ≡ start proto x → es ≡ events
+pub runs_schedule : (proto : Proto Any) (head : Head) (events es : List Event) (found : List (Party × ℕ)) (x : Setup) (w : World Any) (end : Result (World Any) (ℕ × WorldFault))
+    → found ≡ head.faulty → x ≡ record { cluster = head.cluster; faulty = found; lms = head.lms } → w ≡ start proto x → es ≡ events
     → outcome proto 1 w es ≡ end → run_in proto head.cluster (script_of head events) ≡ end
 runs_schedule proto head events es found x w end faulty sets starts same is =
-    let begins : (ys : List (Party × ℕ)) → Setup = λ ys. record { cluster = head.cluster; faulty = ys } in
+    let begins : (ys : List (Party × ℕ)) → Setup = λ ys. record { cluster = head.cluster; faulty = ys; lms = head.lms } in
     ap (λ y. outcome proto 1 (start proto y) events) (sym (sets ∙ ap begins faulty))
     ∙ ap (λ v. outcome proto 1 v events) (sym starts)
     ∙ ap (outcome proto 1 w) (sym same)

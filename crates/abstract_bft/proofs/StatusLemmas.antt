@@ -4,14 +4,13 @@ use Rattle.std.proofs.Common.{Option, Some}
 use Rattle.std.specs.Io.KnownBytes.{Appends, Keeps}
 use Rattle.ab_num.specs.declared.plan.ServiceName.{ServiceName}
 use Rattle.ab_num.specs.declared.plan.ServiceName.TheVariants.{Echo, Kv}
-use Rattle.ab_abs.specs.Members.{Member}
 use Rattle.ab_svc.specs.Machines.{Machine}
-use Rattle.ab_quorum.specs.Rules.{quorum}
 use Rattle.ab_text.specs.declared.fault.TextFault.{TextFault}
 use Rattle.ab_text.specs.declared.line.Premise.{Premise}
 use Rattle.ab_text.specs.declared.line.Premise.TheVariants.{Held, Broken as NotHeld}
 use Rattle.ab_text.specs.Heads.{Script}
 use Rattle.ab_text.specs.Schedules.{ReadsText}
+use Rattle.abstract_bft.specs.Protocols.{Any, any}
 use Rattle.abstract_bft.specs.declared.status.Bound.TheVariants.{Bytes, Events, Packets}
 use Rattle.abstract_bft.specs.declared.status.Refusal.{Refusal}
 use Rattle.abstract_bft.specs.declared.status.Status.{Status}
@@ -31,14 +30,14 @@ use Rattle.abstract_bft.proofs.RunLemmas.{one_end}
 use Rattle.abstract_bft.specs.Statuses.{Call, IsReplay, StatusCause, Says, SaysNoMemoryOn, Settles, HasCauseOf, HasFront, HasReport, IsClear, IsClearForKeys, premise_code}
 
 -- a run has one end
-said_at : {S : Type 0} (machine : Machine S) (s : Script) (report : List ℕ) (held : Bool) (end : World Member) → Performs machine s report held → RunsTo (quorum machine) s (Ok end)
+said_at : {S : Type 0} (machine : Machine S) (s : Script) (report : List ℕ) (held : Bool) (end : World Any) → Performs machine s report held → RunsTo (any machine) s (Ok end)
     → IsTrue held ↔ (premise_of end ≡ Held)
 said_at machine s report held end performs runs =
-    let both : ◌≡◌ {A = Result (World Member) (ℕ × WorldFault)} (Ok performs.end) (Ok end) = one_end (quorum machine) s (Ok performs.end) (Ok end) (record { cluster = performs.cluster; sized = performs.sized; runs = performs.runs }) runs in
+    let both : ◌≡◌ {A = Result (World Any) (ℕ × WorldFault)} (Ok performs.end) (Ok end) = one_end (any machine) s (Ok performs.end) (Ok end) (record { cluster = performs.cluster; sized = performs.sized; runs = performs.runs }) runs in
     let same : performs.end ≡ end = cc (both) in
-    subst (λ (w : World Member). IsTrue held ↔ (premise_of w ≡ Held)) same performs.says
+    subst (λ (w : World Any). IsTrue held ↔ (premise_of w ≡ Held)) same performs.says
 
-said_of : (service : ServiceName) (s : Script) (report : List ℕ) (held : Bool) (end : World Member) → PerformsAs service s report held
+said_of : (service : ServiceName) (s : Script) (report : List ℕ) (held : Bool) (end : World Any) → PerformsAs service s report held
     → RunsTo (proto_of service) s (Ok end) → IsTrue held ↔ (premise_of end ≡ Held)
 said_of Echo s report held end performs runs = said_at _ s report held end performs runs
 said_of Kv s report held end performs runs = said_at _ s report held end performs runs
@@ -60,7 +59,7 @@ module _ (one : (text : List ℕ) (r q : Result Script TextFault) → ReadsText 
   not_ended text s n f same reads ends =
       let e : Ok s ≡ Ok clear.schedule = one clear.text (Ok s) (Ok clear.schedule) (subst (λ t. ReadsText t (Ok s)) same reads) clear.reads in
       let is : s ≡ clear.schedule = cc in
-      let o : ◌≡◌ {A = Result (World Member) (ℕ × WorldFault)} (Err (n, f)) (Ok clear.end) = one_end (proto_of clear.schedule.service) clear.schedule (Err (n, f)) (Ok clear.end) (subst (λ (q : Script). Runs q (Err (n, f))) is ends) clear.runs in cc (o)
+      let o : ◌≡◌ {A = Result (World Any) (ℕ × WorldFault)} (Err (n, f)) (Ok clear.end) = one_end (proto_of clear.schedule.service) clear.schedule (Err (n, f)) (Ok clear.end) (subst (λ (q : Script). Runs q (Err (n, f))) is ends) clear.runs in cc (o)
 
   not_refused : (text : List ℕ) (r : Refusal) → text ≡ clear.text → IsRefused text r → ⊥
   not_refused text r same refused =

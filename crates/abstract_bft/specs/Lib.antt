@@ -1,4 +1,5 @@
 pub mod KeyCommands
+pub mod Protocols
 pub mod Replays
 pub mod Statuses
 pub mod Streams

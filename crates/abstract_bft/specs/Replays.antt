@@ -14,13 +14,11 @@ use Rattle.ab_svc.specs.Echoes.{echo_machine}
 use Rattle.ab_kv.specs.KvMachines.{kv_machine}
 use Rattle.ab_num.specs.declared.cluster.Cluster.{Cluster}
 use Rattle.ab_text.specs.declared.line.Premise.{Premise}
-use Rattle.ab_msg.specs.Grammar.{spell_content}
+use Rattle.ab_msg.specs.Contents.{spell_content}
 use Rattle.ab_abs.specs.Ensembles.{Proto}
 use Rattle.ab_abs.specs.Instances.{EachIsAbstract}
-use Rattle.ab_abs.specs.Members.{Member, member_state}
 use Rattle.ab_abs.specs.Order.{Ordered}
-use Rattle.ab_quorum.specs.Rules.{quorum}
-use Rattle.ab_run.specs.Replicas.{Rep}
+use Rattle.ab_replica.specs.Sites.{Site}
 use Rattle.ab_run.specs.Stages.{all_seen, named_on, stage_over}
 use Rattle.ab_premise.specs.Premises.{IsPremise}
 use Rattle.ab_cast.specs.Setups.{Setup, run_setup, is_bad}
@@ -33,15 +31,16 @@ use Rattle.abstract_bft.specs.declared.status.Cause.TheVariants.{BadLine, NoEnd,
 use Rattle.abstract_bft.specs.declared.status.Refusal.{Refusal}
 use Rattle.abstract_bft.specs.declared.replay.ReplayFault.{ReplayFault}
 use Rattle.abstract_bft.specs.declared.replay.ReplayFault.TheVariants as replaying
+use Rattle.abstract_bft.specs.Protocols.{Any, any}
 use Rattle.abstract_bft.specs.Streams.{IsAllOf, IsTooLong}
 use Rattle.ab_io.specs.Causes.{Rose}
 
 -- ---- runs
 
 -- the protocol of replicas that serve this
-abbrev pub proto_of : ServiceName → Proto Member
-proto_of Echo = quorum echo_machine
-proto_of Kv = quorum kv_machine
+abbrev pub proto_of : ServiceName → Proto Any
+proto_of Echo = any echo_machine
+proto_of Kv = any kv_machine
 
 -- the cluster of a schedule
 pub record IsClusterOf (c : Cluster) (s : Script) : Type 0 where
@@ -50,33 +49,33 @@ pub record IsClusterOf (c : Cluster) (s : Script) : Type 0 where
   pub plan : c.plan ≡ s.plan
 
 abbrev pub setup_in : Cluster → Script → Setup
-setup_in c s = record { cluster = c; faulty = s.faulty }
+setup_in c s = record { cluster = c; faulty = s.faulty; lms = s.lms }
 
 -- the world after all events of a schedule in a cluster, under a protocol, or the first refusal with its event's number
-abbrev pub run_in : Proto Member → Cluster → Script → Result (World Member) (ℕ × WorldFault)
+abbrev pub run_in : Proto Any → Cluster → Script → Result (World Any) (ℕ × WorldFault)
 run_in proto c s = outcome proto 1 (start proto (setup_in c s)) s.events
 
 -- the run of a schedule, in its cluster, comes to this
-pub record RunsTo (proto : Proto Member) (s : Script) (r : Result (World Member) (ℕ × WorldFault)) : Type 0 where
+pub record RunsTo (proto : Proto Any) (s : Script) (r : Result (World Any) (ℕ × WorldFault)) : Type 0 where
   pub cluster : Cluster
   pub sized : IsClusterOf cluster s
   pub runs : run_in proto cluster s ≡ r
 
-abbrev pub Runs : Script → Result (World Member) (ℕ × WorldFault) → Type 0
+abbrev pub Runs : Script → Result (World Any) (ℕ × WorldFault) → Type 0
 Runs s r = RunsTo (proto_of s.service) s r
 
 -- ---- reports
 
-abbrev pub log_of : ℕ → Rep Member → Log
-log_of r s = record { replica = r; instance = s.at; entries = entries_of (member_state s.value).log }
+abbrev pub log_of : Proto Any → ℕ → Site Any → Log
+log_of proto r s = record { replica = r; instance = s.rep.at; entries = entries_of (proto.state s.rep.value).log }
 
 -- the logs of the correct replicas from number r on
-abbrev pub logs_from : Setup → ℕ → List (Rep Member) → List Log
-logs_from x r [] = []
-logs_from x r (s ∷ rest) = if is_bad x (Replica r) then logs_from x (r + 1) rest else log_of r s ∷ logs_from x (r + 1) rest
+abbrev pub logs_from : Proto Any → Setup → ℕ → List (Site Any) → List Log
+logs_from proto x r [] = []
+logs_from proto x r (s ∷ rest) = if is_bad x (Replica r) then logs_from proto x (r + 1) rest else log_of proto r s ∷ logs_from proto x (r + 1) rest
 
-abbrev pub report_of : World Member → List ℕ
-report_of w = report_text w.lines (logs_from w.cast.setup 0 w.cast.replicas) (premise_of w) w.cast.events (length w.packets)
+abbrev pub report_of : Proto Any → World Any → List ℕ
+report_of proto w = report_text w.lines (logs_from proto w.cast.setup 0 w.cast.replicas) (premise_of w) w.cast.events (length w.packets)
 
 -- ---- what a run promises
 
@@ -84,10 +83,10 @@ report_of w = report_text w.lines (logs_from w.cast.setup 0 w.cast.replicas) (pr
 -- replica in each instance. In its cluster the run is that of the stage
 pub record KeepsPromises {S : Type 0} (machine : Machine S) (c : Cluster) (s : Script) : Type 0 where
   pub ordered : let x = setup_in c s in
-      let end = stage_over (run_setup x) (quorum machine) spell_content (opener x) (inputs_of (quorum machine) (start (quorum machine) x) s.events) in
+      let end = stage_over (run_setup x) (any machine) spell_content (opener x) (inputs_of (any machine) (start (any machine) x) s.events) in
       Ordered machine (all_seen end) (named_on (run_setup x) end) (run_setup x).faulty
   pub instances : let x = setup_in c s in
-      let end = stage_over (run_setup x) (quorum machine) spell_content (opener x) (inputs_of (quorum machine) (start (quorum machine) x) s.events) in
+      let end = stage_over (run_setup x) (any machine) spell_content (opener x) (inputs_of (any machine) (start (any machine) x) s.events) in
       EachIsAbstract machine (all_seen end) (named_on (run_setup x) end) (run_setup x).faulty
 
 -- the run of a schedule with a service leads here, and this is its report. Its premise line is that of the run, to the letter, and
@@ -95,12 +94,12 @@ pub record KeepsPromises {S : Type 0} (machine : Machine S) (c : Cluster) (s : S
 pub record Performs {S : Type 0} (machine : Machine S) (s : Script) (report : List ℕ) (held : Bool) : Type 0 where
   pub cluster : Cluster
   pub sized : IsClusterOf cluster s
-  pub end : World Member
-  pub runs : run_in (quorum machine) cluster s ≡ Ok end
-  pub reports : report ≡ report_of end
+  pub end : World Any
+  pub runs : run_in (any machine) cluster s ≡ Ok end
+  pub reports : report ≡ report_of (any machine) end
   pub says : IsTrue held ↔ (premise_of end ≡ Held)
   pub exact : (line : Premise) → (premise_of end ≡ line)
-      ↔ IsPremise (run_setup (setup_in cluster s)) (quorum machine) (opener (setup_in cluster s)) s.faulty (came_to (quorum machine) (setup_in cluster s) s.events) line
+      ↔ IsPremise (run_setup (setup_in cluster s)) (any machine) (opener (setup_in cluster s)) s.faulty (came_to (any machine) (setup_in cluster s) s.events) line
   pub promises : premise_of end ≡ Held → KeepsPromises machine cluster s
 
 -- the same with the service that is named
@@ -176,7 +175,7 @@ pub record HasTooManyBytes (text : List ℕ) : Type 0 where
   pub runs : Runs schedule (Err (event, world_fault.PacketLimit))
 
 -- when each fault of a run over events comes, where the first of them stands in the line after this one
-abbrev pub EventsCause : ReplayFault → ℕ → Result (World Member) (ℕ × WorldFault) → Type 0
+abbrev pub EventsCause : ReplayFault → ℕ → Result (World Any) (ℕ × WorldFault) → Type 0
 EventsCause (replaying.Refused r) line o = (n : ℕ) × (f : WorldFault) × (o ≡ Err (n, f)) × (step_refusal (line + n) f ≡ Some r)
 EventsCause replaying.OutOfMemory line o = ⊤
 EventsCause replaying.TooManyPackets line o = (n : ℕ) × (o ≡ Err (n, world_fault.PacketLimit))

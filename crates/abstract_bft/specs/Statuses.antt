@@ -7,7 +7,6 @@ use Rattle.abstract_bft.specs.declared.status.Status.{Status}
 use Rattle.abstract_bft.specs.declared.status.Status.TheVariants.{Done, Broken, Usage, Refused, ReadFault, WriteFault, Limit, OutOfMemory}
 use Rattle.abstract_bft.specs.Texts.{code_of, text_of}
 use Rattle.abstract_bft.specs.Streams.{IsAllOf, IsTooLong, AppendsFront, AppendsPart}
-use Rattle.ab_abs.specs.Members.{Member}
 use Rattle.ab_text.specs.Heads.{Script}
 use Rattle.ab_text.specs.Schedules.{ReadsText}
 use Rattle.ab_text.specs.declared.line.Premise.{Premise}
@@ -16,6 +15,7 @@ use Rattle.ab_world.specs.Worlds.{World, premise_of}
 use Rattle.ab_words.specs.Commands.{KeysCommand}
 use Rattle.ab_words.specs.Language.{command_in}
 use Rattle.ab_words.specs.declared.command.Command.TheVariants.{Replay}
+use Rattle.abstract_bft.specs.Protocols.{Any}
 use Rattle.abstract_bft.specs.KeyCommands.{AsksKeys, IsNoCommand, key_text}
 use Rattle.abstract_bft.specs.Replays.{Replays, IsRefused, HasTooManyEvents, HasTooManyBytes, Runs}
 
@@ -96,7 +96,7 @@ pub record IsClear (c : Call) : Type 0 where
   pub words : IsReplay c.words
   pub text : List ℕ
   pub schedule : Script
-  pub end : World Member
+  pub end : World Any
   pub input : c.left ≡ Some text
   pub short : length text ≤ 67108864
   pub reads : ReadsText text (Ok schedule)

@@ -2,10 +2,10 @@
 
 ghost use Rattle.std.specs.Prelude.{◌≡◌, ◌↔◌, ℕ, List, ◌+◌, ◌<◌, ◌≤◌, ◌^◌, All, length, IsTrue, OnOk, IfOk, IfErr, Ok, None};
 ghost use Rattle.ab_text.specs.Schedules.{script_of};
-ghost use Rattle.ab_num.specs.Places.{kind_of};
-ghost use Rattle.ab_quorum.specs.Rules.{quorum, is_quorum};
+ghost use Rattle.ab_abs.specs.Promises.{ServesAll};
 ghost use Rattle.ab_keys.specs.Keys.{is_party};
 ghost use Rattle.ab_world.specs.Runs.{outcome};
+ghost use Rattle.abstract_bft.specs.Protocols.{any, is_served};
 ghost use Rattle.abstract_bft.specs.Replays.{run_in, Performs, Replays, EventsCause, TextCause, ReplayCause, fault_from, text_refusal, step_refusal};
 ghost use Rattle.abstract_bft.specs.Streams.{IsAllOf};
 
@@ -13,6 +13,8 @@ use crate::report::report;
 use crate::status::{Cause, Refusal};
 use crate::stream::{ReadFault, read_all};
 use ab_cast::Setup;
+use ab_chain::Chain;
+use ab_choice::Choice;
 use ab_io::Source;
 use ab_kv::Kv;
 use ab_num::{OutOfMemory, ServiceName};
@@ -20,10 +22,14 @@ use ab_quorum::Quorum;
 use ab_svc::{Echo, Service};
 use ab_text::{Event, Premise, Schedule, TextFault, read_is_in_form, read_schedule};
 use ab_world::{World, WorldFault, premise_is_exact, worlds_keep_promises};
+use ab_zlight::ZLight;
 use std::alloc::Global;
 
-/// A cluster under the plan `quorum`.
-pub(crate) type QuorumWorld<S> = World<S, Quorum<S>>;
+/// The protocol of each kind of instance that is built.
+type AnyProtocol<S> = Choice<Quorum<S>, Choice<ZLight<S>, Chain<S>>>;
+
+/// A cluster under any plan that is built.
+pub(crate) type AnyWorld<S> = World<S, AnyProtocol<S>>;
 
 /// How many events a schedule may have.
 const MOST_EVENTS: usize = 100_000;
@@ -101,15 +107,15 @@ fn fault_of(refusal: Option<Refusal>) -> ReplayFault
 /// Steps through the events, the first of which stands in the line after this one.
 fn run_events<S: Service>(
     alloc: Global,
-    world: &mut QuorumWorld<S>,
+    world: &mut AnyWorld<S>,
     events: &[Event],
     line: u32,
 ) -> Result<(), ReplayFault>
     requires few { length events.now < 100001 }
     requires begins { (world.old.cast.events ≡ 0) × (world.old.ended ≡ None) }
     requires short { line < 2 ^ 31 }
-    ensures ok { OnOk result (outcome (quorum S.machine) 1 world.old events.now ≡ Ok world.new) }
-    ensures cause { IfErr result (λ e. EventsCause e line (outcome (quorum S.machine) 1 world.old events.now)) }
+    ensures ok { OnOk result (outcome (any S.machine) 1 world.old events.now ≡ Ok world.new) }
+    ensures cause { IfErr result (λ e. EventsCause e line (outcome (any S.machine) 1 world.old events.now)) }
 {
     for (i, e) in events.iter().enumerate() {
         match world.step(alloc, e) {
@@ -136,26 +142,26 @@ fn is_held(premise: &Premise) -> bool
     matches!(premise, Premise::Held)
 }
 
-/// The report of a schedule of few events under the plan `quorum`, with a service. The first event
+/// The report of a schedule of few events under a plan that is built, with a service. The first event
 /// stands in the line after this one.
 fn perform<S: Service>(
     alloc: Global,
     schedule: &Schedule,
     line: u32,
 ) -> Result<Replayed, ReplayFault>
-    requires served { (i : ℕ) → IsTrue (is_quorum (kind_of schedule.now.head.cluster.plan i)) }
+    requires served { ServesAll is_served schedule.now.head.cluster }
     requires parties { All (λ e. IsTrue (is_party schedule.now.head.cluster.f schedule.now.head.cluster.clients e.0)) schedule.now.head.faulty }
     requires few { length schedule.now.events < 100001 }
     requires short { line < 2 ^ 31 }
     ensures ok { IfOk result (λ v. Performs S.machine (script_of schedule.now.head schedule.now.events) v.report.items v.held) }
-    ensures cause { IfErr result (λ e. EventsCause e line (run_in (quorum S.machine) schedule.now.head.cluster (script_of schedule.now.head schedule.now.events))) }
+    ensures cause { IfErr result (λ e. EventsCause e line (run_in (any S.machine) schedule.now.head.cluster (script_of schedule.now.head schedule.now.events))) }
 {
     let head = &schedule.head;
-    let setup = Setup::new(alloc, &head.cluster, head.faulty.as_slice())?;
-    let mut world = QuorumWorld::<S>::new(alloc, setup)?;
+    let setup = Setup::new(alloc, &head.cluster, head.faulty.as_slice(), head.lms)?;
+    let mut world = AnyWorld::<S>::new(alloc, setup)?;
     run_events(alloc, &mut world, schedule.events.as_slice(), line)?;
-    premise_is_exact::<S, Quorum<S>>();
-    worlds_keep_promises::<S, Quorum<S>>();
+    premise_is_exact::<S, AnyProtocol<S>>();
+    worlds_keep_promises::<S, AnyProtocol<S>>();
     Ok(Replayed {
         report: report(alloc, &world)?,
         held: is_held(&world.premise()),
@@ -175,7 +181,7 @@ fn simulate(alloc: Global, text: &[u8]) -> Result<Replayed, ReplayFault>
     if schedule.events.as_slice().len() > MOST_EVENTS {
         return Err(ReplayFault::TooManyEvents);
     }
-    // What was read is in form: the plan is `quorum`, and faulty parties are of the cluster.
+    // What was read is in form: the plan is built, and faulty parties are of the cluster.
     read_is_in_form();
     let line = 7 + schedule.head.faulty.as_slice().len() as u32;
     match schedule.head.service {

@@ -2,9 +2,10 @@
 
 ghost use Rattle.std.specs.Prelude.{◌≡◌, ◌<◌, ◌+◌, ◌*◌, ◌++◌, IfOk, IfSome, OnOk, flat_map, length, slice_get};
 ghost use Rattle.ab_text.specs.Reports.{line_text, log_text};
+ghost use Rattle.abstract_bft.specs.Protocols.{any};
 ghost use Rattle.abstract_bft.specs.Replays.{report_of, log_of, logs_from};
 
-use crate::replay::QuorumWorld;
+use crate::replay::AnyWorld;
 use ab_num::{OutOfMemory, Party};
 use ab_svc::Service;
 use ab_text::{Line, write_end, write_log, write_premise, write_seen};
@@ -25,11 +26,11 @@ fn write_lines(alloc: Global, out: &mut Vec<u8>, lines: &[Line]) -> Result<(), O
 fn write_log_of<S: Service>(
     alloc: Global,
     out: &mut Vec<u8>,
-    world: &QuorumWorld<S>,
+    world: &AnyWorld<S>,
     r: u8,
 ) -> Result<(), OutOfMemory>
     requires { r < length world.now.cast.replicas }
-    ensures { OnOk result (IfSome (slice_get world.now.cast.replicas r) (λ s. out.new.items ≡ out.old.items ++ log_text (log_of r s))) }
+    ensures { OnOk result (IfSome (slice_get world.now.cast.replicas r) (λ s. out.new.items ≡ out.old.items ++ log_text (log_of (any S.machine) r s))) }
 {
     let Some(instance) = world.instance_of(r) else {
         unreachable!()
@@ -45,10 +46,10 @@ fn write_log_of<S: Service>(
 fn write_logs<S: Service>(
     alloc: Global,
     out: &mut Vec<u8>,
-    world: &QuorumWorld<S>,
+    world: &AnyWorld<S>,
 ) -> Result<(), OutOfMemory>
     requires { length world.now.cast.replicas ≡ 3 * world.now.cast.setup.cluster.f + 1 }
-    ensures { OnOk result (out.new.items ≡ out.old.items ++ flat_map log_text (logs_from world.now.cast.setup 0 world.now.cast.replicas)) }
+    ensures { OnOk result (out.new.items ≡ out.old.items ++ flat_map log_text (logs_from (any S.machine) world.now.cast.setup 0 world.now.cast.replicas)) }
 {
     for r in 0..world.setup().cluster().replicas() {
         if !world.setup().is_faulty(Party::Replica(r)) {
@@ -61,10 +62,10 @@ fn write_logs<S: Service>(
 /// The report of a run that the world is at the end of.
 pub(crate) fn report<S: Service>(
     alloc: Global,
-    world: &QuorumWorld<S>,
+    world: &AnyWorld<S>,
 ) -> Result<Vec<u8>, OutOfMemory>
     requires { length world.now.cast.replicas ≡ 3 * world.now.cast.setup.cluster.f + 1 }
-    ensures { IfOk result (λ v. v.items ≡ report_of world.now) }
+    ensures { IfOk result (λ v. v.items ≡ report_of (any S.machine) world.now) }
 {
     let mut out = Vec::new(alloc);
     write_lines(alloc, &mut out, world.seen())?;

@@ -1,11 +1,11 @@
 //! Runs over objects in memory.
 
-use crate::replay::QuorumWorld;
+use crate::replay::AnyWorld;
 use crate::top::run;
 use ab_cast::Setup;
 use ab_hist::array_of;
 use ab_io::{MemClock, MemLink, MemSink, MemSource, SureSink, SureSource};
-use ab_num::{Cluster, Party, Plan};
+use ab_num::{Cluster, Height, Party, Plan};
 use ab_svc::Echo;
 use ab_text::{Core, Event};
 use std::alloc::Global;
@@ -321,7 +321,7 @@ fn faults_of_the_streams_are_said(rt: HostRuntime) -> Result<(), Fail> {
 }
 
 /// Which of the first three clients have no request open.
-fn idle(world: &QuorumWorld<Echo>) -> (bool, bool, bool) {
+fn idle(world: &AnyWorld<Echo>) -> (bool, bool, bool) {
     let idle = world.idle();
     (idle[0], idle[1], idle[2])
 }
@@ -332,7 +332,7 @@ fn a_world_shows_itself(rt: HostRuntime) -> Result<(), Fail> {
     let Some(c) = Cluster::new(1, 2, Plan::Quorum) else {
         return Err(Fail::from("in bounds"));
     };
-    let mut world = QuorumWorld::<Echo>::new(alloc, Setup::new(alloc, &c, &[])?)?;
+    let mut world = AnyWorld::<Echo>::new(alloc, Setup::new(alloc, &c, &[], Height::Five)?)?;
     assert_eq!(rt; idle(&world), (true, true, false));
     let invoke = Event::Invoke {
         core: Core {

@@ -2,7 +2,7 @@
 
 use crate::{Place, Setup, faulty_parties_have_their_cores};
 use ab_keys::is_party;
-use ab_num::{Cluster, Party, Plan};
+use ab_num::{Cluster, Height, Party, Plan};
 use std::test::Fail;
 
 /// The tag of the text from c0 to r1 under the keys of the seed of 32 zeros.
@@ -22,7 +22,12 @@ fn setup(rt: &HostRuntime, first: (Party, u8), second: (Party, u8)) -> Result<Se
     if !is_party(&cluster, first.0) || !is_party(&cluster, second.0) {
         return Err(Fail::from("both are parties"));
     }
-    Ok(Setup::new(rt.alloc(), &cluster, &[first, second])?)
+    Ok(Setup::new(
+        rt.alloc(),
+        &cluster,
+        &[first, second],
+        Height::Five,
+    )?)
 }
 
 #[test]

@@ -1,16 +1,16 @@
 use Rattle.std.proofs.Common.{◌≡◌, ◌+◌, ◌<◌, ◌∷◌, ℕ, List, Ok, arith, sym, ap, ◌∙◌, drop, subst}
 use Rattle.std.proofs.lemmas.List.{at_drop_more}
 use Rattle.ab_text.specs.declared.event.Event.{Event}
-use Rattle.ab_quorum.specs.Rules.{quorum}
 use Rattle.ab_world.specs.declared.fault.WorldFault.{WorldFault}
 use Rattle.ab_world.specs.Steps.{Cause}
 use Rattle.ab_world.specs.Runs.{outcome, refused_or}
+use Rattle.abstract_bft.specs.Protocols.{any}
 use Rattle.abstract_bft.proofs.RunLemmas.{no_limit, step_steps}
 use Rattle.abstract_bft.proofs.replay.run_events.Goals as goal
 
 pub loop-i-preserved : goal.loop-i-preserved
 loop-i-preserved g c =
-    let proto = quorum g.S.Service.machine in
+    let proto = any g.S.Service.machine in
     let i = c.loop-i.i in
     let e = c.index-events-i.result in
     let events = c.args.events.now in
@@ -27,5 +27,5 @@ loop-i-preserved g c =
 
 pub unreachable-requires : goal.unreachable-requires
 unreachable-requires g c =
-    no_limit (quorum g.S.Service.machine) c.loop-i.world c.index-events-i.result c.loop-i.invariant.goes (omega (arith, c.loop-i.invariant.counted, c.loop-i-test.true, c.requires.few))
-    (subst (λ (f : WorldFault). Cause (quorum g.S.Service.machine) f c.loop-i.world c.index-events-i.result) c.in-Err-EventLimit.field-0-is c.in-Err-EventLimit.ensures.cause)
+    no_limit (any g.S.Service.machine) c.loop-i.world c.index-events-i.result c.loop-i.invariant.goes (omega (arith, c.loop-i.invariant.counted, c.loop-i-test.true, c.requires.few))
+    (subst (λ (f : WorldFault). Cause (any g.S.Service.machine) f c.loop-i.world c.index-events-i.result) c.in-Err-EventLimit.field-0-is c.in-Err-EventLimit.ensures.cause)

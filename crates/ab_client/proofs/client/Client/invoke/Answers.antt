@@ -2,7 +2,7 @@ use Rattle.std.proofs.Common.{◌≡◌, ◌+◌, ◌^◌, ◌<◌, ◌≤◌, A
 use Rattle.ab_hist.specs.declared.request.Request.{Request}
 use Rattle.ab_msg.specs.Grammar.{IsDraft}
 use Rattle.ab_client.specs.Clients.{Seat, request_msg}
-use Rattle.ab_client.specs.Drafts.{IsDraftOf}
+use Rattle.ab_run.specs.Forms.{IsDraftOf}
 use Rattle.ab_num.specs.declared.party.Party.TheVariants.{Client}
 use Rattle.ab_client.proofs.Targets.{requests_are_drafts}
 use Rattle.ab_client.proofs.client.Client.invoke.Goals as goal

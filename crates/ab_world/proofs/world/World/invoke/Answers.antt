@@ -140,12 +140,12 @@ returns-in-Ok-clause-ok g c =
     let h : Happening = record { place = at; given = ask cmd } in
     let happens : happening w (Invoke core cmd) ≡ Ok h = asks ∙ ap (λ o. refuse_command o at cmd) (c.in-Ok.ensures.idle s there) in
     let taken = subst (λ (b : ArrayVec ℕ). IsTaken proto w.cast at s (command b) c.invoke.new.self c.in-Ok.effects.outs c.in-Ok.effects.marks.items c.in-Ok.effects.spent) same (c.in-Ok.ensures.taken s there) in
-    let handed = Heard None None c.in-Ok.effects in
+    let handed = Heard None c.none.result c.in-Ok.effects in
     let new = c.invoke.new.self in
     let before : c.standing-before.result ≡ standing proto w.cast (party_at at) = c.standing-before.ensures ∙ ap (λ p. standing proto w.cast p) c.party.ensures in
     let is : finished proto (record w { cast = new }) c.party-in-Ok.result c.standing-before.result handed ≡ after proto w h =
     (λ j. finished proto (record w { cast = new }) (c.party-in-Ok.ensures j) (before j) handed)
-    ∙ asked_is proto w at cmd s new c.in-Ok.effects there taken in
+    ∙ asked_is proto w at cmd s new c.in-Ok.effects c.none.result there c.none.ensures.histories c.none.ensures.requests taken in
     subst (λ (v : World g.row.P.Denot). OnOk c.finish.result (stepped_by proto v (happening v (Invoke core cmd)) ≡ Ok c.finish.new.self)) c.self.view_is
     (on_ok_weaker c.finish.result (λ both. ap (stepped_by proto w) happens ∙ within_is proto w c.finish.new.self h (both.0 ∙ is) both.1) c.finish.ensures.ok)
 
@@ -178,12 +178,12 @@ returns-in-Ok-clause-cause g c =
     let h : Happening = record { place = at; given = ask cmd } in
     let happens : happening w (Invoke core cmd) ≡ Ok h = asks ∙ ap (λ o. refuse_command o at cmd) (c.in-Ok.ensures.idle s there) in
     let taken = subst (λ (b : ArrayVec ℕ). IsTaken proto w.cast at s (command b) c.invoke.new.self c.in-Ok.effects.outs c.in-Ok.effects.marks.items c.in-Ok.effects.spent) same (c.in-Ok.ensures.taken s there) in
-    let handed = Heard None None c.in-Ok.effects in
+    let handed = Heard None c.none.result c.in-Ok.effects in
     let new = c.invoke.new.self in
     let before : c.standing-before.result ≡ standing proto w.cast (party_at at) = c.standing-before.ensures ∙ ap (λ p. standing proto w.cast p) c.party.ensures in
     let is : finished proto (record w { cast = new }) c.party-in-Ok.result c.standing-before.result handed ≡ after proto w h =
     (λ j. finished proto (record w { cast = new }) (c.party-in-Ok.ensures j) (before j) handed)
-    ∙ asked_is proto w at cmd s new c.in-Ok.effects there taken in
+    ∙ asked_is proto w at cmd s new c.in-Ok.effects c.none.result there c.none.ensures.histories c.none.ensures.requests taken in
     let end = finished proto (record w { cast = new }) c.party-in-Ok.result c.standing-before.result handed in
     subst (λ (v : World g.row.P.Denot). IfErr c.finish.result (λ f. CauseIn proto f v (happening v (Invoke core cmd)))) c.self.view_is
     (if_err_then c.finish.result (λ f. SettleCause f end) (λ f. CauseIn proto f w (happening w (Invoke core cmd)))
@@ -218,12 +218,12 @@ returns-in-Ok-clause-err g c =
     let h : Happening = record { place = at; given = ask cmd } in
     let happens : happening w (Invoke core cmd) ≡ Ok h = asks ∙ ap (λ o. refuse_command o at cmd) (c.in-Ok.ensures.idle s there) in
     let taken = subst (λ (b : ArrayVec ℕ). IsTaken proto w.cast at s (command b) c.invoke.new.self c.in-Ok.effects.outs c.in-Ok.effects.marks.items c.in-Ok.effects.spent) same (c.in-Ok.ensures.taken s there) in
-    let handed = Heard None None c.in-Ok.effects in
+    let handed = Heard None c.none.result c.in-Ok.effects in
     let new = c.invoke.new.self in
     let before : c.standing-before.result ≡ standing proto w.cast (party_at at) = c.standing-before.ensures ∙ ap (λ p. standing proto w.cast p) c.party.ensures in
     let is : finished proto (record w { cast = new }) c.party-in-Ok.result c.standing-before.result handed ≡ after proto w h =
     (λ j. finished proto (record w { cast = new }) (c.party-in-Ok.ensures j) (before j) handed)
-    ∙ asked_is proto w at cmd s new c.in-Ok.effects there taken in
+    ∙ asked_is proto w at cmd s new c.in-Ok.effects c.none.result there c.none.ensures.histories c.none.ensures.requests taken in
     let end = finished proto (record w { cast = new }) c.party-in-Ok.result c.standing-before.result handed in
     let stays = ap (λ x. x.setup) taken.after ∙ core_setup w.cast at (core_after w.cast.setup proto (party_at at) s (command cmd)) in
     subst (λ (v : World g.row.P.Denot). IfErr c.finish.result (λ f. Leaves f v c.finish.new.self)) c.self.view_is

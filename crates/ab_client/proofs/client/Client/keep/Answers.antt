@@ -1,0 +1,4 @@
+use Rattle.ab_client.proofs.client.Client.keep.Goals as goal
+
+pub invariant_of-self-2 : goal.invariant_of-self-2
+invariant_of-self-2 c = ?

@@ -1,0 +1,23 @@
+-- The protocol of each kind of instance that is built.
+use Rattle.std.specs.Prelude.{Bool}
+use Rattle.ab_num.specs.declared.plan.Kind.{Kind}
+use Rattle.ab_svc.specs.Machines.{Machine}
+use Rattle.ab_abs.specs.Ensembles.{Proto}
+use Rattle.ab_abs.specs.Members.{Member}
+use Rattle.ab_quorum.specs.Rules.{quorum, is_quorum}
+use Rattle.ab_zlight.specs.Rules.{Light, zlight, is_zlight}
+use Rattle.ab_chain.specs.Rules.{Link, chain, is_chain}
+use Rattle.ab_choice.specs.declared.choice.Choice.{Choice}
+use Rattle.ab_choice.specs.Rules.{choice, either}
+
+-- a replica of Quorum, of ZLight or of Chain
+abbrev pub Any : Type 0
+Any = Choice Member (Choice Light Link)
+
+-- it goes by the rules of its instance's kind
+abbrev pub any : {S : Type 0} → Machine S → Proto Any
+any machine = choice (quorum machine) (choice (zlight machine) (chain machine) is_zlight) is_quorum
+
+-- the kinds that have a protocol
+abbrev pub is_served : Kind → Bool
+is_served = either is_quorum (either is_zlight is_chain)
