@@ -173,7 +173,7 @@ fn chain_at_client<'a>(
                 d,
                 reply: Some(reply),
             };
-            along(k, None, link, 3 * k.f + 1)
+            along(k, None, link, 3 * k.f + 2)
         }
         None => ClaimRefs::of(None, None, none_passed(k), none(), none_prepared(), none()),
     }

@@ -101,7 +101,7 @@ fn has_prepares<'a>(k: &Cluster, prepares: ListRef<'a, PreparesRef<'a>>) -> bool
     ensures { result ≡ list_all (is_party k.now.f k.now.clients) (flat_map signers_of (listed prepares_at prepares.entry.count prepares.entry.bytes.now)) }
 {
     'prepares: for slot in prepares {
-        if !has_signers(k, slot.by) && k.f > 2 {
+        if !has_signers(k, slot.by) {
             return false;
         }
     }

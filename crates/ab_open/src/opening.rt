@@ -27,7 +27,7 @@ pub fn open<'a, C: Checker>(
     ensures same { C.judge c.new ≡ C.judge c.old }
 {
     let msg = read(bytes)?;
-    if check(alloc, c, k, me, &msg).is_ok() && !takes(k, me, &msg) {
+    if !takes(k, me, &msg) {
         return Err(OpenFault::NotMine);
     }
     match check(alloc, c, k, me, &msg) {

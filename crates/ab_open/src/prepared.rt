@@ -92,7 +92,7 @@ fn to_next_slot<'a>(p: &mut PreparedRef<'a>) -> bool
     match p.entries.next() {
         Some(e) => match p.prepares.next() {
             Some(s) => {
-                p.view = p.instance;
+                p.view = e.view;
                 p.slot = p.next;
                 p.x = e.x;
                 p.by = s.by;

@@ -46,7 +46,7 @@ impl<'a> Iterator for Stated<'a> {
 
     fn next(&mut self) -> Option<(Party, StatedBytes<'a>)> {
         match self.claims.next() {
-            Some(claim) => Some((Party::Client(0), claim.bytes())),
+            Some(claim) => Some((claim.maker(), claim.bytes())),
             None => None,
         }
     }

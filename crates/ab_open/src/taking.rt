@@ -21,7 +21,7 @@ fn is_answer_to(me: Party, given: &ContentRef<'_>) -> bool
     ensures { result ≡ goes_to_client (shown given.now) me }
 {
     match (me, given) {
-        (Party::Client(c), ContentRef::Resp { client, .. }) => *client >= c,
+        (Party::Client(c), ContentRef::Resp { client, .. }) => *client == c,
         _ => false,
     }
 }
