@@ -13,23 +13,25 @@ use Rattle.ab_msg.specs.declared.message.Msg.{Msg}
 use Rattle.ab_msg.specs.declared.message.Out.{Out}
 use Rattle.ab_abs.specs.declared.seen.Seen.{Seen}
 use Rattle.ab_abs.specs.Ensembles.{Proto}
-use Rattle.ab_run.specs.Replicas.{Rep}
-use Rattle.ab_run.specs.Runs.{first_rep}
-use Rattle.ab_run.specs.Stages.{first_reps}
-use Rattle.ab_run.specs.Local.{Cue, cli_after, cli_sends, cli_marks}
+use Rattle.ab_abs.specs.Places.{KeepsForm}
+use Rattle.ab_abs.specs.Promises.{ServesAll}
+use Rattle.ab_run.specs.Replicas.{is_spent}
+use Rattle.ab_replica.specs.Sites.{Site}
+use Rattle.ab_run.specs.Local.{Cue, rep_marks, cli_after, cli_sends, cli_marks}
 use Rattle.ab_run.proofs.Listed.{set_hit, set_miss, set_length, get_before, get_last}
 use Rattle.ab_client.specs.Clients.{Seat, alone, after, sends, marks}
-use Rattle.ab_client.specs.Drafts.{IsDraftOf}
+use Rattle.ab_run.specs.Forms.{IsDraftOf}
 use Rattle.ab_cast.specs.declared.place.Place.{Place}
 use Rattle.ab_cast.specs.declared.place.Place.TheVariants as place
 use Rattle.ab_cast.specs.declared.fault.CommandFault.TheVariants.{Busy}
 use Rattle.ab_run.specs.declared.phase.Phase.TheVariants.{Idle}
 use Rattle.ab_cast.specs.Setups.{Setup, run_setup, replica_twins, client_twins, place_of, party_at}
 use Rattle.ab_cast.specs.Cores.{Core, replica, client, Taken, message, cue_of}
-use Rattle.ab_cast.specs.Signing.{RepHears}
-use Rattle.ab_cast.specs.Casts.{Cast, core_at, next, first_seat, first_seats, first_cast, is_idle, command_refusal, IsTaken, IsSeat, AreSeats, AreTwinSeats, IsOf, AreOwn, AreTwins, IsCast}
+use Rattle.ab_cast.specs.declared.given.Given.{Given}
+use Rattle.ab_cast.specs.Hearing.{IsGiven, RepHears, call_of, taken_of}
+use Rattle.ab_cast.specs.Casts.{Cast, core_at, with_core, next, first_seat, first_seats, first_site, first_sites, first_cast, is_idle, command_refusal, IsTaken, IsSeat, AreSeats, AreTwinSeats, IsSite, AreOwn, AreTwins, IsCast}
 use Rattle.ab_cast.proofs.StandLemmas.{IsThere, some_injective, mapped_cases, is_there}
-use Rattle.ab_cast.proofs.ReplicaLemmas.{first_arises}
+use Rattle.ab_cast.proofs.ReplicaLemmas.{given_formed, after_given, sends_given, marks_given, spends_given, first_is_site, after_is, goes_on, sends_is, own_drafts}
 
 -- ---- lists
 
@@ -101,6 +103,7 @@ module _ {P : Type 0} (proto : Proto P) (serves : Kind → Bool) (x : Cast P) (i
     all_clients = is.all_clients;
     all_replica_twins = is.all_replica_twins;
     all_client_twins = is.all_client_twins;
+    serves_all = is.serves_all;
     own_replicas = is.own_replicas;
     twin_replicas = is.twin_replicas;
     seats = later_seats;
@@ -109,30 +112,32 @@ module _ {P : Type 0} (proto : Proto P) (serves : Kind → Bool) (x : Cast P) (i
   }
 
   module _ (few : x.events < 100000) (at : ℕ) where
-    IsCast-replica : (s now : Rep P) (all : List (Rep P)) → slice_get x.replicas at ≡ Some s → IsOf proto serves c at now
+    IsCast-replica : (s now : Site P) (all : List (Site P)) → slice_get x.replicas at ≡ Some s → IsSite proto serves x.setup at now
         → all ≡ slice_set x.replicas at now → IsCast proto serves (record x { replicas = all; events = x.events + 1 })
     IsCast-replica s now all there here set = record {
       all_replicas = ap length set ∙ (set_length x.replicas at now ∙ is.all_replicas);
       all_clients = is.all_clients;
       all_replica_twins = is.all_replica_twins;
       all_client_twins = is.all_client_twins;
-      own_replicas = subst (AreOwn proto serves c) (sym set) (Each-set (IsOf proto serves c) x.replicas at s now there here is.own_replicas);
+      serves_all = is.serves_all;
+      own_replicas = subst (AreOwn proto serves x.setup) (sym set) (Each-set (IsSite proto serves x.setup) x.replicas at s now there here is.own_replicas);
       twin_replicas = is.twin_replicas;
       seats = later_seats;
       twin_seats = later_twins;
       few_events = omega (arith, few);
     }
 
-    IsCast-replica_twin : (s now : Rep P) (all : List (Rep P)) → slice_get x.replica_twins at ≡ Some s → ((k : ℕ × ℕ) → slice_get (replica_twins x.setup.faulty) at ≡ Some k → IsOf proto serves c k.0 now)
+    IsCast-replica_twin : (s now : Site P) (all : List (Site P)) → slice_get x.replica_twins at ≡ Some s → ((k : ℕ × ℕ) → slice_get (replica_twins x.setup.faulty) at ≡ Some k → IsSite proto serves x.setup k.0 now)
         → all ≡ slice_set x.replica_twins at now → IsCast proto serves (record x { replica_twins = all; events = x.events + 1 })
     IsCast-replica_twin s now all there here set = record {
       all_replicas = is.all_replicas;
       all_clients = is.all_clients;
       all_replica_twins = ap length set ∙ (set_length x.replica_twins at now ∙ is.all_replica_twins);
       all_client_twins = is.all_client_twins;
-      own_replicas = is.own_replicas;
-      twin_replicas = subst (AreTwins proto serves c (replica_twins x.setup.faulty)) (sym set)
-          (λ i k t number at_i. Each-set (λ j t. (k : ℕ × ℕ) → slice_get (replica_twins x.setup.faulty) j ≡ Some k → IsOf proto serves c k.0 t) x.replica_twins at s now there
+    serves_all = is.serves_all;
+    own_replicas = is.own_replicas;
+      twin_replicas = subst (AreTwins proto serves x.setup (replica_twins x.setup.faulty)) (sym set)
+          (λ i k t number at_i. Each-set (λ j t. (k : ℕ × ℕ) → slice_get (replica_twins x.setup.faulty) j ≡ Some k → IsSite proto serves x.setup k.0 t) x.replica_twins at s now there
           here (λ j t at_j k number. is.twin_replicas j k t number at_j) i t at_i k number);
       seats = later_seats;
       twin_seats = later_twins;
@@ -146,7 +151,8 @@ module _ {P : Type 0} (proto : Proto P) (serves : Kind → Bool) (x : Cast P) (i
       all_clients = ap length set ∙ (set_length x.clients at now ∙ is.all_clients);
       all_replica_twins = is.all_replica_twins;
       all_client_twins = is.all_client_twins;
-      own_replicas = is.own_replicas;
+    serves_all = is.serves_all;
+    own_replicas = is.own_replicas;
       twin_replicas = is.twin_replicas;
       seats = subst (AreSeats c (x.events + 1)) (sym set) (Each-set (IsSeat c (x.events + 1)) x.clients at s now there (moved_seat at s now goes (is.seats at s there)) later_seats);
       twin_seats = later_twins;
@@ -160,7 +166,8 @@ module _ {P : Type 0} (proto : Proto P) (serves : Kind → Bool) (x : Cast P) (i
       all_clients = is.all_clients;
       all_replica_twins = is.all_replica_twins;
       all_client_twins = ap length set ∙ (set_length x.client_twins at now ∙ is.all_client_twins);
-      own_replicas = is.own_replicas;
+    serves_all = is.serves_all;
+    own_replicas = is.own_replicas;
       twin_replicas = is.twin_replicas;
       seats = later_seats;
       twin_seats = subst (AreTwinSeats c (x.events + 1) (client_twins x.setup.faulty)) (sym set)
@@ -171,13 +178,13 @@ module _ {P : Type 0} (proto : Proto P) (serves : Kind → Bool) (x : Cast P) (i
 
   -- ---- where cores are
 
-  replica_at : (r : ℕ) → IsThere x.setup (place.Replica r) → (s : Rep P) × (slice_get x.replicas r ≡ Some s)
+  replica_at : (r : ℕ) → IsThere x.setup (place.Replica r) → (s : Site P) × (slice_get x.replicas r ≡ Some s)
   replica_at r there = get_there x.replicas r (omega (arith, there, is.all_replicas))
 
   client_at : (n : ℕ) → IsThere x.setup (place.Client n) → (s : Seat) × (slice_get x.clients n ≡ Some s)
   client_at n there = get_there x.clients n (omega (arith, there, is.all_clients))
 
-  replica_twin_at : (r at : ℕ) → IsThere x.setup (place.ReplicaTwin r at) → (s : Rep P) × (slice_get x.replica_twins at ≡ Some s)
+  replica_twin_at : (r at : ℕ) → IsThere x.setup (place.ReplicaTwin r at) → (s : Site P) × (slice_get x.replica_twins at ≡ Some s)
   replica_twin_at r at there = get_there x.replica_twins at (omega (arith, slice_get_within (replica_twins x.setup.faulty) at there.1.0 there.1.1.0, is.all_replica_twins))
 
   client_twin_at : (n at : ℕ) → IsThere x.setup (place.ClientTwin n at) → (s : Seat) × (slice_get x.client_twins at ≡ Some s)
@@ -193,54 +200,65 @@ module _ {P : Type 0} (proto : Proto P) (serves : Kind → Bool) (x : Cast P) (i
   core_there (place.ReplicaTwin r at) there = let s = replica_twin_at r at there in (replica s.0, ap (option_map replica) s.1)
   core_there (place.ClientTwin n at) there = let s = client_twin_at n at there in (client s.0, ap (option_map client) s.1)
 
-  -- ---- a replica takes a message
+  -- ---- a replica takes what comes
 
   -- what the code says of the one at a place
-  abbrev pub HearsAt : ℕ → ℕ → Msg → List (Rep P) → List (Rep P) → List Out → List Seen → Bool → Type 0
-  HearsAt r at m items all outs marks spent = (s : Rep P) → slice_get items at ≡ Some s → RepHears proto serves c r at s m items all outs marks spent
+  abbrev pub HearsAt : ℕ → Given → List (Site P) → List (Site P) → List Out → List Seen → Bool → Type 0
+  HearsAt at g items all outs marks spent = (s : Site P) → slice_get items at ≡ Some s → RepHears proto x.setup at s (call_of g) items all outs marks spent
 
-  module _ (few : x.events < 100000) (r : ℕ) (m : Msg) (all : List (Rep P)) (outs : List Out) (marks : List Seen) (spent : Bool) (there : IsThere x.setup (place.Replica r)) (hears : HearsAt r r m x.replicas all outs marks spent) where
+  module _ (form : KeepsForm proto serves) (few : x.events < 100000) (r : ℕ) (g : Given) (given : IsGiven g) (all : List (Site P)) (outs : List Out) (marks : List Seen) (spent : Bool) (there : IsThere x.setup (place.Replica r)) (hears : HearsAt r g x.replicas all outs marks spent) where
     pub replica_stays : IsCast proto serves (record x { replicas = all; events = x.events + 1 })
     replica_stays =
         let s = replica_at r there in
         let h = hears s.0 s.1 in
-        IsCast-replica few r s.0 h.now all s.1 (λ lt. h.arises (is.own_replicas r s.0 s.1 lt)) h.set
+        IsCast-replica few r s.0 h.now all s.1 (goes_on proto serves form x.setup is.serves_all r there s.0 h.now (call_of g) outs marks spent (given_formed g given) (is.own_replicas r s.0 s.1) h.hears h.used) h.set
 
-    pub replica_taken : (s : Rep P) → slice_get x.replicas r ≡ Some s
-        → IsTaken proto x (place.Replica r) (replica s) (message m) (record x { replicas = all; events = x.events + 1 }) outs marks spent
+    pub replica_taken : (s : Site P) → slice_get x.replicas r ≡ Some s
+        → IsTaken proto x (place.Replica r) (replica s) (taken_of g) (record x { replicas = all; events = x.events + 1 }) outs marks spent
     replica_taken s here =
         let h = hears s here in
+        let site = is.own_replicas r s here in
+        let call = call_of g in
+        let formed = given_formed g given in
         record {
-          after = ap (λ v. record x { replicas = v; events = x.events + 1 }) (h.set ∙ ap (slice_set x.replicas r) h.takes.after);
-          sends = h.takes.sends;
-          shows = h.takes.shows;
-          spends = h.takes.spends;
-          drafts = h.drafts (is.own_replicas r s here there);
+          after =
+              ap (λ v. record x { replicas = v; events = x.events + 1 }) (h.set ∙ ap (slice_set x.replicas r) (after_is proto serves form x.setup is.serves_all r there s h.now call outs marks spent formed site h.hears h.used))
+              ∙ ap (λ q. next (with_core x (place.Replica r) q)) (sym (after_given x.setup proto r s g));
+          sends = sends_is proto serves form x.setup is.serves_all r there s h.now call outs marks spent formed site h.hears h.used ∙ sym (sends_given x.setup proto r s g);
+          shows = h.hears.shows ∙ ap (λ m. rep_marks (run_setup x.setup) proto m s.rep call) site.own ∙ sym (marks_given x.setup proto r s g);
+          spends = h.hears.spends ∙ ap (λ m. is_spent (run_setup x.setup) proto m s.rep call) site.own ∙ sym (spends_given x.setup proto r s g);
+          drafts = own_drafts proto serves form x.setup is.serves_all r there s h.now call outs marks spent formed site h.hears h.used;
         }
 
-  module _ (few : x.events < 100000) (r at : ℕ) (m : Msg) (all : List (Rep P)) (outs : List Out) (marks : List Seen) (spent : Bool) (there : IsThere x.setup (place.ReplicaTwin r at)) (hears : HearsAt r at m x.replica_twins all outs marks spent) where
-    -- the number of the replica whose further core stands there is r
-    twin_of : (s : Rep P) → slice_get x.replica_twins at ≡ Some s → IsOf proto serves c r s
-    twin_of s here = subst (λ (n : ℕ). IsOf proto serves c n s) there.1.1.1 (is.twin_replicas at there.1.0 s there.1.1.0 here)
+  -- the number of the replica whose further core stands there is r
+  pub twin_of : (r at : ℕ) (s : Site P) → IsThere x.setup (place.ReplicaTwin r at) → slice_get x.replica_twins at ≡ Some s → IsSite proto serves x.setup r s
+  twin_of r at s there here = subst (λ (n : ℕ). IsSite proto serves x.setup n s) there.1.1.1 (is.twin_replicas at there.1.0 s there.1.1.0 here)
 
+  module _ (form : KeepsForm proto serves) (few : x.events < 100000) (r at : ℕ) (g : Given) (given : IsGiven g) (all : List (Site P)) (outs : List Out) (marks : List Seen) (spent : Bool) (there : IsThere x.setup (place.ReplicaTwin r at)) (hears : HearsAt at g x.replica_twins all outs marks spent) where
     pub replica_twin_stays : IsCast proto serves (record x { replica_twins = all; events = x.events + 1 })
     replica_twin_stays =
         let s = replica_twin_at r at there in
         let h = hears s.0 s.1 in
+        let now = goes_on proto serves form x.setup is.serves_all r there.0 s.0 h.now (call_of g) outs marks spent (given_formed g given) (twin_of r at s.0 there s.1) h.hears h.used in
         let number : (k : ℕ × ℕ) → slice_get (replica_twins x.setup.faulty) at ≡ Some k → r ≡ k.0
         = λ k is_k. sym there.1.1.1 ∙ ap (λ (k : ℕ × ℕ). k.0) (some_injective there.1.0 k (sym there.1.1.0 ∙ is_k)) in
-        IsCast-replica_twin few at s.0 h.now all s.1 (λ k is_k. subst (λ (q : ℕ). IsOf proto serves c q h.now) (number k is_k) (λ lt. h.arises (twin_of s.0 s.1 lt))) h.set
+        IsCast-replica_twin few at s.0 h.now all s.1 (λ k is_k. subst (λ (q : ℕ). IsSite proto serves x.setup q h.now) (number k is_k) now) h.set
 
-    pub replica_twin_taken : (s : Rep P) → slice_get x.replica_twins at ≡ Some s
-        → IsTaken proto x (place.ReplicaTwin r at) (replica s) (message m) (record x { replica_twins = all; events = x.events + 1 }) outs marks spent
+    pub replica_twin_taken : (s : Site P) → slice_get x.replica_twins at ≡ Some s
+        → IsTaken proto x (place.ReplicaTwin r at) (replica s) (taken_of g) (record x { replica_twins = all; events = x.events + 1 }) outs marks spent
     replica_twin_taken s here =
         let h = hears s here in
+        let site = twin_of r at s there here in
+        let call = call_of g in
+        let formed = given_formed g given in
         record {
-          after = ap (λ v. record x { replica_twins = v; events = x.events + 1 }) (h.set ∙ ap (slice_set x.replica_twins at) h.takes.after);
-          sends = h.takes.sends;
-          shows = h.takes.shows;
-          spends = h.takes.spends;
-          drafts = h.drafts (twin_of s here there.0);
+          after =
+              ap (λ v. record x { replica_twins = v; events = x.events + 1 }) (h.set ∙ ap (slice_set x.replica_twins at) (after_is proto serves form x.setup is.serves_all r there.0 s h.now call outs marks spent formed site h.hears h.used))
+              ∙ ap (λ q. next (with_core x (place.ReplicaTwin r at) q)) (sym (after_given x.setup proto r s g));
+          sends = sends_is proto serves form x.setup is.serves_all r there.0 s h.now call outs marks spent formed site h.hears h.used ∙ sym (sends_given x.setup proto r s g);
+          shows = h.hears.shows ∙ ap (λ m. rep_marks (run_setup x.setup) proto m s.rep call) site.own ∙ sym (marks_given x.setup proto r s g);
+          spends = h.hears.spends ∙ ap (λ m. is_spent (run_setup x.setup) proto m s.rep call) site.own ∙ sym (spends_given x.setup proto r s g);
+          drafts = own_drafts proto serves form x.setup is.serves_all r there.0 s h.now call outs marks spent formed site h.hears h.used;
         }
 
   -- ---- a client takes what comes
@@ -299,7 +317,7 @@ module _ {P : Type 0} (proto : Proto P) (serves : Kind → Bool) (x : Cast P) (i
 -- ---- what clauses say of the core at a place
 
 module _ {P : Type 0} where
-  pub replica_core : (xs : List (Rep P)) (i : ℕ) (Q : Core P → Type 0) → ((t : Rep P) → slice_get xs i ≡ Some t → Q (replica t)) → (s : Core P) → option_map replica (slice_get xs i) ≡ Some s → Q s
+  pub replica_core : (xs : List (Site P)) (i : ℕ) (Q : Core P → Type 0) → ((t : Site P) → slice_get xs i ≡ Some t → Q (replica t)) → (s : Core P) → option_map replica (slice_get xs i) ≡ Some s → Q s
   replica_core xs i Q each s at = let m = mapped_cases replica (slice_get xs i) s at in subst Q m.1.1 (each m.0 m.1.0)
 
   pub client_core : (xs : List Seat) (i : ℕ) (Q : Core P → Type 0) → ((t : Seat) → slice_get xs i ≡ Some t → Q (client t)) → (s : Core P) → option_map client (slice_get xs i) ≡ Some s → Q s
@@ -342,24 +360,21 @@ mapped : {A : Type 0} (f : ℕ → A) (numbers : List (ℕ × ℕ)) (at : ℕ) (
 mapped f numbers at k s number there =
     some_injective (f k.0) s (sym (slice_get-map (λ k. f k.0) numbers at ∙ ap (option_map (λ k. f k.0)) number) ∙ there)
 
-module _ {P : Type 0} (proto : Proto P) (serves : Kind → Bool) (x : Setup) (served : IsTrue (serves (kind_of x.cluster.plan 1))) where
-  abbrev first : ℕ → Rep P
-  first r = first_rep (run_setup x) proto r
+module _ {P : Type 0} (proto : Proto P) (serves : Kind → Bool) (form : KeepsForm proto serves) (x : Setup) (served : ServesAll serves x.cluster) where
+  abbrev first : ℕ → Site P
+  first r = first_site x proto r
 
-  abbrev firsts : ℕ → List (Rep P)
-  firsts n = first_reps (run_setup x) proto n
+  abbrev firsts : ℕ → List (Site P)
+  firsts n = first_sites x proto n
 
   length-firsts : (n : ℕ) → length (firsts n) ≡ n
   length-firsts zero = refl
   length-firsts (suc n) = length-append (firsts n) (first n ∷ []) ∙ omega (arith, length-firsts n)
 
-  first_is_of : (r : ℕ) → IsOf proto serves x.cluster r (first r)
-  first_is_of r lt = first_arises proto serves x.cluster r served lt
-
-  firsts_are_own : (n : ℕ) → AreOwn proto serves x.cluster (firsts n)
+  firsts_are_own : (n : ℕ) → AreOwn proto serves x (firsts n)
   firsts_are_own zero r s at = absurd (cc (at))
   firsts_are_own (suc n) r s at =
-      Each-push (IsOf proto serves x.cluster) (firsts n) (first n) (subst (λ (m : ℕ). IsOf proto serves x.cluster m (first n)) (sym (length-firsts n)) (first_is_of n)) (firsts_are_own n) r s at
+      Each-push (IsSite proto serves x) (firsts n) (first n) (subst (λ (m : ℕ). IsSite proto serves x m (first n)) (sym (length-firsts n)) (first_is_site proto serves form x served n)) (firsts_are_own n) r s at
 
   IsCast-first : IsCast proto serves (first_cast proto x)
   IsCast-first = record {
@@ -367,21 +382,21 @@ module _ {P : Type 0} (proto : Proto P) (serves : Kind → Bool) (x : Setup) (se
     all_clients = length-first_seats x.cluster x.cluster.clients;
     all_replica_twins = length-map (replica_twins x.faulty) (λ k. first k.0);
     all_client_twins = length-map (client_twins x.faulty) (λ k. first_seat x.cluster k.0);
+    serves_all = served;
     own_replicas = firsts_are_own (3 * x.cluster.f + 1);
-    twin_replicas = λ at k s number there. subst (IsOf proto serves x.cluster k.0) (mapped first (replica_twins x.faulty) at k s number there) (first_is_of k.0);
+    twin_replicas = λ at k s number there. subst (IsSite proto serves x k.0) (mapped first (replica_twins x.faulty) at k s number there) (first_is_site proto serves form x served k.0);
     seats = first_are_seats x.cluster x.cluster.clients;
     twin_seats = λ at k s number there. subst (IsSeat x.cluster 0 k.0) (mapped (first_seat x.cluster) (client_twins x.faulty) at k s number there) (first_seated x.cluster k.0);
     few_events = omega arith;
   }
 
-  module _ (c : Cluster) (placed : c ≡ x.cluster) (replicas : List (Rep P)) (clients : List Seat) (twins : List (Rep P)) (further : List Seat)
-      (of_replicas : replicas ≡ first_reps (alone c) proto (3 * c.f + 1)) (of_clients : clients ≡ first_seats c c.clients)
-      (of_twins : twins ≡ map (λ k. first_rep (alone x.cluster) proto k.0) (replica_twins x.faulty)) (of_further : further ≡ map (λ k. first_seat x.cluster k.0) (client_twins x.faulty)) where
+  module _ (c : Cluster) (placed : c ≡ x.cluster) (replicas : List (Site P)) (clients : List Seat) (twins : List (Site P)) (further : List Seat)
+      (of_replicas : replicas ≡ first_sites x proto (3 * x.cluster.f + 1)) (of_clients : clients ≡ first_seats c c.clients)
+      (of_twins : twins ≡ map (λ k. first_site x proto k.0) (replica_twins x.faulty)) (of_further : further ≡ map (λ k. first_seat x.cluster k.0) (client_twins x.faulty)) where
     pub first_as : record { setup = x; replicas = replicas; clients = clients; replica_twins = twins; client_twins = further; events = 0 } ≡ first_cast proto x
     first_as =
-        let r : replicas ≡ firsts (3 * x.cluster.f + 1) = of_replicas ∙ ap (λ (k : Cluster). first_reps (alone k) proto (3 * k.f + 1)) placed in
         let s : clients ≡ first_seats x.cluster x.cluster.clients = of_clients ∙ ap (λ (k : Cluster). first_seats k k.clients) placed in
-        λ j. record { setup = x; replicas = r j; clients = s j; replica_twins = of_twins j; client_twins = of_further j; events = 0 }
+        λ j. record { setup = x; replicas = of_replicas j; clients = s j; replica_twins = of_twins j; client_twins = of_further j; events = 0 }
 
     pub IsCast-new : IsCast proto serves (record { setup = x; replicas = replicas; clients = clients; replica_twins = twins; client_twins = further; events = 0 })
     IsCast-new = subst (IsCast proto serves) (sym first_as) IsCast-first

@@ -1,81 +1,110 @@
--- Values of a protocol that came about in an instance, and what they send.
-use Rattle.std.proofs.Common.{◌≡◌, ℕ, ◌+◌, ◌*◌, ◌<◌, Bool, None, Result, Ok, Err, List, [], refl, sym, subst, arith}
-use Rattle.std.specs.Prelude.{All, IfOk, IsTrue, OnErr, OnOk, slice_set}
-use Rattle.std.proofs.lemmas.List.Elements.{Contains-get_or}
-use Rattle.ab_num.specs.declared.cluster.Cluster.{Cluster}
+-- A replica in its cluster, as it takes what comes.
+use Rattle.std.proofs.Common.{◌≡◌, ℕ, ◌+◌, ◌*◌, ◌^◌, ◌<◌, ◌≤◌, Bool, Result, Ok, Err, true, false, List, [], length, refl, sym, ap, ◌∙◌, subst, inl, inr, arith}
+use Rattle.std.specs.Prelude.{All, Contains, IfOk, IsTrue, OnErr, replicate}
+use Rattle.ab_num.specs.declared.plan.Height.{Height}
+use Rattle.ab_num.specs.declared.plan.Height.TheVariants.{Five, Ten}
 use Rattle.ab_num.specs.declared.plan.Kind.{Kind}
 use Rattle.ab_num.specs.declared.party.Party.TheVariants.{Replica}
-use Rattle.ab_num.specs.Places.{kind_of}
-use Rattle.ab_hist.specs.Histories.{IsHistory}
-use Rattle.ab_msg.specs.declared.message.Msg.{Msg}
+use Rattle.ab_lms.specs.Nodes.{levels}
+use Rattle.ab_lms.proofs.Signed.{length-lms_signature}
+use Rattle.ab_keys.specs.Secrets.{tree_name, tree_seed}
+use Rattle.ab_sign.specs.Signers.{signature_at}
+use Rattle.ab_sign.proofs.KeyLemmas.{derived-at}
+use Rattle.ab_msg.specs.declared.content.Content.{Content}
 use Rattle.ab_msg.specs.declared.message.Out.{Out}
-use Rattle.ab_msg.specs.declared.msg_ref.MsgRef.{MsgRef}
-use Rattle.ab_msg.specs.declared.message.Msg.TheVariants as msg
-use Rattle.ab_msg.specs.Grammar.{IsMessage}
-use Rattle.ab_msg.specs.Pens.{Pen}
-use Rattle.ab_msg.specs.Views.{message}
-use Rattle.ab_abs.specs.Messages.{Call, IsFormed, IsKnown}
-use Rattle.ab_abs.specs.Ensembles.{Proto, entry_of}
-use Rattle.ab_abs.specs.Places.{KeepsForm, Arises, from_entry, by_call, by_stop, Belongs, begun, called, halted}
-use Rattle.ab_run.specs.Replicas.{Rep}
-use Rattle.ab_run.specs.Runs.{first_rep}
-use Rattle.ab_client.specs.Clients.{alone}
-use Rattle.ab_client.specs.Drafts.{IsDraftOf}
-use Rattle.ab_cast.specs.declared.effects.Effects.{Effects}
-use Rattle.ab_cast.specs.Signing.{RepTakes, RepHears}
+use Rattle.ab_msg.specs.Contents.{spell_content}
+use Rattle.ab_msg.specs.Fields.{IsSig}
+use Rattle.ab_abs.specs.declared.seen.Seen.{Seen}
+use Rattle.ab_abs.specs.Ensembles.{Proto}
+use Rattle.ab_abs.specs.Messages.{Call, IsFormed}
+use Rattle.ab_abs.specs.Places.{KeepsForm}
+use Rattle.ab_abs.specs.Promises.{ServesAll}
+use Rattle.ab_abs.proofs.Certified.{all_of}
+use Rattle.ab_run.specs.Forms.{IsDraftOf, IsWrittenRep, IsWrittenSetup}
+use Rattle.ab_run.specs.Replicas.{is_spent}
+use Rattle.ab_run.specs.Local.{rep_marks, rep_sends}
+use Rattle.ab_run.proofs.Written.{first_written, call_goes}
+use Rattle.ab_replica.specs.declared.effects.Effects.{Effects}
+use Rattle.ab_replica.specs.Sites.{Site}
+use Rattle.ab_replica.specs.Doings.{Hears}
+use Rattle.ab_cast.specs.declared.given.Given.{Given}
+use Rattle.ab_cast.specs.declared.given.Given.TheVariants as given
+use Rattle.ab_cast.specs.Setups.{Setup, run_setup, keys_of}
+use Rattle.ab_cast.specs.Cores.{Core, replica, site_after, core_after, core_sends, core_marks, core_spends}
+use Rattle.ab_cast.specs.Hearing.{IsGiven, RepHears, call_of, taken_of}
+use Rattle.ab_cast.specs.Casts.{IsSite, first_site}
 
--- a message of the grammar is one
-pub known_message : (m : Msg) → IsMessage m → IsKnown m
-known_message (msg.Req content tags) is = is
-known_message (msg.Resp content tag) is = is
-known_message _ is = absurd is
+-- ---- signatures
 
-pub known : (m : MsgRef) → IsMessage (message m) → IsKnown (message m)
-known m is = known_message (message m) is
+sig_fits : (lms : Height) (sig : List ℕ) → length sig ≡ 2188 + 32 * levels lms → IsSig sig
+sig_fits Five sig long = let e : length sig ≡ 2348 = long in rw e tt
+sig_fits Ten sig long = let e : length sig ≡ 2508 = long in rw e tt
 
--- ---- values that came about
+sig_long : (x : Setup) (r : ℕ) (s : Content) (n : ℕ) → r < 3 * x.cluster.f + 1 → IsSig ((run_setup x).sig r s n)
+sig_long x r s n lt =
+    let zeros : List ℕ = replicate 32 0 in
+    let text = spell_content s in
+    subst (λ k. IsSig (signature_at k n text)) (sym (derived-at x.cluster.f x.lms zeros r lt))
+    (sig_fits x.lms _ (length-lms_signature x.lms (tree_name zeros r) (tree_seed zeros r) n text))
 
-module _ {P : Type 0} (proto : Proto P) (serves : Kind → Bool) (c : Cluster) (i r : ℕ) where
-  belongs : (p : P) → Arises proto serves c i r p → Belongs proto serves c i r p
-  belongs p (from_entry e served placed lt rises few) = begun e served
-  belongs p (by_call pen q call formed was) = called pen q call (belongs q was)
-  belongs p (by_stop q was) = halted q (belongs q was)
+pub written_setup : (x : Setup) (serves : Kind → Bool) → ServesAll serves x.cluster → IsWrittenSetup (run_setup x) serves
+written_setup x serves served = record { serves_all = served; signs = λ r s n lt. sig_long x r s n lt }
 
-  pub drafts_of : KeepsForm proto serves → (pen : Pen) (p : P) (call : Call) → IsFormed call → Arises proto serves c i r p → (outs : List Out) → outs ≡ proto.sends pen p call → All (IsDraftOf c.f (Replica r)) outs
-  drafts_of form pen p call formed was outs sent =
-      subst (All (IsDraftOf c.f (Replica r))) (sym sent)
-      (λ n d lt.
-      let o = Contains-get_or (proto.sends pen p call) n d lt in
-      record { draft = form.drafts c i r pen p call was formed _ o; own = λ s has. (form.own c i r pen p call _ s (belongs p was) o has).0 })
+-- ---- what comes
 
-no_requests : IsHistory []
-no_requests = λ i j d e lt. absurd (omega (arith, lt))
+pub given_formed : (g : Given) → IsGiven g → IsFormed (call_of g)
+given_formed (given.Message m) is = is.of_grammar
+given_formed given.Time is = tt
 
-pub first_arises : {P : Type 0} (proto : Proto P) (serves : Kind → Bool) (c : Cluster) (r : ℕ) → IsTrue (serves (kind_of c.plan 1)) → r < 3 * c.f + 1
-    → Arises proto serves c 1 r (first_rep (alone c) proto r).value
-first_arises proto serves c r served lt = from_entry (entry_of [] None) served (omega arith, omega arith) lt no_requests (omega arith)
+module _ {P : Type 0} (x : Setup) (proto : Proto P) (r : ℕ) (s : Site P) where
+  pub after_given : (g : Given) → core_after x proto (Replica r) (replica s) (taken_of g) ≡ replica (site_after (run_setup x) proto r s (call_of g))
+  after_given (given.Message m) = refl
+  after_given given.Time = refl
 
--- nothing that is sent is all drafts
-pub nothing_sent : (Q : Out → Type 0) (outs : List Out) → outs ≡ [] → All Q outs
-nothing_sent Q outs none = subst (All Q) (sym none) (λ n d lt. absurd (omega (arith, lt)))
+  pub sends_given : (g : Given) → core_sends x proto (Replica r) (replica s) (taken_of g) ≡ rep_sends (run_setup x) proto r s.rep (call_of g)
+  sends_given (given.Message m) = refl
+  sends_given given.Time = refl
 
-pub on_ok : {A E : Type 0} (r : Result A E) (X : Type 0) → X → OnOk r X
-on_ok (Ok a) X x = x
-on_ok (Err e) X x = tt
+  pub marks_given : (g : Given) → core_marks x proto (Replica r) (replica s) (taken_of g) ≡ rep_marks (run_setup x) proto r s.rep (call_of g)
+  marks_given (given.Message m) = refl
+  marks_given given.Time = refl
 
--- a call leaves a value that came about, and so does a call that is refused
-pub arises_after : {P E : Type 0} (proto : Proto P) (serves : Kind → Bool) (c : Cluster) (i r : ℕ) (pen : Pen) (p now : P) (call : Call) (on : Result (List Out) E) → IsFormed call → Arises proto serves c i r p
-    → IfOk on (λ outs. (now ≡ proto.after pen p call) × (outs ≡ proto.sends pen p call)) → OnErr on (now ≡ p) → Arises proto serves c i r now
-arises_after proto serves c i r pen p now call (Ok outs) formed was ok err = subst (Arises proto serves c i r) (sym ok.0) (by_call pen p call formed was)
-arises_after proto serves c i r pen p now call (Err e) formed was ok err = subst (Arises proto serves c i r) (sym err) was
+  pub spends_given : (g : Given) → core_spends x proto (Replica r) (replica s) (taken_of g) ≡ is_spent (run_setup x) proto r s.rep (call_of g)
+  spends_given (given.Message m) = refl
+  spends_given given.Time = refl
 
--- the one at a place takes a message
-pub heard_at : {P E : Type 0} (proto : Proto P) (serves : Kind → Bool) (c : Cluster) (r at : ℕ) (s old now : Rep P) (m : Msg) (items : List (Rep P)) (on : Result Effects E) → s ≡ old
-    → IfOk on (λ e. RepTakes proto c r old m now e.outs e.marks.items e.spent)
-    → (Arises proto serves c old.at r old.value → OnOk on (Arises proto serves c now.at r now.value))
-    → (Arises proto serves c old.at r old.value → IfOk on (λ e. All (IsDraftOf c.f (Replica r)) e.outs))
-    → IfOk on (λ e. RepHears proto serves c r at s m items (slice_set items at now) e.outs e.marks.items e.spent)
-heard_at proto serves c r at s old now m items (Ok e) same takes arises drafts =
-    subst (λ (q : Rep _). RepHears proto serves c r at q m items (slice_set items at now) e.outs e.marks.items e.spent) (sym same)
-    (record { now = now; set = refl; takes = takes; arises = arises; drafts = drafts })
-heard_at proto serves c r at s old now m items (Err e) same takes arises drafts = tt
+-- ---- one replica
+
+module _ {P : Type 0} (proto : Proto P) (serves : Kind → Bool) (form : KeepsForm proto serves) (x : Setup) (served : ServesAll serves x.cluster) (r : ℕ) where
+  pub first_is_site : IsSite proto serves x r (first_site x proto r)
+  first_is_site = record {
+    placed = refl;
+    own = refl;
+    signatures = refl;
+    used = omega arith;
+    written = λ lt. first_written (run_setup x) proto form (written_setup x serves served) r lt;
+  }
+
+  module _ (lt : r < 3 * x.cluster.f + 1) (s now : Site P) (call : Call) (outs : List Out) (marks : List Seen) (spent : Bool) (formed : IsFormed call) (was : IsSite proto serves x r s)
+      (hears : Hears proto (run_setup x) s call now outs marks spent) (used : now.rep.used ≤ now.signatures) where
+    pub after_is : now ≡ site_after (run_setup x) proto r s call
+    after_is = hears.after ∙ ap (λ m. site_after (run_setup x) proto m s call) was.own
+
+    pub goes_on : IsSite proto serves x r now
+    goes_on =
+        let goes = call_goes (run_setup x) proto form (written_setup x serves served) r s.rep call lt formed (was.written lt) in
+        record {
+          placed = ap (λ (q : Site P). q.cluster) after_is ∙ was.placed;
+          own = ap (λ (q : Site P). q.me) after_is ∙ was.own;
+          signatures = ap (λ (q : Site P). q.signatures) after_is ∙ was.signatures;
+          used = used;
+          written = λ lt. subst (λ (q : Site P). IsWrittenRep proto serves x.cluster r q.rep) (sym after_is) goes.stands;
+        }
+
+    pub sends_is : outs ≡ rep_sends (run_setup x) proto r s.rep call
+    sends_is = hears.sends ∙ ap (λ m. rep_sends (run_setup x) proto m s.rep call) was.own
+
+    pub own_drafts : All (IsDraftOf x.cluster.f (Replica r)) outs
+    own_drafts =
+        let goes = call_goes (run_setup x) proto form (written_setup x serves served) r s.rep call lt formed (was.written lt) in
+        subst (All (IsDraftOf x.cluster.f (Replica r))) (sym sends_is) (all_of (IsDraftOf x.cluster.f (Replica r)) (rep_sends (run_setup x) proto r s.rep call) goes.drafts)

@@ -6,28 +6,28 @@ use Rattle.ab_num.specs.declared.plan.Kind.{Kind}
 use Rattle.ab_msg.specs.declared.message.Out.{Out}
 use Rattle.ab_abs.specs.declared.seen.Seen.{Seen}
 use Rattle.ab_abs.specs.Ensembles.{Proto}
-use Rattle.ab_abs.specs.Places.{Arises}
+use Rattle.ab_abs.specs.Promises.{ServesAll}
 use Rattle.ab_run.specs.declared.phase.Phase.{Phase}
 use Rattle.ab_run.specs.declared.phase.Phase.TheVariants.{Idle, Waiting, Panicking}
+use Rattle.ab_run.specs.Forms.{IsDraftOf, IsWrittenRep}
 use Rattle.ab_run.specs.Replicas.{Rep}
+use Rattle.ab_replica.specs.Sites.{Site}
 use Rattle.ab_run.specs.Clients.{Cli}
 use Rattle.ab_run.specs.Runs.{first_rep, first_cli}
-use Rattle.ab_run.specs.Stages.{first_reps}
 use Rattle.ab_client.specs.Clients.{Seat}
-use Rattle.ab_client.specs.Drafts.{IsDraftOf}
 use Rattle.ab_cast.specs.declared.fault.CommandFault.{CommandFault}
 use Rattle.ab_cast.specs.declared.fault.CommandFault.TheVariants.{NoClient, Busy, OutOfMemory}
 use Rattle.ab_cast.specs.declared.place.Place.{Place}
 use Rattle.ab_cast.specs.declared.place.Place.TheVariants as place
-use Rattle.ab_cast.specs.Setups.{Setup, run_setup, replica_twins, client_twins, party_at}
+use Rattle.ab_cast.specs.Setups.{Setup, run_setup, signatures_of, replica_twins, client_twins, party_at}
 use Rattle.ab_cast.specs.Cores.{Core, replica, client, Taken, core_after, core_sends, core_marks, core_spends}
 
 -- each party's own core by the party's number, the further ones of faulty parties, and how many events there were
 pub record Cast (P : Type 0) : Type 0 where
   pub setup : Setup
-  pub replicas : List (Rep P)
+  pub replicas : List (Site P)
   pub clients : List Seat
-  pub replica_twins : List (Rep P)
+  pub replica_twins : List (Site P)
   pub client_twins : List Seat
   pub events : ℕ
 
@@ -39,7 +39,7 @@ module _ {P : Type 0} where
   core_at x (place.ClientTwin c at) = option_map client (slice_get x.client_twins at)
 
   -- a replica is put where replicas are
-  abbrev pub with_replica : Cast P → Place → Rep P → Cast P
+  abbrev pub with_replica : Cast P → Place → Site P → Cast P
   with_replica x (place.Replica r) s = record x { replicas = slice_set x.replicas r s }
   with_replica x (place.Client c) s = x
   with_replica x (place.ReplicaTwin r at) s = record x { replica_twins = slice_set x.replica_twins at s }
@@ -78,17 +78,28 @@ abbrev pub first_seats : Cluster → ℕ → List Seat
 first_seats c zero = []
 first_seats c (suc n) = first_seats c n ++ first_seat c n ∷ []
 
+-- the first replicas, by their numbers
+abbrev pub first_site : {P : Type 0} → Setup → Proto P → ℕ → Site P
+first_site x proto r = record { cluster = x.cluster; me = r; signatures = signatures_of x; rep = first_rep (run_setup x) proto r; entries = 0 }
+
+abbrev pub first_sites : {P : Type 0} → Setup → Proto P → ℕ → List (Site P)
+first_sites x proto zero = []
+first_sites x proto (suc n) = first_sites x proto n ++ first_site x proto n ∷ []
+
 abbrev pub first_cast : {P : Type 0} → Proto P → Setup → Cast P
 first_cast proto x = record {
   setup = x;
-  replicas = first_reps (run_setup x) proto (3 * x.cluster.f + 1);
+  replicas = first_sites x proto (3 * x.cluster.f + 1);
   clients = first_seats x.cluster x.cluster.clients;
-  replica_twins = map (λ k. first_rep (run_setup x) proto k.0) (replica_twins x.faulty);
+  replica_twins = map (λ k. first_site x proto k.0) (replica_twins x.faulty);
   client_twins = map (λ k. first_seat x.cluster k.0) (client_twins x.faulty);
   events = 0;
 }
 
--- ---- clients
+-- ---- what a run sees of cores
+
+abbrev pub reps_of : {P : Type 0} → List (Site P) → List (Rep P)
+reps_of sites = map (λ s. s.rep) sites
 
 abbrev pub clis_of : List Seat → List Cli
 clis_of seats = map (λ s. s.cli) seats
@@ -129,19 +140,23 @@ abbrev pub AreTwinSeats : Cluster → ℕ → List (ℕ × ℕ) → List Seat �
 AreTwinSeats c events numbers seats =
     (at : ℕ) (k : ℕ × ℕ) (s : Seat) → slice_get numbers at ≡ Some k → slice_get seats at ≡ Some s → IsSeat c events k.0 s
 
-module _ {P : Type 0} (proto : Proto P) (serves : Kind → Bool) (c : Cluster) where
-  -- replica r of the cluster, with a value that came about there
-  abbrev pub IsOf : ℕ → Rep P → Type 0
-  IsOf r s = r < 3 * c.f + 1 → Arises proto serves c s.at r s.value
+-- replica r of the cluster, which keeps what has bytes and has made no more signatures than it can
+pub record IsSite {P : Type 0} (proto : Proto P) (serves : Kind → Bool) (x : Setup) (r : ℕ) (s : Site P) : Type 0 where
+  pub placed : s.cluster ≡ x.cluster
+  pub own : s.me ≡ r
+  pub signatures : s.signatures ≡ signatures_of x
+  pub used : s.rep.used ≤ s.signatures
+  pub written : r < 3 * x.cluster.f + 1 → IsWrittenRep proto serves x.cluster r s.rep
 
+module _ {P : Type 0} (proto : Proto P) (serves : Kind → Bool) (x : Setup) where
   -- each own replica is at its number
-  abbrev pub AreOwn : List (Rep P) → Type 0
-  AreOwn replicas = (r : ℕ) (s : Rep P) → slice_get replicas r ≡ Some s → IsOf r s
+  abbrev pub AreOwn : List (Site P) → Type 0
+  AreOwn replicas = (r : ℕ) (s : Site P) → slice_get replicas r ≡ Some s → IsSite proto serves x r s
 
   -- the same of the further cores of replicas
-  abbrev pub AreTwins : List (ℕ × ℕ) → List (Rep P) → Type 0
+  abbrev pub AreTwins : List (ℕ × ℕ) → List (Site P) → Type 0
   AreTwins numbers replicas =
-      (at : ℕ) (k : ℕ × ℕ) (s : Rep P) → slice_get numbers at ≡ Some k → slice_get replicas at ≡ Some s → IsOf k.0 s
+      (at : ℕ) (k : ℕ × ℕ) (s : Site P) → slice_get numbers at ≡ Some k → slice_get replicas at ≡ Some s → IsSite proto serves x k.0 s
 
 -- what holds of the cores of a cluster in every event: as many as the setup says, each where its party's are
 pub record IsCast {P : Type 0} (proto : Proto P) (serves : Kind → Bool) (x : Cast P) : Type 0 where
@@ -149,8 +164,9 @@ pub record IsCast {P : Type 0} (proto : Proto P) (serves : Kind → Bool) (x : C
   pub all_clients : length x.clients ≡ x.setup.cluster.clients
   pub all_replica_twins : length x.replica_twins ≡ length (replica_twins x.setup.faulty)
   pub all_client_twins : length x.client_twins ≡ length (client_twins x.setup.faulty)
-  pub own_replicas : AreOwn proto serves x.setup.cluster x.replicas
-  pub twin_replicas : AreTwins proto serves x.setup.cluster (replica_twins x.setup.faulty) x.replica_twins
+  pub serves_all : ServesAll serves x.setup.cluster
+  pub own_replicas : AreOwn proto serves x.setup x.replicas
+  pub twin_replicas : AreTwins proto serves x.setup (replica_twins x.setup.faulty) x.replica_twins
   pub seats : AreSeats x.setup.cluster x.events x.clients
   pub twin_seats : AreTwinSeats x.setup.cluster x.events (client_twins x.setup.faulty) x.client_twins
   pub few_events : x.events ≤ 100000

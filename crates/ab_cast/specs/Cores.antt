@@ -1,5 +1,5 @@
 -- A core of a party, and what it does with what comes to it.
-use Rattle.std.specs.Prelude.{ℕ, Bool, false, List, []}
+use Rattle.std.specs.Prelude.{ℕ, ◌+◌, Bool, false, List, [], count_by}
 use Rattle.arrayvec.specs.ArrayVec.{ArrayVec}
 use Rattle.ab_num.specs.declared.party.Party.{Party}
 use Rattle.ab_num.specs.declared.party.Party.TheVariants.{Replica, Client}
@@ -8,22 +8,26 @@ use Rattle.ab_msg.specs.declared.message.Msg.{Msg}
 use Rattle.ab_msg.specs.declared.message.Out.{Out}
 use Rattle.ab_msg.specs.Claims.{claims}
 use Rattle.ab_abs.specs.declared.seen.Seen.{Seen}
-use Rattle.ab_abs.specs.Messages.{took}
+use Rattle.ab_abs.specs.Messages.{Call, took, timed}
 use Rattle.ab_abs.specs.Ensembles.{Proto}
-use Rattle.ab_run.specs.Replicas.{Rep, is_spent}
-use Rattle.ab_run.specs.Local.{Cue, cue_command, cue_message, rep_after, rep_sends, rep_marks, cli_after, cli_sends, cli_marks}
+use Rattle.ab_run.specs.Setups.{Setup as RunSetup}
+use Rattle.ab_run.specs.Replicas.{is_spent, turns}
+use Rattle.ab_replica.specs.Sites.{Site}
+use Rattle.ab_replica.specs.Doings.{is_entry}
+use Rattle.ab_run.specs.Local.{Cue, cue_command, cue_message, cue_time, rep_after, rep_sends, rep_marks, cli_after, cli_sends, cli_marks}
 use Rattle.ab_client.specs.Clients.{Seat}
 use Rattle.ab_cast.specs.Setups.{Setup, run_setup}
 
 -- a replica or a client, where it is
 pub data Core (P : Type 0) : Type 0 where
-  replica : (s : Rep P) → Core P
+  replica : (s : Site P) → Core P
   client : (s : Seat) → Core P
 
--- a command, or a message that opened
+-- a command, a message that opened, or a timer that ran out
 pub data Taken : Type 0 where
   command : (bytes : ArrayVec ℕ) → Taken
   message : (m : Msg) → Taken
+  time : Taken
 
 abbrev pub number_of : Party → ℕ
 number_of (Replica r) = r
@@ -32,31 +36,41 @@ number_of (Client c) = c
 abbrev pub cue_of : Taken → Cue
 cue_of (command bytes) = cue_command bytes
 cue_of (message m) = cue_message m
+cue_of time = cue_time
 
 -- what party p checks in what comes, where f replicas may be faulty
 abbrev pub taken_claims : ℕ → Party → Taken → List Content
 taken_claims f p (command bytes) = []
 taken_claims f p (message m) = claims f p m
+taken_claims f p time = []
+
+-- where a replica is after a call
+abbrev pub site_after : {P : Type 0} → RunSetup → Proto P → ℕ → Site P → Call → Site P
+site_after k proto r s call = record s { rep = rep_after k proto r s.rep call; entries = s.entries + count_by is_entry (turns k proto r s.rep call) }
 
 module _ {P : Type 0} (x : Setup) (proto : Proto P) where
   -- where a core of party p is after what comes to it, what it sends, what is seen of it, and whether the event is spent for want of
   -- signatures. A replica takes no command
   abbrev pub core_after : Party → Core P → Taken → Core P
   core_after p (replica s) (command bytes) = replica s
-  core_after p (replica s) (message m) = replica (rep_after (run_setup x) proto (number_of p) s (took m))
+  core_after p (replica s) (message m) = replica (site_after (run_setup x) proto (number_of p) s (took m))
+  core_after p (replica s) time = replica (site_after (run_setup x) proto (number_of p) s timed)
   core_after p (client s) t = client (record s { cli = cli_after (run_setup x) (number_of p) s.cli (cue_of t) })
 
   abbrev pub core_sends : Party → Core P → Taken → List Out
   core_sends p (replica s) (command bytes) = []
-  core_sends p (replica s) (message m) = rep_sends (run_setup x) proto (number_of p) s (took m)
+  core_sends p (replica s) (message m) = rep_sends (run_setup x) proto (number_of p) s.rep (took m)
+  core_sends p (replica s) time = rep_sends (run_setup x) proto (number_of p) s.rep timed
   core_sends p (client s) t = cli_sends (run_setup x) (number_of p) s.cli (cue_of t)
 
   abbrev pub core_marks : Party → Core P → Taken → List Seen
   core_marks p (replica s) (command bytes) = []
-  core_marks p (replica s) (message m) = rep_marks (run_setup x) proto (number_of p) s (took m)
+  core_marks p (replica s) (message m) = rep_marks (run_setup x) proto (number_of p) s.rep (took m)
+  core_marks p (replica s) time = rep_marks (run_setup x) proto (number_of p) s.rep timed
   core_marks p (client s) t = cli_marks (run_setup x) (number_of p) s.cli (cue_of t)
 
   abbrev pub core_spends : Party → Core P → Taken → Bool
   core_spends p (replica s) (command bytes) = false
-  core_spends p (replica s) (message m) = is_spent (run_setup x) proto (number_of p) s (took m)
+  core_spends p (replica s) (message m) = is_spent (run_setup x) proto (number_of p) s.rep (took m)
+  core_spends p (replica s) time = is_spent (run_setup x) proto (number_of p) s.rep timed
   core_spends p (client s) t = false

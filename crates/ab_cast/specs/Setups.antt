@@ -1,10 +1,17 @@
--- A cluster in one program, with its faulty parties. The keys of its parties are those of the seed of zeros.
-use Rattle.std.specs.Prelude.{IsTrue, All, ◌≡◌, ℕ, ◌<◌, ◌-◌, ◌+◌, ◌*◌, ◌==◌, ◌&&◌, if◌then◌else◌, Bool, Option, None, Some, List, [], map, position, replicate, slice_get}
+-- A cluster in one program, with its faulty parties and the height of its signature trees. The keys of its parties are those of the seed
+-- of zeros.
+use Rattle.std.specs.Prelude.{IsTrue, All, ◌≡◌, ℕ, ◌<◌, ◌-◌, ◌^◌, ◌+◌, ◌*◌, ◌==◌, ◌&&◌, if◌then◌else◌, Bool, Option, None, Some, List, [], map, position, replicate, slice_get}
 use Rattle.std.specs.List.{flat_map, range_with_len}
 use Rattle.std.specs.Option.{option_map}
 use Rattle.ab_num.specs.declared.party.Party.{Party}
 use Rattle.ab_num.specs.declared.party.Party.TheVariants.{Replica, Client}
 use Rattle.ab_num.specs.declared.cluster.Cluster.{Cluster}
+use Rattle.ab_num.specs.declared.plan.Height.{Height}
+use Rattle.ab_lms.specs.Nodes.{levels}
+use Rattle.ab_check.specs.Checks.{Judge}
+use Rattle.ab_sign.specs.declared.key.SignKey.{SignKey}
+use Rattle.ab_sign.specs.Signers.{derived_keys, pen_of}
+use Rattle.ab_sign.specs.Judges.{judge_of}
 use Rattle.ab_keys.specs.Keys.{is_party}
 use Rattle.ab_keys.specs.Rings.{Ring, ring_of}
 use Rattle.ab_abs.specs.Faults.{is_faulty}
@@ -16,10 +23,19 @@ use Rattle.ab_cast.specs.declared.place.Place.TheVariants as place
 pub record Setup : Type 0 where
   pub cluster : Cluster
   pub faulty : List (Party × ℕ)
+  pub lms : Height
 
--- what a run over it is set up with. Nothing can be signed yet
+-- the signature keys of the replicas
+abbrev pub keys_of : Setup → List SignKey
+keys_of x = derived_keys x.cluster.f x.lms (replicate 32 0)
+
+-- how many signatures each replica can make
+abbrev pub signatures_of : Setup → ℕ
+signatures_of x = 2 ^ levels x.lms
+
+-- what a run over it is set up with
 abbrev pub run_setup : Setup → RunSetup
-run_setup x = record { cluster = x.cluster; faulty = map (λ e. e.0) x.faulty; signatures = 0; sig = λ r s n. [] }
+run_setup x = record { cluster = x.cluster; faulty = map (λ e. e.0) x.faulty; signatures = signatures_of x; sig = λ r. (pen_of (keys_of x) r 0).sig }
 
 abbrev pub is_bad : Setup → Party → Bool
 is_bad x p = is_faulty (run_setup x).faulty p
@@ -27,6 +43,10 @@ is_bad x p = is_faulty (run_setup x).faulty p
 -- the keys of a party
 abbrev pub ring_at : Setup → Party → Ring
 ring_at x p = ring_of x.cluster.f x.cluster.clients x.cluster.plan (replicate 32 0) p
+
+-- who tells for a party whether a tag or a signature is right
+abbrev pub judge_at : Setup → Party → Judge
+judge_at x p = judge_of (ring_at x p) (keys_of x)
 
 -- ---- where cores are
 
@@ -77,9 +97,10 @@ party_at (place.Client c) = Client c
 party_at (place.ReplicaTwin r at) = Replica r
 party_at (place.ClientTwin c at) = Client c
 
--- the faulty ones are parties, the rings of the parties stand by their numbers, and the further cores of the faulty parties in the order of the list
-pub record IsSetup (x : Setup) (replica_rings client_rings : List Ring) (replicas clients : List (ℕ × ℕ)) : Type 0 where
+-- the faulty ones are parties, the signature keys and rings stand by the numbers of their parties, and the further cores of the faulty parties in the order of the list
+pub record IsSetup (x : Setup) (signers : List SignKey) (replica_rings client_rings : List Ring) (replicas clients : List (ℕ × ℕ)) : Type 0 where
   pub parties : All (λ e. IsTrue (is_party x.cluster.f x.cluster.clients e.0)) x.faulty
+  pub keys : signers ≡ keys_of x
   pub of_replicas : (r : ℕ) → r < 3 * x.cluster.f + 1 → slice_get replica_rings r ≡ Some (ring_at x (Replica r))
   pub of_clients : (c : ℕ) → c < x.cluster.clients → slice_get client_rings c ≡ Some (ring_at x (Client c))
   pub twins_of_replicas : replicas ≡ replica_twins x.faulty

@@ -3,27 +3,28 @@
 ghost use Rattle.std.specs.Prelude.{option_and_then, ◌≡◌, ◌+◌, ◌*◌, ◌<◌, ◌≤◌, ℕ, IsTrue, IfOk, IfErr, OnOk, OnErr, Option, Some, None, length, slice_get};
 ghost use Rattle.std.specs.Option.{option_map};
 ghost use Rattle.ab_num.specs.declared.party.Party.{Party as TheParty};
-ghost use Rattle.ab_num.specs.Places.{kind_of};
-ghost use Rattle.ab_msg.specs.Views.{IsReceived, message as message_of};
+ghost use Rattle.ab_abs.specs.Promises.{ServesAll};
+ghost use Rattle.ab_wire.specs.Views.{IsReceived, message as message_of};
 ghost use Rattle.ab_cast.specs.Setups.{place_of, party_at};
-ghost use Rattle.ab_cast.specs.Cores.{Core, command, message};
+ghost use Rattle.ab_cast.specs.Cores.{Core, command, message, time};
+ghost use Rattle.ab_cast.specs.Hearing.{IsGiven, taken_of};
 ghost use Rattle.ab_cast.specs.Casts.{AreSeats, IsTaken, core_at, next, first_cast, is_free, command_refusal, CommandCause};
 
 use crate::cores::{
     first_client_twins, first_clients, first_replica_twins, first_replicas, hear_client,
     hear_replica, tell_client,
 };
-use crate::effects::Effects;
 use crate::fault::CommandFault;
+use crate::given::Given;
 use crate::place::Place;
-use crate::replica::Replica;
 use crate::setup::Setup;
 use ab_abs::Protocol;
 use ab_client::Client;
 use ab_hist::History;
-use ab_msg::MsgRef;
 use ab_num::OutOfMemory;
+use ab_replica::{Effects, Replica};
 use ab_svc::Service;
+use ab_wire::MsgRef;
 use std::alloc::Global;
 use std::marker::Model;
 
@@ -63,14 +64,13 @@ impl<S: Service, P: Protocol<S>> Model for Cast<S, P> {
 }
 
 impl<S: Service, P: Protocol<S>> Cast<S, P> {
-    /// The cores before the first event, where P serves the kind that the plan gives to instance 1.
+    /// The cores before the first event, where P serves each kind of the plan.
     pub fn new(alloc: Global, setup: Setup) -> Result<Self, OutOfMemory>
-        requires { IsTrue (P.serves (kind_of setup.cluster.plan 1)) }
+        requires { ServesAll P.serves setup.cluster }
         ensures { IfOk result (λ x. x ≡ first_cast P.proto setup) }
     {
-        let cluster = setup.cluster();
-        let replicas = first_replicas(alloc, cluster)?;
-        let clients = first_clients(alloc, cluster)?;
+        let replicas = first_replicas(alloc, &setup)?;
+        let clients = first_clients(alloc, setup.cluster())?;
         let replica_twins = first_replica_twins(alloc, &setup)?;
         let client_twins = first_client_twins(alloc, &setup)?;
         Ok(Cast {
@@ -100,7 +100,7 @@ impl<S: Service, P: Protocol<S>> Cast<S, P> {
 
     /// The log that replica `r` has. None exactly where there is no such replica.
     pub fn log_of(&self, r: u8) -> Option<&History>
-        ensures { option_map (λ log. log.now) result ≡ option_map (λ s. (P.proto.state s.value).log) (slice_get self.now.replicas r) }
+        ensures { option_map (λ log. log.now) result ≡ option_map (λ s. (P.proto.state s.rep.value).log) (slice_get self.now.replicas r) }
     {
         let replica = self.replicas.get(r as usize)?;
         Some(replica.log())
@@ -109,15 +109,24 @@ impl<S: Service, P: Protocol<S>> Cast<S, P> {
     /// The history that replica `r` accepted in slot 0 in its present view. None where there is no
     /// such replica, too.
     pub fn first_of(&self, r: u8) -> Option<&History>
-        ensures { option_map (λ h. h.now) result ≡ option_and_then (λ s. (P.proto.state s.value).first) (slice_get self.now.replicas r) }
+        ensures { option_map (λ h. h.now) result ≡ option_and_then (λ s. (P.proto.state s.rep.value).first) (slice_get self.now.replicas r) }
     {
         let replica = self.replicas.get(r as usize)?;
         replica.first()
     }
 
+    /// The history with which replica `r` entered its instance. None exactly where there is no such
+    /// replica.
+    pub fn base_of(&self, r: u8) -> Option<&History>
+        ensures { option_map (λ h. h.now) result ≡ option_map (λ s. s.rep.entry.base) (slice_get self.now.replicas r) }
+    {
+        let replica = self.replicas.get(r as usize)?;
+        Some(&replica.entry().base)
+    }
+
     /// The instance in which replica `r` is. None exactly where there is no such replica.
     pub fn instance_of(&self, r: u8) -> Option<u32>
-        ensures { result ≡ option_map (λ s. s.at) (slice_get self.now.replicas r) }
+        ensures { result ≡ option_map (λ s. s.rep.at) (slice_get self.now.replicas r) }
     {
         let replica = self.replicas.get(r as usize)?;
         Some(replica.instance())
@@ -158,33 +167,63 @@ impl<S: Service, P: Protocol<S>> Cast<S, P> {
         &mut self,
         alloc: Global,
         place: Place,
-        m: &MsgRef<'_>,
+        m: MsgRef<'_>,
     ) -> Result<Effects, OutOfMemory>
         requires few { self.old.events < 100000 }
-        requires received { IsReceived m.now }
+        requires received { IsReceived m }
         requires there { (twin : Option ℕ) × (place_of self.old.setup (party_at place) twin ≡ Some place) }
         ensures taken { (s : Core P) → core_at self.old place ≡ Some s
-            → IfOk result (λ e. IsTaken P.proto self.old place s (message (message_of m.now)) self.new e.outs e.marks.items e.spent) }
+            → IfOk result (λ e. IsTaken P.proto self.old place s (message (message_of m.entry)) self.new e.outs e.marks.items e.spent) }
+        ensures err { OnErr result (self.new ≡ self.old) }
+    {
+        self.give(alloc, place, Given::Message(m))
+    }
+
+    /// The timer of the core at a place of the cluster runs out. After an `Err` all is as before.
+    pub fn ring(&mut self, alloc: Global, place: Place) -> Result<Effects, OutOfMemory>
+        requires few { self.old.events < 100000 }
+        requires there { (twin : Option ℕ) × (place_of self.old.setup (party_at place) twin ≡ Some place) }
+        ensures taken { (s : Core P) → core_at self.old place ≡ Some s
+            → IfOk result (λ e. IsTaken P.proto self.old place s time self.new e.outs e.marks.items e.spent) }
+        ensures err { OnErr result (self.new ≡ self.old) }
+    {
+        self.give(alloc, place, Given::Time)
+    }
+
+    /// The core at a place of the cluster takes what comes. After an `Err` all is as before.
+    fn give(
+        &mut self,
+        alloc: Global,
+        place: Place,
+        given: Given<'_>,
+    ) -> Result<Effects, OutOfMemory>
+        requires few { self.old.events < 100000 }
+        requires given { IsGiven given }
+        requires there { (twin : Option ℕ) × (place_of self.old.setup (party_at place) twin ≡ Some place) }
+        ensures taken { (s : Core P) → core_at self.old place ≡ Some s
+            → IfOk result (λ e. IsTaken P.proto self.old place s (taken_of given.entry) self.new e.outs e.marks.items e.spent) }
         ensures err { OnErr result (self.new ≡ self.old) }
     {
         match place {
             Place::Replica(r) => {
-                let effects = hear_replica(alloc, &mut self.replicas, r as usize, m)?;
+                let cores = &mut self.replicas;
+                let effects = hear_replica(alloc, &self.setup, r, cores, r as usize, given)?;
                 self.events += 1;
                 Ok(effects)
             }
             Place::Client(c) => {
-                let effects = hear_client(alloc, &mut self.clients, c as usize, m);
+                let effects = hear_client(alloc, &mut self.clients, c as usize, given)?;
                 self.events += 1;
                 Ok(effects)
             }
-            Place::ReplicaTwin(_, at) => {
-                let effects = hear_replica(alloc, &mut self.replica_twins, at, m)?;
+            Place::ReplicaTwin(r, at) => {
+                let cores = &mut self.replica_twins;
+                let effects = hear_replica(alloc, &self.setup, r, cores, at, given)?;
                 self.events += 1;
                 Ok(effects)
             }
             Place::ClientTwin(_, at) => {
-                let effects = hear_client(alloc, &mut self.client_twins, at, m);
+                let effects = hear_client(alloc, &mut self.client_twins, at, given)?;
                 self.events += 1;
                 Ok(effects)
             }

@@ -1,43 +1,54 @@
 //! Events of single cores, and the cores before the first event.
 
-ghost use Rattle.std.specs.Prelude.{◌≡◌, ◌≢◌, ◌+◌, ◌*◌, ◌-◌, ◌^◌, ◌<◌, ◌≤◌, ◌++◌, ◌⊎◌, [], false, ℕ, All, IsTrue, IfOk, IfErr, OnOk, OnErr, Some, None, length, map, replicate, slice_get, slice_set, vec_len};
-ghost use Rattle.ab_num.specs.declared.cluster.Cluster.{Cluster as TheCluster};
+ghost use Rattle.std.specs.Prelude.{◌≡◌, ◌≢◌, ◌+◌, ◌*◌, ◌-◌, ◌^◌, ◌<◌, ◌≤◌, ◌++◌, ◌⊎◌, false, ℕ, All, IsTrue, IfOk, IfErr, OnOk, OnErr, length, map, replicate, slice_get, slice_set, vec_len};
 ghost use Rattle.ab_num.specs.declared.party.Party.TheVariants.{Client as ClientParty};
-ghost use Rattle.ab_num.specs.Places.{kind_of};
-ghost use Rattle.ab_msg.specs.Views.{IsReceived, message as message_of};
-ghost use Rattle.ab_run.specs.Replicas.{Rep};
-ghost use Rattle.ab_run.specs.Runs.{first_rep};
-ghost use Rattle.ab_run.specs.Stages.{first_reps};
-ghost use Rattle.ab_run.specs.Local.{cue_message};
+ghost use Rattle.ab_abs.specs.Promises.{ServesAll};
+ghost use Rattle.ab_run.specs.Forms.{IsDraftOf};
 ghost use Rattle.ab_run.specs.declared.phase.Phase.TheVariants.{Idle};
-ghost use Rattle.ab_client.specs.Clients.{Seat, alone, told, after, sends, marks};
-ghost use Rattle.ab_client.specs.Drafts.{IsDraftOf};
-ghost use Rattle.ab_cast.specs.Setups.{replica_twins, client_twins};
-ghost use Rattle.ab_cast.specs.Casts.{first_seat, first_seats};
-ghost use Rattle.ab_cast.specs.Signing.{RepHears};
+ghost use Rattle.ab_replica.specs.Sites.{Site};
+ghost use Rattle.ab_client.specs.Clients.{Seat, told, after, sends, marks};
+ghost use Rattle.ab_cast.specs.Setups.{client_twins, replica_twins, signatures_of};
+ghost use Rattle.ab_cast.specs.Cores.{cue_of};
+ghost use Rattle.ab_cast.specs.Hearing.{IsGiven, RepHears, call_of, taken_of};
+ghost use Rattle.ab_cast.specs.Casts.{IsSite, first_seat, first_seats, first_site, first_sites};
 
-use crate::effects::Effects;
 use crate::fault::CommandFault;
-use crate::replica::Replica;
+use crate::given::Given;
 use crate::setup::Setup;
 use ab_abs::Protocol;
 use ab_client::{Client, InvokeFault};
-use ab_msg::{MsgRef, Outs};
 use ab_num::{Cluster, OutOfMemory, Party};
+use ab_replica::{Effects, Replica};
+use ab_sign::Pen;
 use ab_svc::Service;
 use std::alloc::Global;
+
+/// Replica `me` before the first event, with all its signatures left.
+fn first_replica<S: Service, P: Protocol<S>>(
+    alloc: Global,
+    setup: &Setup,
+    me: u8,
+) -> Result<Replica<S, P>, OutOfMemory>
+    requires served { ServesAll P.serves setup.now.cluster }
+    requires replica { me < 3 * setup.now.cluster.f + 1 }
+    ensures { IfOk result (λ q. q ≡ first_site setup.now P.proto me) }
+{
+    let signatures = setup.signatures();
+    Replica::new(alloc, setup.cluster(), me, signatures)
+}
 
 /// The own replicas before the first event.
 pub(crate) fn first_replicas<S: Service, P: Protocol<S>>(
     alloc: Global,
-    cluster: &Cluster,
+    setup: &Setup,
 ) -> Result<Vec<Replica<S, P>>, OutOfMemory>
-    requires { IsTrue (P.serves (kind_of cluster.now.plan 1)) }
-    ensures { IfOk result (λ v. v.items ≡ first_reps (alone cluster.now) P.proto (3 * cluster.now.f + 1)) }
+    requires { ServesAll P.serves setup.now.cluster }
+    ensures { IfOk result (λ v. v.items ≡ first_sites setup.now P.proto (3 * setup.now.cluster.f + 1)) }
 {
-    let mut replicas = Vec::with_capacity(alloc, cluster.replicas() as usize)?;
-    for me in 0..cluster.replicas() {
-        replicas.push(Replica::new(alloc, cluster, me)?)?;
+    let count = setup.cluster().replicas();
+    let mut replicas = Vec::with_capacity(alloc, count as usize)?;
+    for me in 0..count {
+        replicas.push(first_replica(alloc, setup, me)?)?;
     }
     Ok(replicas)
 }
@@ -48,7 +59,7 @@ pub(crate) fn first_clients(alloc: Global, cluster: &Cluster) -> Result<Vec<Clie
 {
     let mut clients = Vec::with_capacity(alloc, cluster.clients as usize)?;
     for me in 0..cluster.clients {
-        clients.push(Client::new(cluster, me))?;
+        clients.push(Client::new(alloc, cluster, me))?;
     }
     Ok(clients)
 }
@@ -57,17 +68,17 @@ pub(crate) fn first_clients(alloc: Global, cluster: &Cluster) -> Result<Vec<Clie
 #[tactic(auto, using(crate::proofs::StepLemmas::replicate_more))]
 fn add_replicas<S: Service, P: Protocol<S>>(
     alloc: Global,
-    cluster: &Cluster,
+    setup: &Setup,
     me: u8,
     more: u8,
     twins: &mut Vec<Replica<S, P>>,
 ) -> Result<(), OutOfMemory>
-    requires served { IsTrue (P.serves (kind_of cluster.now.plan 1)) }
-    requires replica { me < 3 * cluster.now.f + 1 }
-    ensures { OnOk result (twins.new.items ≡ twins.old.items ++ replicate more (first_rep (alone cluster.now) P.proto me)) }
+    requires served { ServesAll P.serves setup.now.cluster }
+    requires replica { me < 3 * setup.now.cluster.f + 1 }
+    ensures { OnOk result (twins.new.items ≡ twins.old.items ++ replicate more (first_site setup.now P.proto me)) }
 {
     for _ in 0..more {
-        twins.push(Replica::new(alloc, cluster, me)?)?;
+        twins.push(first_replica(alloc, setup, me)?)?;
     }
     Ok(())
 }
@@ -75,6 +86,7 @@ fn add_replicas<S: Service, P: Protocol<S>>(
 /// Adds so many further cores of a client.
 #[tactic(auto, using(crate::proofs::StepLemmas::replicate_more))]
 fn add_clients(
+    alloc: Global,
     cluster: &Cluster,
     me: u16,
     more: u8,
@@ -83,7 +95,7 @@ fn add_clients(
     ensures { OnOk result (twins.new.items ≡ twins.old.items ++ replicate more (first_seat cluster.now me)) }
 {
     for _ in 0..more {
-        twins.push(Client::new(cluster, me))?;
+        twins.push(Client::new(alloc, cluster, me))?;
     }
     Ok(())
 }
@@ -93,19 +105,13 @@ pub(crate) fn first_replica_twins<S: Service, P: Protocol<S>>(
     alloc: Global,
     setup: &Setup,
 ) -> Result<Vec<Replica<S, P>>, OutOfMemory>
-    requires { IsTrue (P.serves (kind_of setup.now.cluster.plan 1)) }
-    ensures { IfOk result (λ v. v.items ≡ map (λ k. first_rep (alone setup.now.cluster) P.proto k.0) (replica_twins setup.now.faulty)) }
+    requires { ServesAll P.serves setup.now.cluster }
+    ensures { IfOk result (λ v. v.items ≡ map (λ k. first_site setup.now P.proto k.0) (replica_twins setup.now.faulty)) }
 {
     let mut twins = Vec::new(alloc);
     for entry in setup.faulty() {
         if let Party::Replica(r) = entry.0 {
-            add_replicas(
-                alloc,
-                setup.cluster(),
-                r,
-                entry.1.saturating_sub(1),
-                &mut twins,
-            )?;
+            add_replicas(alloc, setup, r, entry.1.saturating_sub(1), &mut twins)?;
         }
     }
     Ok(twins)
@@ -118,50 +124,71 @@ pub(crate) fn first_client_twins(alloc: Global, setup: &Setup) -> Result<Vec<Cli
     let mut twins = Vec::new(alloc);
     for entry in setup.faulty() {
         if let Party::Client(c) = entry.0 {
-            add_clients(setup.cluster(), c, entry.1.saturating_sub(1), &mut twins)?;
+            add_clients(
+                alloc,
+                setup.cluster(),
+                c,
+                entry.1.saturating_sub(1),
+                &mut twins,
+            )?;
         }
     }
     Ok(twins)
 }
 
-/// One replica takes a message. After an `Err` all are as before.
+/// One replica takes what comes, with the signatures that it has left. After an `Err` all are as
+/// before.
 pub(crate) fn hear_replica<S: Service, P: Protocol<S>>(
     alloc: Global,
+    setup: &Setup,
+    r: u8,
     cores: &mut Vec<Replica<S, P>>,
     at: usize,
-    m: &MsgRef<'_>,
+    given: Given<'_>,
 ) -> Result<Effects, OutOfMemory>
-    requires received { IsReceived m.now }
+    requires given { IsGiven given }
+    requires replica { r < 3 * setup.now.cluster.f + 1 }
     requires there { at < vec_len cores.old }
-    ensures heard { (s : Rep P) (c : TheCluster) (r : ℕ) → slice_get cores.old.items at ≡ Some s
-        → IfOk result (λ e. RepHears P.proto P.serves c r at s (message_of m.now) cores.old.items cores.new.items e.outs e.marks.items e.spent) }
+    requires own { (s : Site P) → slice_get cores.old.items at ≡ Some s → IsSite P.proto P.serves setup.now r s }
+    ensures heard { (s : Site P) → slice_get cores.old.items at ≡ Some s
+        → IfOk result (λ e. RepHears P.proto setup.now at s (call_of given.entry) cores.old.items cores.new.items e.outs e.marks.items e.spent) }
     ensures err { OnErr result (cores.new.items ≡ cores.old.items) }
 {
-    cores[at].on(alloc, m)
+    let core = &mut cores[at];
+    let mut pen = Pen::new(setup.signers(), r, core.used());
+    match given {
+        Given::Message(m) => core.on(alloc, m, &mut pen),
+        Given::Time => core.timeout(alloc, &mut pen),
+    }
 }
 
-/// One client takes a message.
+/// One client takes what comes. After an `Err` all are as before.
 pub(crate) fn hear_client(
     alloc: Global,
     cores: &mut Vec<Client>,
     at: usize,
-    m: &MsgRef<'_>,
-) -> Effects
-    requires received { IsReceived m.now }
+    given: Given<'_>,
+) -> Result<Effects, OutOfMemory>
+    requires given { IsGiven given }
     requires there { at < vec_len cores.old }
-    ensures cores { (s : Seat) → slice_get cores.old.items at ≡ Some s → cores.new.items ≡ slice_set cores.old.items at (after s (cue_message (message_of m.now))) }
-    ensures outs { (s : Seat) → slice_get cores.old.items at ≡ Some s → result.outs ≡ sends s (cue_message (message_of m.now)) }
-    ensures nothing { result.outs ≡ [] }
-    ensures marks { (s : Seat) → slice_get cores.old.items at ≡ Some s → result.marks.items ≡ marks s (cue_message (message_of m.now)) }
-    ensures spent { result.spent ≡ false }
-    ensures stamp { (s : Seat) → slice_get cores.old.items at ≡ Some s → (after s (cue_message (message_of m.now))).cli.stamp ≡ s.cli.stamp }
+    ensures cores { (s : Seat) → slice_get cores.old.items at ≡ Some s → OnOk result (cores.new.items ≡ slice_set cores.old.items at (after s (cue_of (taken_of given.entry)))) }
+    ensures outs { (s : Seat) → slice_get cores.old.items at ≡ Some s → IfOk result (λ e. e.outs ≡ sends s (cue_of (taken_of given.entry))) }
+    ensures marks { (s : Seat) → slice_get cores.old.items at ≡ Some s → IfOk result (λ e. e.marks.items ≡ marks s (cue_of (taken_of given.entry))) }
+    ensures drafts { (s : Seat) → slice_get cores.old.items at ≡ Some s → s.me ≤ 15 → IfOk result (λ e. All (IsDraftOf s.cluster.f (ClientParty s.me)) e.outs) }
+    ensures spent { IfOk result (λ e. e.spent ≡ false) }
+    ensures stamp { (s : Seat) → slice_get cores.old.items at ≡ Some s → OnOk result ((after s (cue_of (taken_of given.entry))).cli.stamp ≡ s.cli.stamp) }
+    ensures err { OnErr result (cores.new.items ≡ cores.old.items) }
 {
-    let marks = cores[at].on(alloc, m);
-    Effects {
-        outs: Outs::new(alloc),
+    let core = &mut cores[at];
+    let (outs, marks) = match given {
+        Given::Message(m) => core.on(alloc, m)?,
+        Given::Time => core.timeout(alloc)?,
+    };
+    Ok(Effects {
+        outs,
         marks,
         spent: false,
-    }
+    })
 }
 
 /// One client takes a command. After an `Err` all are as before.

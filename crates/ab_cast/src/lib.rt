@@ -4,15 +4,13 @@
 
 mod cast;
 mod cores;
-mod effects;
 mod fault;
+mod given;
 mod laws;
 mod place;
-mod replica;
 mod setup;
 
 pub use cast::{Cast, places_have_cores};
-pub use effects::Effects;
 pub use fault::CommandFault;
 pub use laws::{faulty_parties_have_their_cores, opened_messages_are_formed};
 pub use place::Place;

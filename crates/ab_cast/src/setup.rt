@@ -8,19 +8,23 @@ ghost use Rattle.ab_num.specs.Parties.{party_eq};
 ghost use Rattle.ab_keys.specs.Keys.{is_party};
 ghost use Rattle.ab_keys.specs.Rings.{ring_of};
 ghost use Rattle.ab_cast.specs.declared.place.Place.TheVariants as place;
-ghost use Rattle.ab_cast.specs.Setups.{is_bad, place_of, twin_place, ring_at, replica_twins, client_twins};
+ghost use Rattle.ab_cast.specs.Setups.{is_bad, keys_of, signatures_of, place_of, twin_place, ring_at, replica_twins, client_twins};
 
 use crate::place::Place;
 use ab_keys::{KeyRing, is_party};
-use ab_num::{Cluster, OutOfMemory, Party};
+use ab_num::{Cluster, Height, OutOfMemory, Party};
+use ab_sign::{Signers, Verifier};
 use std::alloc::Global;
 use std::marker::Model;
 
-/// A cluster with its faulty parties, the key ring of each party, and the places of their cores.
+/// A cluster with its faulty parties, the key ring of each party, the signature keys of the replicas,
+/// and the places of their cores.
 #[derive(Drop)]
 pub struct Setup {
     cluster: Cluster,
     faulty: Vec<(Party, u8)>,
+    lms: Height,
+    signers: Signers,
     replica_rings: Vec<KeyRing>,
     client_rings: Vec<KeyRing>,
     replica_twins: Vec<(u8, u8)>,
@@ -32,11 +36,11 @@ impl Model for Setup {
 
     ghost Value = { TheSetup };
 
-    ghost view = { λ x. record { cluster = x.cluster; faulty = x.faulty.items } };
+    ghost view = { λ x. record { cluster = x.cluster; faulty = x.faulty.items; lms = x.lms } };
 
     ghost invariant = { λ x. IsSetup
-        (record { cluster = x.cluster; faulty = x.faulty.items })
-        x.replica_rings.items x.client_rings.items x.replica_twins.items x.client_twins.items };
+        (record { cluster = x.cluster; faulty = x.faulty.items; lms = x.lms })
+        x.signers x.replica_rings.items x.client_rings.items x.replica_twins.items x.client_twins.items };
 }
 
 /// The rings of the replicas, by their numbers.
@@ -148,18 +152,21 @@ fn has(faulty: &[(Party, u8)], party: Party) -> bool
 
 impl Setup {
     /// The setup of a cluster in which these parties are faulty, each with the number of its cores.
-    /// The keys are those that the seed of 32 zeros gives.
+    /// The keys are those that the seed of 32 zeros gives; a replica's signature tree has this height.
     pub fn new(
         alloc: Global,
         cluster: &Cluster,
         faulty: &[(Party, u8)],
+        lms: Height,
     ) -> Result<Setup, OutOfMemory>
         requires { All (λ e. IsTrue (is_party cluster.now.f cluster.now.clients e.0)) faulty.now }
-        ensures { IfOk result (λ x. x ≡ record { cluster = cluster.now; faulty = faulty.now }) }
+        ensures { IfOk result (λ x. x ≡ record { cluster = cluster.now; faulty = faulty.now; lms = lms }) }
     {
         Ok(Setup {
             cluster: *cluster,
             faulty: Vec::from_slice(alloc, faulty)?,
+            lms,
+            signers: Signers::derive(alloc, cluster, lms, &[0; 32])?,
             replica_rings: replica_rings(alloc, cluster)?,
             client_rings: client_rings(alloc, cluster)?,
             replica_twins: replica_twins(alloc, faulty)?,
@@ -187,6 +194,39 @@ impl Setup {
         ensures { result ≡ is_bad self.now party }
     {
         has(self.faulty.as_slice(), party)
+    }
+
+    /// The height of the replicas' signature trees.
+    pub fn lms(&self) -> Height
+        ensures { result ≡ self.now.lms }
+    {
+        self.lms
+    }
+
+    /// How many signatures each replica can make.
+    pub(crate) fn signatures(&self) -> u64
+        ensures { result ≡ signatures_of self.now }
+    {
+        match self.lms {
+            Height::Five => 32,
+            Height::Ten => 1024,
+        }
+    }
+
+    /// The signature keys of the replicas.
+    pub(crate) fn signers(&self) -> &Signers
+        ensures { result.now ≡ keys_of self.now }
+    {
+        &self.signers
+    }
+
+    /// Who tells for a party of the cluster whether a tag or a signature is right.
+    pub fn verifier(&self, party: Party) -> Verifier<'_>
+        requires { IsTrue (is_party self.now.cluster.f self.now.cluster.clients party) }
+        ensures ring { result.ring.now ≡ ring_at self.now party }
+        ensures signers { result.signers.now ≡ keys_of self.now }
+    {
+        Verifier::new(self.ring(party), &self.signers)
     }
 
     /// The ring of a party of the cluster.

@@ -2,3 +2,4 @@
 pub mod CheckLemmas
 pub mod ClaimLemmas
 pub mod ChainLemmas
+pub mod MessageLemmas

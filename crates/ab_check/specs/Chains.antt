@@ -1,8 +1,8 @@
 -- What is checked of a request on its way along a chain.
-use Rattle.std.specs.Prelude.{ℕ, ◌+◌, List, [], ◌∷◌, Option, Some, None, nat_le, if◌then◌else◌}
+use Rattle.std.specs.Prelude.{ℕ, ◌+◌, ◌*◌, ◌<◌, List, [], ◌∷◌, Option, Some, None, nat_le, if◌then◌else◌}
 use Rattle.std.specs.Borrow.{Bor}
 use Rattle.ab_num.specs.declared.party.Party.{Party}
-use Rattle.ab_num.specs.declared.party.Party.TheVariants.{Replica}
+use Rattle.ab_num.specs.declared.party.Party.TheVariants.{Replica, Client}
 use Rattle.ab_num.specs.Places.{at_position_of}
 use Rattle.ab_msg.specs.declared.content.Content.{Content}
 use Rattle.ab_msg.specs.declared.content.Content.TheVariants.{Resp, ChainTag}
@@ -31,3 +31,8 @@ said_before f l p = each_before (f + 1) (λ q. said l (at_position_of f l.instan
 -- the client's request, at the first f + 1 positions
 abbrev pub asked_at : ℕ → ℕ → Request → ℕ → List Content
 asked_at f i m p = if nat_le p (f + 1) then asked i m ∷ [] else []
+
+-- where f may be faulty, a replica is one of 3f + 1
+abbrev pub IsPlaced : ℕ → Party → Type 0
+IsPlaced f (Replica r) = r < 3 * f + 1
+IsPlaced f (Client c) = Unit {0}

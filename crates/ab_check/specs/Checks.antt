@@ -1,5 +1,6 @@
 -- What a party checks of a message, in order.
-use Rattle.std.specs.Prelude.{ℕ, suc, List, [], ◌∷◌, ◌++◌, map, Bool, ◌&&◌, Option, Some, None, Result, Ok, Err, if◌then◌else◌}
+use Rattle.std.specs.Prelude.{ℕ, suc, List, [], ◌∷◌, ◌++◌, map, Bool, true, false, ◌&&◌, Option, Some, None, Result, Ok, Err, if◌then◌else◌}
+use Rattle.arrayvec.specs.ArrayVec.{ArrayVec}
 use Rattle.ab_num.specs.declared.party.Party.{Party}
 use Rattle.ab_num.specs.declared.party.Party.TheVariants.{Replica, Client}
 use Rattle.ab_num.specs.Parties.{party_eq}
@@ -101,3 +102,24 @@ checks_of f me (msg.Prepare prepare) = signed_check prepare ∷ []
 checks_of f me (msg.Commit content tag) = tagged content (Some tag) ∷ []
 checks_of f me (msg.ViewChange change) = proof_checks change
 checks_of f me (msg.NewView content tag changes) = tagged content (Some tag) ∷ all_checks changes
+
+-- whether a client is handed no reply
+abbrev pub lacks_reply : Party → Option (ArrayVec ℕ) → Bool
+lacks_reply (Client c) None = true
+lacks_reply p reply = false
+
+-- whether nothing can stand for the first claim: of a CHAIN without a reply at its client, and of a PREPARE of the party itself. Its own
+-- signatures count within certificates and view changes alone
+abbrev pub is_refused : Party → Msg → Bool
+is_refused me (msg.Chain i m n d reply tags) = lacks_reply me reply
+is_refused me (msg.Prepare prepare) = party_eq (maker_of prepare.content) me
+is_refused me _ = false
+
+-- that all are right, or the place of the first that isn't
+abbrev pub outcome : Result ℕ ℕ → Result (Unit {0}) ℕ
+outcome (Ok behind) = Ok tt
+outcome (Err place) = Err place
+
+-- what a party finds as it checks a message
+abbrev pub checks : Judge → ℕ → Party → Msg → Result (Unit {0}) ℕ
+checks judge f me m = if is_refused me m then Err 0 else outcome (checked_from judge 0 (checks_of f me m))

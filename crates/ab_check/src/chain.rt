@@ -66,8 +66,8 @@ fn answer_text(l: &LinkRef<'_>, r: u8, reply: &[u8]) -> Text
     text
 }
 
-/// What replica `r` states, in bytes.
-fn said_text(l: &LinkRef<'_>, r: u8) -> Text
+/// What replica `r` states, in bytes. They take no memory.
+pub fn said_text(l: &LinkRef<'_>, r: u8) -> Text
     requires { IfSome l.now.reply (λ reply. length reply.now ≤ 72) }
     ensures { result.items ≡ spell_content (said l.now r) }
 {

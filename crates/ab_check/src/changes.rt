@@ -16,51 +16,62 @@ use crate::slots::check_slots;
 use ab_content::ContentRef;
 use ab_form::ListRef;
 use ab_wire::{PreparesRef, ProofRef};
+use std::alloc::Global;
 
 /// Checks the PREPAREs that stand behind a content.
 fn check_prepared<'a, C: Checker>(
-    c: &C,
+    alloc: Global,
+    c: &mut C,
     place: u32,
     content: ContentRef<'a>,
     prepares: ListRef<'a, PreparesRef<'a>>,
 ) -> Result<u32, u32>
     requires lawful { IsChange (shown content) }
     requires room { place + length (slots_checks (instance_of (shown content)) 0 (entries_of (shown content)) (listed prepares_at prepares.count prepares.bytes.now)) ≤ 4294967295 }
-    ensures { result ≡ checked_from (C.judge c.now) place (slots_checks (instance_of (shown content.entry)) 0 (entries_of (shown content.entry)) (listed prepares_at prepares.entry.count prepares.entry.bytes.now)) }
+    ensures checked { result ≡ checked_from (C.judge c.old) place (slots_checks (instance_of (shown content.entry)) 0 (entries_of (shown content.entry)) (listed prepares_at prepares.entry.count prepares.entry.bytes.now)) }
+    ensures same { C.judge c.new ≡ C.judge c.old }
 {
     match content {
         ContentRef::ViewChange {
             instance,
             entries,
             ..
-        } => check_slots(c, place, instance, entries, prepares),
+        } => check_slots(alloc, c, place, instance, entries, prepares),
         _ => Ok(place),
     }
 }
 
 /// Checks the signatures of a view change in their order.
-pub fn check_proof<'a, C: Checker>(c: &C, place: u32, v: ProofRef<'a>) -> Result<u32, u32>
+pub fn check_proof<'a, C: Checker>(
+    alloc: Global,
+    c: &mut C,
+    place: u32,
+    v: ProofRef<'a>,
+) -> Result<u32, u32>
     requires lawful { IsProof (proof v) }
     requires room { place + length (proof_checks (proof v)) ≤ 4294967295 }
     requires stated { Spells v.change.bytes.now v.change.content }
-    ensures { result ≡ checked_from (C.judge c.now) place (proof_checks (proof v.entry)) }
+    ensures checked { result ≡ checked_from (C.judge c.old) place (proof_checks (proof v.entry)) }
+    ensures same { C.judge c.new ≡ C.judge c.old }
 {
-    let next = check_signed(c, place, &v.change)?;
-    check_prepared(c, next, v.change.content, v.prepares)
+    let next = check_signed(alloc, c, place, &v.change)?;
+    check_prepared(alloc, c, next, v.change.content, v.prepares)
 }
 
 /// Checks the signatures of each view change, in their order.
 pub fn check_changes<'a, C: Checker>(
-    c: &C,
+    alloc: Global,
+    c: &mut C,
     place: u32,
     changes: ListRef<'a, ProofRef<'a>>,
 ) -> Result<u32, u32>
     requires room { place + length (all_checks (listed proof_at changes.count changes.bytes.now)) ≤ 4294967295 }
-    ensures { result ≡ checked_from (C.judge c.now) place (all_checks (listed proof_at changes.entry.count changes.entry.bytes.now)) }
+    ensures checked { result ≡ checked_from (C.judge c.old) place (all_checks (listed proof_at changes.entry.count changes.entry.bytes.now)) }
+    ensures same { C.judge c.new ≡ C.judge c.old }
 {
     let mut place = place;
     'changes: for v in changes {
-        place = check_proof(c, place, v)?;
+        place = check_proof(alloc, c, place, v)?;
     }
     Ok(place)
 }

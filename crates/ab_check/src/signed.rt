@@ -11,15 +11,22 @@ use crate::checker::Checker;
 use ab_form::ListRef;
 use ab_num::Party;
 use ab_wire::SignedRef;
+use std::alloc::Global;
 
 /// Checks a signature at a place, and gives the next place.
-pub fn check_signed<C: Checker>(c: &C, place: u32, s: &SignedRef<'_>) -> Result<u32, u32>
+pub fn check_signed<C: Checker>(
+    alloc: Global,
+    c: &mut C,
+    place: u32,
+    s: &SignedRef<'_>,
+) -> Result<u32, u32>
     requires room { place + 1 ≤ 4294967295 }
     requires stated { Spells s.now.bytes.now s.now.content }
     requires maker { maker_of (shown s.now.content) ≡ Replica s.now.maker }
-    ensures { result ≡ checked_from (C.judge c.now) place (signed_check (signed s.now) ∷ []) }
+    ensures checked { result ≡ checked_from (C.judge c.old) place (signed_check (signed s.now) ∷ []) }
+    ensures same { C.judge c.new ≡ C.judge c.old }
 {
-    if c.sig(Party::Replica(s.maker), s.bytes, s.sig) {
+    if c.sig(alloc, Party::Replica(s.maker), s.bytes, s.sig) {
         Ok(place + 1)
     } else {
         Err(place)
@@ -28,16 +35,18 @@ pub fn check_signed<C: Checker>(c: &C, place: u32, s: &SignedRef<'_>) -> Result<
 
 /// Checks the signature of each ABORT, in their order.
 pub fn check_aborts<'a, C: Checker>(
-    c: &C,
+    alloc: Global,
+    c: &mut C,
     place: u32,
     aborts: ListRef<'a, SignedRef<'a>>,
 ) -> Result<u32, u32>
     requires room { place + length (listed_aborts aborts) ≤ 4294967295 }
-    ensures { result ≡ checked_from (C.judge c.now) place (aborts_checks (listed_aborts aborts.entry)) }
+    ensures checked { result ≡ checked_from (C.judge c.old) place (aborts_checks (listed_aborts aborts.entry)) }
+    ensures same { C.judge c.new ≡ C.judge c.old }
 {
     let mut place = place;
     'aborts: for abort in aborts {
-        place = check_signed(c, place, &abort)?;
+        place = check_signed(alloc, c, place, &abort)?;
     }
     Ok(place)
 }

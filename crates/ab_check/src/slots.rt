@@ -13,10 +13,12 @@ use ab_content::{EntryRef, SignerRef};
 use ab_form::ListRef;
 use ab_num::Party;
 use ab_wire::PreparesRef;
+use std::alloc::Global;
 
 /// Checks the signature of each replica over its PREPARE of this slot, in their order.
 pub fn check_slot<'a, C: Checker>(
-    c: &C,
+    alloc: Global,
+    c: &mut C,
     place: u32,
     instance: u32,
     view: u32,
@@ -25,12 +27,13 @@ pub fn check_slot<'a, C: Checker>(
     by: ListRef<'a, SignerRef<'a>>,
 ) -> Result<u32, u32>
     requires room { place + length (listed signer_at by.count by.bytes.now) ≤ 4294967295 }
-    ensures { result ≡ checked_from (C.judge c.now) place (slot_checks instance view slot x.now (listed signer_at by.entry.count by.entry.bytes.now)) }
+    ensures checked { result ≡ checked_from (C.judge c.old) place (slot_checks instance view slot x.now (listed signer_at by.entry.count by.entry.bytes.now)) }
+    ensures same { C.judge c.new ≡ C.judge c.old }
 {
     let mut place = place;
     'by: for s in by {
         let text = prepare_text(s.replica, instance, view, slot, x);
-        if !c.sig(Party::Replica(s.replica), text.as_slice(), s.sig) {
+        if !c.sig(alloc, Party::Replica(s.replica), text.as_slice(), s.sig) {
             return Err(place);
         }
         place += 1;
@@ -40,7 +43,8 @@ pub fn check_slot<'a, C: Checker>(
 
 /// Checks the PREPAREs of a view change, slot by slot from this slot on.
 pub fn check_slots<'a, C: Checker>(
-    c: &C,
+    alloc: Global,
+    c: &mut C,
     place: u32,
     instance: u32,
     entries: ListRef<'a, EntryRef<'a>>,
@@ -48,7 +52,8 @@ pub fn check_slots<'a, C: Checker>(
 ) -> Result<u32, u32>
     requires few { length (listed entry_at entries.count entries.bytes.now) ≤ 255 }
     requires room { place + length (slots_checks instance 0 (listed entry_at entries.count entries.bytes.now) (listed prepares_at prepares.count prepares.bytes.now)) ≤ 4294967295 }
-    ensures { result ≡ checked_from (C.judge c.now) place (slots_checks instance 0 (listed entry_at entries.entry.count entries.entry.bytes.now) (listed prepares_at prepares.entry.count prepares.entry.bytes.now)) }
+    ensures checked { result ≡ checked_from (C.judge c.old) place (slots_checks instance 0 (listed entry_at entries.entry.count entries.entry.bytes.now) (listed prepares_at prepares.entry.count prepares.entry.bytes.now)) }
+    ensures same { C.judge c.new ≡ C.judge c.old }
 {
     let mut place = place;
     let mut slot = 0;
@@ -56,7 +61,7 @@ pub fn check_slots<'a, C: Checker>(
     'slots: for e in entries {
         match prepares.next() {
             Some(p) => {
-                place = check_slot(c, place, instance, e.view, slot, e.x, p.by)?;
+                place = check_slot(alloc, c, place, instance, e.view, slot, e.x, p.by)?;
                 slot += 1;
             }
             None => return Ok(place),

@@ -1,6 +1,6 @@
 //! Contents with tags.
 
-ghost use Rattle.std.specs.Prelude.{◌≡◌, ◌+◌, ◌≤◌, ◌∷◌, [], ℕ, length, Some};
+ghost use Rattle.std.specs.Prelude.{◌≡◌, ◌+◌, ◌≤◌, ◌∷◌, [], ℕ, length, Some, IfOk};
 ghost use Rattle.std.specs.Option.{option_map};
 ghost use Rattle.ab_msg.specs.Claims.{asked};
 ghost use Rattle.ab_msg.specs.Messages.{IsOffer};
@@ -15,6 +15,7 @@ use ab_content::{ContentRef, RequestRef};
 use ab_msg::Tag;
 use ab_num::Party;
 use ab_wire::OfferRef;
+use std::alloc::Global;
 
 /// Checks the tag over a content at a place, and gives the next place.
 pub fn check_tag<C: Checker>(
@@ -26,7 +27,8 @@ pub fn check_tag<C: Checker>(
 ) -> Result<u32, u32>
     requires room { place + 1 ≤ 4294967295 }
     requires stated { Spells text.now content.now }
-    ensures { result ≡ checked_from (C.judge c.now) place (tagged (shown content.now) (option_map (λ t. t.now) tag.entry) ∷ []) }
+    ensures checked { result ≡ checked_from (C.judge c.now) place (tagged (shown content.now) (option_map (λ t. t.now) tag.entry) ∷ []) }
+    ensures next { IfOk result (λ n. n ≡ place + 1) }
 {
     if c.tag(content.maker(), text, tag) {
         Ok(place + 1)
@@ -57,17 +59,19 @@ pub fn check_asked<C: Checker>(
 
 /// Checks what a PRE-PREPARE offers.
 pub fn check_offer<'a, C: Checker>(
-    c: &C,
+    alloc: Global,
+    c: &mut C,
     place: u32,
     instance: u32,
     offer: OfferRef<'a>,
 ) -> Result<u32, u32>
     requires room { place + length (offer_checks instance (offered offer)) ≤ 4294967295 }
     requires lawful { (slot : ℕ) × IsOffer slot (offered offer) }
-    ensures { result ≡ checked_from (C.judge c.now) place (offer_checks instance (offered offer.entry)) }
+    ensures checked { result ≡ checked_from (C.judge c.old) place (offer_checks instance (offered offer.entry)) }
+    ensures same { C.judge c.new ≡ C.judge c.old }
 {
     match offer {
-        OfferRef::Base(aborts) => check_aborts(c, place, aborts),
+        OfferRef::Base(aborts) => check_aborts(alloc, c, place, aborts),
         OfferRef::Request { request, tag } => check_asked(c, place, instance, &request, Some(tag)),
     }
 }

@@ -1,10 +1,8 @@
 //! The keys that a seed gives to a party.
 
-ghost use Rattle.std.specs.Prelude.{◌≡◌, ◌+◌, ◌*◌, ◌++◌, IfOk, IsTrue, map};
+ghost use Rattle.std.specs.Prelude.{◌≡◌, ◌+◌, ◌*◌, IfOk, IsTrue, map};
 ghost use Rattle.std.specs.List.{range_with_len};
-ghost use Rattle.ab_num.specs.declared.party.Party.TheVariants.{Replica};
-ghost use Rattle.ab_mac.specs.Digests.{marked};
-ghost use Rattle.ab_keys.specs.Keys.{is_party, party_bytes};
+ghost use Rattle.ab_keys.specs.Keys.{is_party};
 ghost use Rattle.ab_keys.specs.Rings.{parties, peers_of};
 ghost use Rattle.ab_key_text.specs.Derived.{keys_of, own_secret, public_of, secret_of};
 
@@ -12,38 +10,16 @@ use crate::keys::PartyKeys;
 use crate::peers::peers_in;
 use crate::secret::Secret;
 use crate::shared::Shared;
-use ab_keys::{key_of, party_bytes};
-use ab_lms::Signer;
+use ab_keys::{key_of, tree_name, tree_seed};
+use ab_lms::public_key;
 use ab_num::{Cluster, Height, OutOfMemory, Party, ServiceName};
-use sha2::{Digest, Sha256};
 use std::alloc::Global;
 
-/// The mark of the name of a replica's tree.
-const TREE: u8 = 3;
-
-/// The mark of the seed of a replica's private values.
-const SIGNER: u8 = 4;
-
-/// The digest of a seed and a replica behind a mark.
-fn marked_replica(mark: u8, seed: &[u8; 32], r: u8) -> [u8; 32]
-    ensures { result ≡ marked mark (seed.now ++ party_bytes (Replica r)) }
-{
-    let mut hasher = Sha256::new();
-    hasher.update(&[mark]);
-    hasher.update(seed);
-    hasher.update(&party_bytes(Party::Replica(r)));
-    hasher.finalize()
-}
-
 /// The secret that a seed gives to replica `r`.
-#[tactic(auto, unfolding(crate::specs::Derived::secret_of))]
 fn secret_of(seed: &[u8; 32], r: u8) -> Secret
     ensures { result ≡ secret_of seed.now r }
 {
-    let name = marked_replica(TREE, seed, r);
-    let mut id = [0; 16];
-    id.copy_from_slice(&name[..16]);
-    Secret::new(id, marked_replica(SIGNER, seed, r))
+    Secret::new(tree_name(seed, r), tree_seed(seed, r))
 }
 
 /// The secret of a party.
@@ -56,14 +32,12 @@ fn own_secret(seed: &[u8; 32], me: Party) -> Option<Secret>
     }
 }
 
-/// The public key of replica `r`. It takes the whole of its tree.
+/// The public key of replica `r`.
 #[tactic(auto, unfolding(crate::specs::Derived::public_of))]
-fn public_of(alloc: Global, lms: Height, seed: &[u8; 32], r: u8) -> Result<[u8; 56], OutOfMemory>
-    ensures { IfOk result (λ key. key ≡ public_of lms seed.now r) }
+fn public_of(lms: Height, seed: &[u8; 32], r: u8) -> [u8; 56]
+    ensures { result ≡ public_of lms seed.now r }
 {
-    let secret = secret_of(seed, r);
-    let signer = Signer::new(alloc, lms, secret.id(), secret.seed())?;
-    Ok(signer.public())
+    public_key(lms, &tree_name(seed, r), &tree_seed(seed, r))
 }
 
 /// The public keys of the replicas.
@@ -77,7 +51,7 @@ fn publics_of(
 {
     let mut publics = Vec::new(alloc);
     for r in 0..c.replicas() {
-        publics.push(public_of(alloc, lms, seed, r)?)?;
+        publics.push(public_of(lms, seed, r))?;
     }
     Ok(publics)
 }
@@ -100,7 +74,7 @@ fn peers_of(
 }
 
 impl PartyKeys {
-    /// The keys that a seed gives to the party `me`. It makes the tree of each replica.
+    /// The keys that a seed gives to the party `me`. It computes the tree of each replica.
     pub fn derive(
         alloc: Global,
         c: &Cluster,

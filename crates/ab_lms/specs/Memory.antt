@@ -25,8 +25,7 @@ unfoldable pub row_of : List (List ℕ) → ℕ → ℕ → List ℕ
 row_of nodes r zero = []
 row_of nodes r (suc n) = row_of nodes r n ++ slice_index_or nodes (sibling (r / 2 ^ n)) []
 
--- the tree is that of the key, and no more leaves are used than there are
-pub record IsKept (height : Height) (id seed : List ℕ) (used : ℕ) (nodes : List (List ℕ)) : Type 0 where
+-- the tree is that of the key
+pub record IsKept (height : Height) (id seed : List ℕ) (nodes : List (List ℕ)) : Type 0 where
   pub named : length id ≡ 16
-  pub count : used ≤ 2 ^ levels height
   pub tree : IsTree id seed (2 ^ levels height) nodes

@@ -1,8 +1,14 @@
--- A signer: a key, and how many of its leaves have signed.
+-- A key with its tree; a signer, which is a key and how many of its leaves have signed.
 use Rattle.std.specs.Prelude.{ℕ, ◌+◌, ◌-◌, ◌^◌, List}
 use Rattle.ab_num.specs.declared.plan.Height.{Height}
 use Rattle.ab_lms.specs.Nodes.{levels}
 use Rattle.ab_lms.specs.Signatures.{public_key, lms_signature}
+
+-- the height of its tree, the name I, and the seed of the private values
+pub record TreeKey : Type 0 where
+  pub height : Height
+  pub id : List ℕ
+  pub seed : List ℕ
 
 -- the height of its tree, the name I, the seed of the private values, and the number of leaves that have signed
 pub record SignerState : Type 0 where

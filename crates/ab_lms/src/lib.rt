@@ -4,11 +4,15 @@
 
 mod laws;
 mod nodes;
+mod public;
 mod signer;
+mod tree;
 mod verification;
 
 pub use laws::verification_is_a_test;
+pub use public::public_key;
 pub use signer::{SignFault, Signer, signature_verifies};
+pub use tree::Tree;
 pub use verification::verify;
 
 #[cfg(test)]

@@ -1,6 +1,6 @@
 //! Keys and signatures that others made.
 
-use crate::{SignFault, Signer, verify};
+use crate::{SignFault, Signer, public_key, verify};
 use ab_mac::hash;
 use ab_num::Height;
 use std::test::Fail;
@@ -200,7 +200,6 @@ fn public_key_of_the_standard(rt: HostRuntime) -> Result<(), Fail> {
         0xa0, 0x43, 0x12, 0x35, 0x46, 0x6b, 0xff, 0x96, 0x51, 0xc6, 0xc9, 0x21, 0x24, 0x40, 0x4d,
         0x45, 0xfa, 0x53, 0xcf, 0x16, 0x1c, 0x28, 0xf1, 0xad, 0x5a, 0x8e,
     ];
-    let signer = Signer::new(rt.alloc(), Height::Ten, id, seed)?;
-    assert_eq!(rt; signer.public(), public);
+    assert_eq!(rt; public_key(Height::Ten, &id, &seed), public);
     Ok(())
 }

@@ -2,7 +2,7 @@
 use Rattle.std.proofs.Common.{◌≡◌, ℕ, ◌+◌, ◌<◌, ◌≤◌, ◌⊎◌, true, false, Bool, Some, None, Option, List, [], ◌∷◌, ◌++◌, length, map, refl, sym, ap, ◌∙◌, subst, inl, inr, arith, append-nil, true≢false}
 use Rattle.std.specs.Prelude.{Contains, nat_le, nat_lt, ◌==◌, ◌&&◌, if◌then◌else◌}
 use mathlib.Core.List.{IsPrefix}
-use Rattle.std.proofs.lemmas.Bool.{cases_Bool, cases_eq, and_parts, eqb-true, leb-true, ltb-true}
+use Rattle.std.proofs.lemmas.Bool.{cases_Bool, cases_eq, and_parts, eq-eqb, eqb-true, leb-true, ltb-true}
 use Rattle.std.proofs.lemmas.Grind.{flat_map-append}
 use Rattle.std.proofs.lemmas.List.Elements.{Contains-append_left, Contains-append_right, Contains-append_cases}
 use Rattle.ab_num.specs.declared.party.Party.{Party}
@@ -101,10 +101,10 @@ module _ {P : Type 0} (k : Setup) (proto : Proto P) where
       let there = after_turn k proto r s (turn_enter j cert h) in
       let may = nat_le s.at j && nat_lt j last_instance in
       elim (cases_Bool may) [
-        | inl yes ↦
-            subst (IsCalmFrom s) (sym (ap (λ (b : Bool). if b then turn_enter j cert h ∷ taken k proto there m else taken k proto s m) yes))
-            (enters j cert h (taken k proto there m) (leb-true s.at j (and_parts (nat_le s.at j) (nat_lt j last_instance) yes).0) (taken_calm there m (instance_in m)))
-        | inr no ↦ subst (IsCalmFrom s) (sym (ap (λ (b : Bool). if b then turn_enter j cert h ∷ taken k proto there m else taken k proto s m) no)) (calm_there s m)
+        | inl goes ↦
+            subst (IsCalmFrom s) (sym (ap (λ (b : Bool). if b then turn_enter j cert h ∷ taken k proto there m else taken k proto s m) goes))
+            (enters j cert h (taken k proto there m) (leb-true s.at j (and_parts (nat_le s.at j) (nat_lt j last_instance) goes).0) (taken_calm there m (instance_in m)))
+        | inr rests ↦ subst (IsCalmFrom s) (sym (ap (λ (b : Bool). if b then turn_enter j cert h ∷ taken k proto there m else taken k proto s m) rests)) (calm_there s m)
       ]
 
   by_calm : (r : ℕ) (s : Rep P) (m : Msg) (o : Option (List Signed)) → IsCalmFrom s (due_by k proto r s m o)
@@ -226,7 +226,7 @@ module _ {P : Type 0} (k : Setup) (proto : Proto P) where
         record {
           entered = λ same. is.entered;
           grows = λ same. is.grows;
-          based = λ differs. absurd (true≢false (sym (eqb-refl s.at) ∙ ap (λ n. s.at == n) (sym is.at) ∙ differs));
+          based = λ differs. absurd (true≢false (sym (eq-eqb s.at (after_turns k proto r s ts).at (sym is.at)) ∙ differs));
           each = λ h has. inl (is.each h has);
           last = is.last;
         }
@@ -344,7 +344,7 @@ module _ {P : Type 0} (k : Setup) (proto : Proto P) {serves : Kind → Bool} (fo
     pub each : (r : ℕ) → r < replicas k → is_faulty k.faulty (Replica r) ≡ false → (h : List Request) → Contains (had_at (state_at k proto (w.reps r))) h → Contains w.had h
     pub empty : Contains w.had []
 
-  entered_part : Rep P → Rep P → List (List Request)
+  abbrev entered_part : Rep P → Rep P → List (List Request)
   entered_part s now = if s.at == now.at then [] else now.entry.base ∷ []
 
   histories_entered : (b : Bool) (base : List Request) → histories_of (if b then [] else history base 0 ∷ []) ≡ (if b then [] else base ∷ [])

@@ -1,5 +1,6 @@
 -- What correct parties make in a run has bytes.
-use Rattle.std.proofs.Common.{◌≡◌, ℕ, suc, ◌+◌, ◌*◌, ◌<◌, ◌≤◌, ◌⊎◌, true, false, Bool, Some, None, Option, List, [], ◌∷◌, ◌++◌, length, refl, sym, ap, ◌∙◌, subst, inl, inr, arith, append-nil}
+use Rattle.std.proofs.Common.{◌≡◌, ℕ, zero, suc, ◌+◌, ◌*◌, ◌<◌, ◌≤◌, ◌⊎◌, true, false, Bool, Some, None, Option, List, [], ◌∷◌, ◌++◌, length, refl, sym, ap, ◌∙◌, subst, inl, inr, arith, append-nil}
+use Rattle.std.proofs.Math.Dec.{eqb-zero-suc}
 use Rattle.std.proofs.lemmas.Grind.{flat_map-append}
 use Rattle.std.specs.Prelude.{All, IsTrue, Contains, nat_le, nat_lt, ◌==◌, ◌&&◌, ◌^◌, if◌then◌else◌, flat_map, map}
 use Rattle.arrayvec.specs.ArrayVec.{ArrayVec}
@@ -36,7 +37,9 @@ use Rattle.ab_abs.specs.Messages.{Call, took, timed, IsFormed, offered_cert}
 use Rattle.ab_abs.specs.Certificates.{history_of, held_in, history_held, history_by, is_whole}
 use Rattle.ab_abs.specs.Ensembles.{Proto, entry_of}
 use Rattle.ab_abs.specs.Promises.{ServesAll}
-use Rattle.ab_abs.specs.Places.{KeepsForm, Arises, from_entry, by_call, by_stop}
+use Rattle.ab_abs.specs.Places.{KeepsForm}
+use Rattle.ab_run.specs.Forms.{IsWrittenRep, IsWrittenSetup}
+use Rattle.ab_run.proofs.Written.{IsGood, AllGood, good_if, due_good, first_written, abort_written, turn_keeps, turn_drafts}
 use Rattle.ab_abs.proofs.Certified.{certificate_written}
 use Rattle.ab_abs.proofs.Drafts.{few_replicas}
 use Rattle.ab_abs.proofs.Lists.{flat_map_cases, Contains-filter_cases}
@@ -59,115 +62,11 @@ one_of s c is has = elim (Contains-cons_cases s [] c has) [
   | inr gone ↦ absurd (omega (arith, gone.1))
 ]
 
--- ---- certificates
-
-some_need : (kd : Kind) (f : ℕ) → 1 ≤ need_of kd f
-some_need kind.Quorum f = omega arith
-some_need kind.ZLight f = omega arith
-some_need kind.Chain f = omega arith
-some_need kind.Backup f = omega arith
-
-none_held : (kd : Kind) (f n : ℕ) (h : List Request) → need_of kd f ≡ n → 1 ≤ n → history_held kd f (Some []) ≡ Some h → ⊥
-none_held kd f 0 h need some is = omega (arith, some)
-none_held kd f (suc n) h need some is =
-    let empty : history_held kd f (Some []) ≡ None = ap (λ z. if is_whole z [] then history_by (needs_equal kd) f [] else None) need in
-    let both : None ≡ Some h = sym empty ∙ is in
-    cc (both)
-
--- an empty one has no history
-some_aborts : (c : Cluster) (j : ℕ) (cert : List Signed) (h : List Request) → history_of c j cert ≡ Some h → 1 ≤ length cert
-some_aborts c j [] h is = absurd (none_held (kind_of c.plan j) c.f (need_of (kind_of c.plan j) c.f) h refl (some_need (kind_of c.plan j) c.f) is)
-some_aborts c j (s ∷ cert) h is = omega arith
-
-brought_aborts : (m : Msg) (cert : List Signed) → IsMessage m → brought m ≡ Some cert → AreAborts 0 7 cert
-brought_aborts (msg.Init aborts) cert of_grammar is =
-    let same : aborts ≡ cert = cc (is) in
-    subst (AreAborts 0 7) same ((omega arith, of_grammar.0.1), of_grammar.1)
-brought_aborts (msg.PrePrepare content tag (offer.Base aborts)) cert of_grammar is = let same : aborts ≡ cert = cc (is) in subst (AreAborts 0 7) same of_grammar.1.1
-brought_aborts (msg.PrePrepare content tag (offer.Request m t)) cert of_grammar is = absurd (cc (is))
-brought_aborts _ cert of_grammar is = absurd (cc (is))
-
--- ---- the turns of replicas
-
--- a turn whose parts have bytes
-abbrev IsGood : Turn → Type 0
-IsGood (turn_enter j cert h) = (j < last_instance) × (AreAborts 1 7 cert × IsWritten h)
-IsGood (turn_call call) = IsFormed call
-IsGood turn_halt = Unit {0}
-IsGood turn_sign = Unit {0}
-IsGood (turn_bring c) = Unit {0}
-IsGood (turn_abort c) = Unit {0}
-
-abbrev AllGood : List Turn → Type 0
-AllGood [] = Unit {0}
-AllGood (t ∷ ts) = IsGood t × AllGood ts
-
-good_if : (b : Bool) (ts us : List Turn) → AllGood ts → AllGood us → AllGood (if b then ts else us)
-good_if true ts us one other = one
-good_if false ts us one other = other
-
-aborting_good : (c : ℕ) (o : Option Signed) → AllGood (aborting_with c o)
-aborting_good c None = (tt, (tt, tt))
-aborting_good c (Some abort) = (tt, tt)
-
-module _ {P : Type 0} (k : Setup) (proto : Proto P) where
-  halting_good : (c : ℕ) (s : Rep P) → AllGood (halting k proto c s)
-  halting_good c s =
-      let due = aborting k proto c s in
-      let after = (proto.state (proto.halt s.value)).stopped in
-      good_if (state_at k proto s).stopped due (turn_halt ∷ (if after then due else [])) (aborting_good c s.abort) (tt, good_if after due [] (aborting_good c s.abort) tt)
-
-  here_good : (s : Rep P) (m : Msg) → IsMessage m → AllGood (here k proto s m)
-  here_good s (msg.Req content tags) is =
-      let c = client_of (maker_of content) in
-      good_if (state_at k proto s).stopped (aborting k proto c s) (turn_call (took (msg.Req content tags)) ∷ []) (aborting_good c s.abort) (is, tt)
-  here_good s (msg.Panic content tag) is = halting_good (client_of (maker_of content)) s
-  here_good s _ is = (is, tt)
-
-  late_good : (m : Msg) → AllGood (late m)
-  late_good (msg.Req content tags) = (tt, tt)
-  late_good (msg.Panic content tag) = (tt, tt)
-  late_good _ = tt
-
-  taken_good : (s : Rep P) (m : Msg) (i : Option ℕ) → IsMessage m → AllGood (taken_in k proto s m i)
-  taken_good s m None is = tt
-  taken_good s m (Some i) is = good_if (i == s.at) (here k proto s m) (if nat_lt i s.at then late m else []) (here_good s m is) (good_if (nat_lt i s.at) (late m) [] (late_good m) tt)
-
-  entering_good : (r : ℕ) (s : Rep P) (m : Msg) (j : ℕ) (cert : List Signed) (o : Option (List Request)) → IsMessage m → AreAborts 0 7 cert → history_of k.cluster j cert ≡ o → AllGood (due_with k proto r s m j cert o)
-  entering_good r s m j cert None is aborts valid = taken_good s m (instance_in m) is
-  entering_good r s m j cert (Some h) is aborts valid =
-      let there = after_turn k proto r s (turn_enter j cert h) in
-      let may = nat_le s.at j && nat_lt j last_instance in
-      let some : AreAborts 1 7 cert = ((some_aborts k.cluster j cert h valid, aborts.0.1), aborts.1) in
-      elim (cases_Bool may) [
-        | inl yes ↦
-            subst AllGood (sym (ap (λ (b : Bool). if b then turn_enter j cert h ∷ taken k proto there m else taken k proto s m) yes))
-            ((ltb-true j last_instance (and_parts (nat_le s.at j) (nat_lt j last_instance) yes).1, (some, certificate_written k.cluster j 1 7 cert h some valid)), taken_good there m (instance_in m) is)
-        | inr no ↦ subst AllGood (sym (ap (λ (b : Bool). if b then turn_enter j cert h ∷ taken k proto there m else taken k proto s m) no)) (taken_good s m (instance_in m) is)
-      ]
-
-  by_good : (r : ℕ) (s : Rep P) (m : Msg) (o : Option (List Signed)) → IsMessage m → brought m ≡ o → AllGood (due_by k proto r s m o)
-  by_good r s m None is brings = taken_good s m (instance_in m) is
-  by_good r s m (Some cert) is brings = entering_good r s m (cert_instance cert) cert (history_of k.cluster (cert_instance cert) cert) is (brought_aborts m cert is brings) refl
-
-  due_good : (r : ℕ) (s : Rep P) (call : Call) → IsFormed call → AllGood (due k proto r s call)
-  due_good r s (took m) is = by_good r s m (brought m) is refl
-  due_good r s timed is = (tt, tt)
-
--- what each signature and each draft has
-module _ {P : Type 0} (k : Setup) (proto : Proto P) {serves : Kind → Bool} (form : KeepsForm proto serves) (serves_all : ServesAll serves k.cluster)
-    (signs : (r : ℕ) (s : Content) (n : ℕ) → IsSig (k.sig r s n)) (contents : AreSpelledContents k.cluster.f) where
-  abbrev AriseAt : ℕ → Rep P → Type 0
-  AriseAt r s = Arises proto serves k.cluster s.at r s.value
-
-  placed : (i r : ℕ) (p : P) → Arises proto serves k.cluster i r p → IsInstance i
-  placed i r p (from_entry e served one lt entry) = one
-  placed i r p (by_call pen q call lawful formed was) = placed i r q was
-  placed i r p (by_stop q was) = placed i r q was
-
+-- what each replica makes
+module _ {P : Type 0} (k : Setup) (proto : Proto P) {serves : Kind → Bool} (form : KeepsForm proto serves) (are : IsWrittenSetup k serves) (contents : AreSpelledContents k.cluster.f) where
   record Makes (r : ℕ) (made : List Content) (now : Rep P) : Type 0 where
     each : (c : Content) → Contains made c → IsContent c
-    arises : AriseAt r now
+    stands : IsWrittenRep proto serves k.cluster r now
 
   nothing : (c : Content) → Contains [] c → IsContent c
   nothing c gone = absurd (omega (arith, gone.1))
@@ -175,46 +74,30 @@ module _ {P : Type 0} (k : Setup) (proto : Proto P) {serves : Kind → Bool} (fo
   both : (xs ys : List Content) → ((c : Content) → Contains xs c → IsContent c) → ((c : Content) → Contains ys c → IsContent c) → (c : Content) → Contains (xs ++ ys) c → IsContent c
   both xs ys one other c has = elim (Contains-append_cases xs ys c has) [ inl here ↦ one c here | inr there ↦ other c there ]
 
-  call_content : (r : ℕ) (s : Rep P) (call : Call) → r < replicas k → IsFormed call → AriseAt r s → (c : Content) → Contains (made_in_turn k proto r s (turn_call call)) c → IsContent c
-  call_content r s call lt formed arises c has =
+  turn_makes : (r : ℕ) (t : Turn) (s : Rep P) → r < replicas k → IsGood t → IsWrittenRep proto serves k.cluster r s → (c : Content) → Contains (made_in_turn k proto r s t) c → IsContent c
+  turn_makes r (turn_enter j cert h) s lt good was = nothing
+  turn_makes r (turn_call call) s lt good was = λ c has.
       let sends = proto.sends (pen_of k proto r s) s.value call in
       let found = flat_map_cases (λ o. stated k.cluster.f (Replica r) o.msg) sends c has in
       let o = found.0 in
       let fresh_in = Contains-filter_cases (λ q. party_eq (maker_of q) (Replica r)) (fresh k.cluster.f (Replica r) o.msg) c found.2 in
-      let draft = form.drafts k.cluster s.at r (pen_of k proto r s) s.value call (signs r) arises formed o found.1 in
-      All-contains IsContent (fresh k.cluster.f (Replica r) o.msg) c (contents.stated r o.msg (few_replicas k.cluster r lt) draft) fresh_in.0
+      let draft = turn_drafts k proto form are r (turn_call call) s lt good was o found.1 in
+      All-contains IsContent (fresh k.cluster.f (Replica r) o.msg) c (contents.stated r o.msg (few_replicas k.cluster r lt) draft.draft) fresh_in.0
+  turn_makes r turn_halt s lt good was = nothing
+  turn_makes r turn_sign s lt good was = λ c has. one_of (content.Abort (Replica r) s.at (state_at k proto s).log) c (abort_written k proto form are r s lt was) has
+  turn_makes r (turn_bring c) s lt good was = nothing
+  turn_makes r (turn_abort c) s lt good was = nothing
 
-  turn_makes : (r : ℕ) (t : Turn) (s : Rep P) → r < replicas k → IsGood t → AriseAt r s → Makes r (made_in_turn k proto r s t) (after_turn k proto r s t)
-  turn_makes r (turn_enter j cert h) s lt good arises = record {
-    each = nothing;
-    arises =
-        from_entry (entry_of h (Some cert)) (serves_all (j + 1) (omega arith)) (omega arith, omega (arith, good.0)) lt
-        (record { base = good.1.1; cert = λ other is. let same : cert ≡ other = cc (is) in subst (AreAborts 1 7) same good.1.0 });
-  }
-  turn_makes r (turn_call call) s lt good arises = record {
-    each = call_content r s call lt good arises;
-    arises = by_call (pen_of k proto r s) s.value call (signs r) good arises;
-  }
-  turn_makes r turn_halt s lt good arises = record { each = nothing; arises = by_stop s.value arises }
-  turn_makes r turn_sign s lt good arises = record {
-    each = λ c has.
-        one_of (content.Abort (Replica r) s.at (state_at k proto s).log) c
-        ((omega arith, few_replicas k.cluster r lt), (placed s.at r s.value arises, form.written k.cluster s.at r s.value arises)) has;
-    arises = arises;
-  }
-  turn_makes r (turn_bring c) s lt good arises = record { each = nothing; arises = arises }
-  turn_makes r (turn_abort c) s lt good arises = record { each = nothing; arises = arises }
+  turns_make : (r : ℕ) (ts : List Turn) (s : Rep P) → r < replicas k → AllGood ts → IsWrittenRep proto serves k.cluster r s → Makes r (made_in_turns k proto r s ts) (after_turns k proto r s ts)
+  turns_make r [] s lt good was = record { each = nothing; stands = was }
+  turns_make r (t ∷ ts) s lt good was =
+      let now = after_turn k proto r s t in
+      let rest = turns_make r ts now lt good.1 (turn_keeps k proto form are r t s lt good.0 was) in
+      record { each = both (made_in_turns k proto r now ts) (made_in_turn k proto r s t) rest.each (turn_makes r t s lt good.0 was); stands = rest.stands }
 
-  turns_make : (r : ℕ) (ts : List Turn) (s : Rep P) → r < replicas k → AllGood ts → AriseAt r s → Makes r (made_in_turns k proto r s ts) (after_turns k proto r s ts)
-  turns_make r [] s lt good arises = record { each = nothing; arises = arises }
-  turns_make r (t ∷ ts) s lt good arises =
-      let one = turn_makes r t s lt good.0 arises in
-      let rest = turns_make r ts (after_turn k proto r s t) lt good.1 one.arises in
-      record { each = both (made_in_turns k proto r (after_turn k proto r s t) ts) (made_in_turn k proto r s t) rest.each one.each; arises = rest.arises }
-
-  call_makes : (r : ℕ) (s : Rep P) (call : Call) → r < replicas k → IsFormed call → AriseAt r s → Makes r (rep_makes k proto r s call) (rep_after k proto r s call)
-  call_makes r s call lt formed arises =
-      turns_make r (turns k proto r s call) s lt (good_if (is_spent k proto r s call) [] (due k proto r s call) tt (due_good k proto r s call formed)) arises
+  call_makes : (r : ℕ) (s : Rep P) (call : Call) → r < replicas k → IsFormed call → IsWrittenRep proto serves k.cluster r s → Makes r (rep_makes k proto r s call) (rep_after k proto r s call)
+  call_makes r s call lt formed was =
+      turns_make r (turns k proto r s call) s lt (good_if (is_spent k proto r s call) [] (due k proto r s call) tt (due_good k proto r s call formed)) was
 
 -- ---- the moves of clients
 
@@ -316,10 +199,10 @@ module _ (k : Setup) (c n : ℕ) where
   taking_fine s m j cert (Some h) owned =
       let may = nat_le s.at j && nat_lt j last_instance in
       elim (cases_Bool may) [
-        | inl yes ↦
-            subst (AllFine c n) (sym (ap (λ (b : Bool). if b then move_take j cert h m ∷ [] else []) yes))
-            ((ltb-true j last_instance (and_parts (nat_le s.at j) (nat_lt j last_instance) yes).1, owned), tt)
-        | inr no ↦ subst (AllFine c n) (sym (ap (λ (b : Bool). if b then move_take j cert h m ∷ [] else []) no)) tt
+        | inl goes ↦
+            subst (AllFine c n) (sym (ap (λ (b : Bool). if b then move_take j cert h m ∷ [] else []) goes))
+            ((ltb-true j last_instance (and_parts (nat_le s.at j) (nat_lt j last_instance) goes).1, owned), tt)
+        | inr rests ↦ subst (AllFine c n) (sym (ap (λ (b : Bool). if b then move_take j cert h m ∷ [] else []) rests)) tt
       ]
 
   keeping_fine : (s : Cli) (m : Request) (v : Signed) → IsOwned c m → AllFine c n (keeping k s m v)
@@ -359,10 +242,10 @@ more_made false more was now is old new c has = elim (Contains-append_cases more
   | inr other ↦ old c other
 ]
 
-module _ {P : Type 0} (k : Setup) (proto : Proto P) {serves : Kind → Bool} (form : KeepsForm proto serves) (serves_all : ServesAll serves k.cluster)
-    (signs : (r : ℕ) (s : Content) (n : ℕ) → IsSig (k.sig r s n)) (contents : AreSpelledContents k.cluster.f) where
+module _ {P : Type 0} (k : Setup) (proto : Proto P) {serves : Kind → Bool} (form : KeepsForm proto serves) (are : IsWrittenSetup k serves)
+    (contents : AreSpelledContents k.cluster.f) where
   abbrev Stands : ℕ → Rep P → Type 0
-  Stands r s = AriseAt k proto form serves_all signs contents r s
+  Stands r s = IsWrittenRep proto serves k.cluster r s
 
   -- what was made has bytes, each replica arises, and each client is where it is after n events
   record IsSpelled (n : ℕ) (w : Run P) : Type 0 where
@@ -378,11 +261,11 @@ module _ {P : Type 0} (k : Setup) (proto : Proto P) {serves : Kind → Bool} (fo
     | inl there ↦
         let lt = ltb-true r (replicas k) there in
         let c = called k proto w r call lt in
-        let makes = call_makes k proto form serves_all signs contents r (w.reps r) call lt formed (is.reps r lt) in
+        let makes = call_makes k proto form are contents r (w.reps r) call lt formed (is.reps r lt) in
         record {
           made = more_made (is_faulty k.faulty (Replica r)) (rep_makes k proto r (w.reps r) call) w.made (at_call k proto w r call).made c.made is.made makes.each;
           reps = λ q less. elim (cases_eq q r) [
-            | inl e ↦ subst (λ z. Stands z ((at_call k proto w r call).reps z)) (sym e) (subst (Stands r) (sym c.own) makes.arises)
+            | inl e ↦ subst (λ z. Stands z ((at_call k proto w r call).reps z)) (sym e) (subst (Stands r) (sym c.own) makes.stands)
             | inr ne ↦ subst (Stands q) (sym (c.others q ne)) (is.reps q less)
           ];
           clis = λ d. subst (Sits d (n + 1)) (sym (c.clis d)) (later d n (w.clis d) (is.clis d));
@@ -426,9 +309,7 @@ module _ {P : Type 0} (k : Setup) (proto : Proto P) {serves : Kind → Bool} (fo
     start_spelled : IsSpelled 0 (start k proto)
     start_spelled = record {
       made = λ c gone. absurd (omega (arith, gone.1));
-      reps = λ r lt.
-          from_entry (entry_of [] None) (serves_all 1 (omega arith)) (omega arith, omega arith) lt
-          (record { base = ((omega arith, omega arith), (All-nil (IsRequest 0 15), λ i j d e less. absurd (omega (arith, less)))); cert = λ cert is. absurd (cc (is)) });
+      reps = λ r lt. first_written k proto form are r lt;
       clis = λ c. record { at = (omega arith, omega arith); stamp = omega arith; last = λ m is. absurd (cc (is)) };
     }
 
@@ -479,5 +360,5 @@ module _ {P : Type 0} (k : Setup) (proto : Proto P) {serves : Kind → Bool} (fo
 pub spells_apart : {P : Type 0} (k : Setup) (proto : Proto P) (serves : Kind → Bool) (opens : Opener) (inputs : List Input) → KeepsForm proto serves → IsSpelledRun k serves opens inputs → AreSpelledContents k.cluster.f
     → SpellsApart k proto spell_content (events_in opens inputs)
 spells_apart k proto serves opens inputs form is contents s t made checked same =
-    contents.apart s t ((all_spelled k proto form is.serves_all is.signs contents opens is.opens_spelled inputs is.each is.few).made s made)
-    (each_checked k proto form is.serves_all is.signs contents opens is.opens_spelled inputs t checked) same
+    contents.apart s t ((all_spelled k proto form is.written contents opens is.opens_spelled inputs is.each is.few).made s made)
+    (each_checked k proto form is.written contents opens is.opens_spelled inputs t checked) same

@@ -7,9 +7,8 @@ use Rattle.ab_msg.specs.declared.content.Content.{Content}
 use Rattle.ab_msg.specs.declared.message.Msg.{Msg}
 use Rattle.ab_msg.specs.Claims.{claims, fresh}
 use Rattle.ab_msg.specs.Contents.{IsContent, spell_content}
-use Rattle.ab_msg.specs.Fields.{IsSig}
 use Rattle.ab_msg.specs.Messages.{IsDraft, IsMessage}
-use Rattle.ab_abs.specs.Promises.{ServesAll}
+use Rattle.ab_run.specs.Forms.{IsWrittenSetup}
 use Rattle.ab_run.specs.Setups.{Setup}
 use Rattle.ab_run.specs.Inputs.{Input, told, came, rang, elsewhere, Opener}
 
@@ -28,11 +27,10 @@ AreSpelledInputs (g ∷ inputs) = IsSpelledInput g × AreSpelledInputs inputs
 abbrev pub OpensSpelled : Setup → Opener → Type 0
 OpensSpelled k opens = (p : Party) (bytes : List ℕ) (m : Msg) → opens p bytes ≡ Some m → IsMessage m × All IsContent (claims k.cluster.f p m)
 
--- what comes is spelled, there are few events, each signature has the length of one, and the protocol serves each kind of the plan
+-- what comes is spelled, there are few events, and what replicas begin and sign with has bytes
 pub record IsSpelledRun (k : Setup) (serves : Kind → Bool) (opens : Opener) (inputs : List Input) : Type 0 where
-  pub serves_all : ServesAll serves k.cluster
+  pub written : IsWrittenSetup k serves
   pub opens_spelled : OpensSpelled k opens
-  pub signs : (r : ℕ) (s : Content) (n : ℕ) → IsSig (k.sig r s n)
   pub each : AreSpelledInputs inputs
   pub few : length inputs < 2 ^ 64
 

@@ -1,29 +1,39 @@
 -- A tagged draft is a message of the grammar.
-use Rattle.std.proofs.Common.{◌≡◌, ℕ, zero, suc, ◌+◌, ◌<◌, ◌≤◌, Bool, true, false, ◌||◌, cond, eqb, List, ◌∷◌, map, length, replicate, unwrap_or, Option, Some, None, refl, sym, ap, ◌∙◌, arith, add-one}
+use Rattle.std.proofs.Common.{◌≡◌, ℕ, zero, suc, ◌+◌, ◌-◌, ◌*◌, ◌%◌, ◌<◌, ◌≤◌, min, Bool, true, false, ◌||◌, cond, eqb, ltb, IsTrue, List, [], ◌∷◌, ◌++◌, map, length, get_or, replicate, unwrap_or, Option, Some, None, refl, sym, ap, ◌∙◌, arith, add-one, length-append, All}
 use Rattle.std.specs.List.{filter, list_any, range_with_len}
 use Rattle.std.specs.Option.{option_map}
 use Rattle.std.proofs.lemmas.Bool.{false≢true}
+use Rattle.std.proofs.lemmas.List.Elements.{All-append, All-cons, All-map}
+use Rattle.std.proofs.lemmas.List.FromFn.{length-map-range_with_len}
+use borrow.Author.Tests.{ltb-true}
+use Rattle.arrayvec.specs.ArrayVec.{ArrayVec}
+use Rattle.ab_hist.specs.declared.request.Request.{Request}
+use Rattle.ab_form.specs.Lists.{AreCounted}
+use Rattle.ab_msg.specs.declared.message.Out.{Out}
+use Rattle.ab_write.proofs.ShortLemmas.{short-message}
+use Rattle.ab_keys.specs.Keys.{is_party}
 use Rattle.std.proofs.lemmas.Bool.Decides.{Decides-eqb}
 use Rattle.ab_num.specs.declared.party.Party.{Party}
 use Rattle.ab_num.specs.declared.party.Party.TheVariants.{Replica, Client}
 use Rattle.ab_num.specs.declared.plan.Kind.{Kind}
 use Rattle.ab_num.specs.declared.plan.Kind.TheVariants.{Quorum, ZLight, Chain, Backup}
 use Rattle.ab_num.specs.Bounds.{IsInBounds}
-use Rattle.ab_num.specs.Places.{kind_of, replicas_of, at_position_of}
+use Rattle.ab_num.specs.Places.{kind_of, replicas_of, at_position_of, position_in}
 use Rattle.ab_mac.specs.Tags.{hmac}
 use Rattle.ab_mac.proofs.Sha256Lemmas.{length-sha256}
-use Rattle.ab_form.specs.Formats.{EachFits}
+use Rattle.ab_form.specs.Formats.{EachFits, IsWithin}
 use Rattle.ab_keys.specs.Rings.{tag_to, key_to, Peer, Ring, peer_in}
 use Rattle.ab_msg.specs.declared.content.Content.{Content}
-use Rattle.ab_msg.specs.declared.content.Content.TheVariants.{Req, Resp}
+use Rattle.ab_msg.specs.declared.content.Content.TheVariants.{Req, Resp, ChainTag}
 use Rattle.ab_msg.specs.declared.message.Msg.{Msg}
 use Rattle.ab_msg.specs.declared.message.Msg.TheVariants as msg
 use Rattle.ab_msg.specs.Claims.{instance_of}
-use Rattle.ab_msg.specs.Parts.{IsTag, above, AreTags}
-use Rattle.ab_msg.specs.Grammar.{IsDraft, IsReq, IsResp, IsMessage, spell_content, spell_message}
-use Rattle.ab_msg.proofs.SizeLemmas.{length-req, length-resp, length-req_message, length-resp_message}
+use Rattle.ab_msg.specs.declared.chain_tags.TagBetween.{TagBetween}
+use Rattle.ab_msg.specs.Fields.{IsBetween, IsParty, IsTag, above, AreTags}
+use Rattle.ab_msg.specs.Contents.{spell_content}
+use Rattle.ab_msg.specs.Messages.{IsDraft, IsMessage, spell_message}
 use Rattle.ab_seal.specs.Receivers.{is_in_front, is_receiver}
-use Rattle.ab_seal.specs.Sealing.{tag_made, tags_made, answer_tag, tagged}
+use Rattle.ab_seal.specs.Sealing.{answer_tags, forward_tags, own_tags, reach_of, sealed, tag_for, tag_made, tags_at, tags_made, tagged}
 
 -- ---- tags have 32 bytes
 
@@ -35,10 +45,6 @@ length-tag None text = refl
 pub length-tag_made : (ring : Ring) (to : Party) (text : List ℕ) → length (tag_made ring to text) ≡ 32
 unfolding tag_to key_to
 length-tag_made ring to text = length-tag (peer_in ring.peers to) text
-
-length-answer_tag : (ring : Ring) (content : Content) (text : List ℕ) → length (answer_tag ring content text) ≡ 32
-length-answer_tag ring (Resp maker instance client stamp n d reply) text = length-tag_made ring (Client client) text
-length-answer_tag ring other text = refl
 
 -- ---- the receivers ascend
 
@@ -85,13 +91,13 @@ first-receives ZLight f instance = refl
 first-receives Chain f instance = first-in_front f instance
 first-receives Backup f instance = refl
 
-abbrev tag_for : Ring → List ℕ → ℕ → ℕ × List ℕ
-tag_for ring text r = (r, tag_made ring (Replica r) text)
+abbrev pair_for : Ring → List ℕ → ℕ → ℕ × List ℕ
+pair_for ring text r = (r, tag_made ring (Replica r) text)
 
 tags_made-fit : (ring : Ring) (instance : ℕ) (text : List ℕ) → 1 ≤ ring.f → ring.f ≤ 2 → AreTags (tags_made ring instance text)
 tags_made-fit ring instance text some few =
     let t = λ (r : ℕ). tag_made ring (Replica r) text in
-    let g = tag_for ring text in
+    let g = pair_for ring text in
     let test = is_receiver (kind_of ring.plan instance) ring.f instance in (
       (
         some-picked g test (replicas_of ring.f) 0 (at_position_of ring.f instance 1) (omega arith) (omega arith) (first-receives (kind_of ring.plan instance) ring.f instance),
@@ -100,22 +106,93 @@ tags_made-fit ring instance text some few =
       tags-fit t (λ r. length-tag_made ring (Replica r) text) test (replicas_of ring.f) 0 0 (omega arith) (omega arith),
     )
 
-pub tagged-message : (ring : Ring) (m : Msg) → IsInBounds ring.f ring.clients → IsDraft m → IsMessage (tagged ring m)
-tagged-message ring (msg.Req content tags) bounds h = (h, tags_made-fit ring (instance_of content) (spell_content content) bounds.some_faulty bounds.few_faulty)
-tagged-message ring (msg.Resp content tag) bounds h = (h, length-answer_tag ring content (spell_content content))
-tagged-message ring _ bounds h = absurd h
+-- ---- along a chain
 
--- ---- messages are short
+-- a tag of a replica for a party
+between-fits : (ring : Ring) (text : List ℕ) (to : Party) → IsParty ring.me → IsParty to → IsBetween (tag_for ring text to)
+between-fits ring text to by goes = (by, (goes, length-tag_made ring to text))
 
-length-content_of_req : (content : Content) → IsReq content → length (spell_content content) ≤ 148
-length-content_of_req (Req maker instance m) h = omega (arith, length-req maker instance m, h.1.1.1.1.1)
-length-content_of_req other h = absurd h
+position-fits : (f i q : ℕ) → f ≤ 2 → IsParty (Replica (at_position_of f i q))
+position-fits f i q few =
+    let below : at_position_of f i q < replicas_of f = (let n : 0 < replicas_of f = omega arith in omega arith) in
+    (omega arith, omega arith)
 
-length-content_of_resp : (content : Content) → IsResp content → length (spell_content content) ≤ 125
-length-content_of_resp (Resp maker instance client stamp n d reply) h = omega (arith, length-resp maker instance client stamp n d reply h.1.1.1.1.1.0, h.1.1.1.1.1.1.1)
-length-content_of_resp other h = absurd h
+forward-fits : (ring : Ring) (i : ℕ) (text : List ℕ) (p : ℕ) → ring.f ≤ 2 → IsParty ring.me → All IsBetween (forward_tags ring i text p)
+forward-fits ring i text p few by =
+    All-map IsBetween (λ q. tag_for ring text (Replica (at_position_of ring.f i q))) (range_with_len (p + 1) (reach_of ring.f p))
+    (λ k q lt. between-fits ring text (Replica (at_position_of ring.f i (get_or (range_with_len (p + 1) (reach_of ring.f p)) k q))) by (position-fits ring.f i _ few))
 
-pub length-message : (m : Msg) → IsMessage m → length (spell_message m) ≤ 4194304
-length-message (msg.Req content tags) h = omega (arith, length-req_message content tags h.1, length-content_of_req content h.0, h.1.0.1)
-length-message (msg.Resp content tag) h = omega (arith, length-resp_message content tag h.1, length-content_of_resp content h.0)
-length-message _ h = absurd h
+pub length-forward : (ring : Ring) (i : ℕ) (text : List ℕ) (p : ℕ) → length (forward_tags ring i text p) ≡ reach_of ring.f p
+length-forward ring i text p = length-map-range_with_len (λ q. tag_for ring text (Replica (at_position_of ring.f i q))) (p + 1) (reach_of ring.f p)
+
+none-fit : All IsBetween []
+none-fit = λ k d lt. absurd (omega (arith, lt))
+
+one-or-none : (ring : Ring) (text : List ℕ) (to : Party) (b : Bool) → IsParty ring.me → IsParty to → All IsBetween (cond b (tag_for ring text to ∷ []) [])
+one-or-none ring text to true by goes = All-cons IsBetween (tag_for ring text to) [] (between-fits ring text to by goes) none-fit
+one-or-none ring text to false by goes = none-fit
+
+answer-fits : (ring : Ring) (i : ℕ) (m : Request) (n : ℕ) (d : List ℕ) (reply : Option (ArrayVec ℕ)) (r p : ℕ) → IsParty ring.me → IsParty (Client m.client)
+    → All IsBetween (answer_tags ring i m n d reply r p)
+answer-fits ring i m n d None r p by goes = none-fit
+answer-fits ring i m n d (Some reply) r p by goes = one-or-none ring _ (Client m.client) (ltb (2 * ring.f) p) by goes
+
+few-with : {A : Type 0} (b : Bool) (reach f p : ℕ) (x : A) → b ≡ ltb (2 * f) p → f ≤ 2 → reach ≤ f + 1 → reach ≤ 3 * f + 1 - p → reach + length (cond b (x ∷ []) []) ≤ 3
+few-with true reach f p x e few near far = omega (arith, ltb-true (2 * f) p (sym e))
+few-with false reach f p x e few near far = omega arith
+
+few-tags : (ring : Ring) (i : ℕ) (m : Request) (n : ℕ) (d : List ℕ) (reply : Option (ArrayVec ℕ)) (r p : ℕ) → ring.f ≤ 2 → reach_of ring.f p + length (answer_tags ring i m n d reply r p) ≤ 3
+few-tags ring i m n d None r p few = omega arith
+few-tags ring i m n d (Some reply) r p few = few-with (ltb (2 * ring.f) p) (reach_of ring.f p) ring.f p _ refl few (omega arith) (omega arith)
+
+pub few-at : (ring : Ring) (i : ℕ) (m : Request) (n : ℕ) (d : List ℕ) (reply : Option (ArrayVec ℕ)) (r p : ℕ) → ring.f ≤ 2 → length (tags_at ring i m n d reply r p) ≤ 3
+few-at ring i m n d reply r p few =
+    let text = spell_content (ChainTag (Replica r) i m.client m.stamp n d) in
+    omega (arith, length-append (forward_tags ring i text p) (answer_tags ring i m n d reply r p), length-forward ring i text p, few-tags ring i m n d reply r p few)
+
+-- at most three tags, for parties of the grammar
+abbrev pub AreOwn : List TagBetween → Type 0
+AreOwn tags = (length tags ≤ 3) × All IsBetween tags
+
+at-own : (ring : Ring) (i : ℕ) (m : Request) (n : ℕ) (d : List ℕ) (reply : Option (ArrayVec ℕ)) (r p : ℕ) → ring.f ≤ 2 → IsParty ring.me → IsParty (Client m.client)
+    → AreOwn (tags_at ring i m n d reply r p)
+at-own ring i m n d reply r p few by goes =
+    let text = spell_content (ChainTag (Replica r) i m.client m.stamp n d) in
+    let ahead = forward_tags ring i text p in
+    let behind = answer_tags ring i m n d reply r p in (
+      few-at ring i m n d reply r p few,
+      All-append IsBetween ahead behind (forward-fits ring i text p few by) (answer-fits ring i m n d reply r p by goes),
+    )
+
+pub own-fits : (ring : Ring) (me : Party) (i : ℕ) (m : Request) (n : ℕ) (d : List ℕ) (reply : Option (ArrayVec ℕ)) → ring.f ≤ 2 → IsParty ring.me → IsParty (Client m.client)
+    → AreOwn (own_tags ring me i m n d reply)
+own-fits ring (Replica r) i m n d reply few by goes = at-own ring i m n d reply r (position_in ring.f i r) few by goes
+own-fits ring (Client c) i m n d reply few by goes = (omega arith, none-fit)
+
+-- a party of a cluster is one of the grammar
+party-fits : (f clients : ℕ) (p : Party) → f ≤ 2 → clients ≤ 16 → IsTrue (is_party f clients p) → IsParty p
+party-fits f clients (Replica r) few many h = (omega arith, omega (arith, ltb-true r (3 * f + 1) h))
+party-fits f clients (Client c) few many h = (omega arith, omega (arith, ltb-true c clients h))
+
+behind-fits : (tags own : List TagBetween) → AreCounted 0 61 IsBetween tags → AreOwn own → AreCounted 0 64 IsBetween (tags ++ own)
+behind-fits tags own h mine = ((omega arith, omega (arith, length-append tags own, h.0.1, mine.0)), All-append IsBetween tags own h.1 mine.1)
+
+pub tagged-message : (ring : Ring) (to : Party) (m : Msg) → IsInBounds ring.f ring.clients → IsTrue (is_party ring.f ring.clients ring.me) → IsDraft m → IsMessage (tagged ring to m)
+tagged-message ring to (msg.Req content tags) bounds me h = (h, tags_made-fit ring (instance_of content) (spell_content content) bounds.some_faulty bounds.few_faulty)
+tagged-message ring to (msg.Order content client_tag tag) bounds me h = (h.0, (h.1, length-tag_made ring to (spell_content content)))
+tagged-message ring to (msg.Resp content tag) bounds me h = (h, length-tag_made ring to (spell_content content))
+tagged-message ring to (msg.Chain i m n d reply tags) bounds me h =
+    let by = party-fits ring.f ring.clients ring.me bounds.few_faulty bounds.few_clients me in
+    let own = own-fits ring ring.me i m n d reply bounds.few_faulty by h.1.0.0 in
+    (h.0, (h.1.0, (h.1.1.0, (h.1.1.1.0, (h.1.1.1.1.0, behind-fits tags (own_tags ring ring.me i m n d reply) h.1.1.1.1.1 own)))))
+tagged-message ring to (msg.Panic content tag) bounds me h = (h, length-tag_made ring to (spell_content content))
+tagged-message ring to (msg.Abort abort) bounds me h = h
+tagged-message ring to (msg.Init cert) bounds me h = h
+tagged-message ring to (msg.PrePrepare content tag offer) bounds me h = ((h.0, length-tag_made ring to (spell_content content)), h.1)
+tagged-message ring to (msg.Prepare prepare) bounds me h = h
+tagged-message ring to (msg.Commit content tag) bounds me h = (h, length-tag_made ring to (spell_content content))
+tagged-message ring to (msg.ViewChange change) bounds me h = h
+tagged-message ring to (msg.NewView content tag changes) bounds me h = (h.0, (length-tag_made ring to (spell_content content), h.1))
+
+pub length-sealed : (ring : Ring) (o : Out) → IsInBounds ring.f ring.clients → IsTrue (is_party ring.f ring.clients ring.me) → IsDraft o.msg → length (sealed ring o) ≤ 4194304
+length-sealed ring o bounds me draft = short-message (tagged ring o.to o.msg) (tagged-message ring o.to o.msg bounds me draft)

@@ -1,4 +1,4 @@
--- What ties sealing and opening.
+-- What opened messages are.
 use Rattle.std.proofs.Common.{◌≡◌, ◌≤◌, ◌<◌, ℕ, zero, suc, Bool, true, false, not, ◌&&◌, cond, eqb, IsTrue, List, [], ◌∷◌, ◌++◌, map, length, replicate, unwrap_or, get_or, Option, Some, None, Result, Ok, Err, refl, sym, ap, ◌∙◌, arith, All}
 use Rattle.std.specs.List.{Contains, flat_map}
 use Rattle.ab_hist.specs.declared.request.Request.{Request}
@@ -30,102 +30,9 @@ use Rattle.ab_msg.specs.Grammar.{IsDraft, req_at, resp_at, IsReq, IsResp, IsCont
 use Rattle.ab_msg.specs.Views.{tag_in}
 use Rattle.ab_msg.proofs.GrammarLemmas.{message-law, req-format, resp-format}
 use Rattle.ab_msg.proofs.SizeLemmas.{content-from_req, content-from_resp}
-use Rattle.ab_seal.specs.Receivers.{receivers}
 use Rattle.ab_seal.specs.Checks.{Check, checks_of}
 use Rattle.ab_seal.specs.Opening.{is_tag, takes, is_right, IsRight, checks, opening}
-use Rattle.ab_seal.specs.Sealing.{IsOwn, IsReceiver, tag_made, answer_tag, tagged, sealed}
-use Rattle.ab_seal.proofs.DraftLemmas.{tagged-message, length-message}
 use Rattle.ab_seal.proofs.OpenLemmas.{opens, same_tag, opened, opened_right}
-
-pub length-sealed : (ring : Ring) (o : Out) → IsInBounds ring.f ring.clients → IsDraft o.msg → length (sealed ring o) ≤ 4194304
-length-sealed ring o bounds draft = length-message (tagged ring o.msg) (tagged-message ring o.msg bounds draft)
-
--- ---- what is sealed opens
-
-tag_in-first : (t : ℕ → List ℕ) (x r : ℕ) (rs : List ℕ) (rest : Option (List ℕ)) (b : Bool) → eqb x r ≡ b → (k : ℕ) → k < length (x ∷ rs) → get_or (x ∷ rs) k r ≡ r
-    → (Contains rs r → rest ≡ Some (t r)) → cond b (Some (t x)) rest ≡ Some (t r)
-tag_in-first t x r rs rest true e k lt is more = ap (λ n. Some (t n)) ((Decides-eqb x r).0 e)
-tag_in-first t x r rs rest false e zero lt is more = absurd (false≢true (sym e ∙ (Decides-eqb x r).1 is))
-tag_in-first t x r rs rest false e (suc k) lt is more = more (k, omega arith, is)
-
--- the tag for a replica among the tags for replicas
-tag_in-each : (t : ℕ → List ℕ) (rs : List ℕ) (r : ℕ) → Contains rs r → tag_in r (map (λ n. (n, t n)) rs) ≡ Some (t r)
-tag_in-each t [] r h = absurd (omega (arith, h.1))
-tag_in-each t (x ∷ rs) r h = tag_in-first t x r rs (tag_in r (map (λ n. (n, t n)) rs)) (eqb x r) refl h.0 h.1 h.2 (tag_in-each t rs r)
-
--- with tags a message is taken as without
-taken_tagged : (to from : Ring) (m : Msg) → takes to (tagged from m) ≡ takes to m
-taken_tagged to from (msg.Req content tags) = refl
-taken_tagged to from (msg.Resp content tag) = refl
-taken_tagged to from _ = refl
-
--- the tag that a makes for b is there, and is the one that b wants from a
-agreed : (f clients : ℕ) (plan : Plan) (seed text : List ℕ) (a b : Party) → IsTrue (is_party f clients a) → IsTrue (is_party f clients b) → IsTrue (exchanges a b)
-    → tag_from (ring_of f clients plan seed b) a text ≡ Some (tag_made (ring_of f clients plan seed a) b text)
-agreed f clients plan seed text a b a_in b_in exchange =
-    let there = tag_is_there f clients plan seed text a b b_in exchange in
-    sym (tags_agree f clients plan seed text a b a_in b_in) ∙ there ∙ ap (λ o. Some (unwrap_or o (replicate 32 0))) (sym there)
-
-client_exchanges : (content : Content) (a : Party) (r : ℕ) → IsReq content → maker_of content ≡ a → exchanges a (Replica r) ≡ true
-client_exchanges (Req maker instance request) a r h made = ap (λ p. exchanges p (Replica r)) (sym made ∙ h.0)
-client_exchanges other a r h made = absurd h
-
-replica_exchanges : (content : Content) (a : Party) (c : ℕ) → IsResp content → maker_of content ≡ a → exchanges a (Client c) ≡ true
-replica_exchanges (Resp (Replica r) instance client stamp n d reply) a c h made = ap (λ p. exchanges p (Client c)) (sym made)
-replica_exchanges (Resp (Client x) instance client stamp n d reply) a c h made = absurd h.0
-replica_exchanges other a c h made = absurd h
-
-answer_made : (ring : Ring) (c : ℕ) (content : Content) (text : List ℕ) → goes_to_client content (Client c) ≡ true → answer_tag ring content text ≡ tag_made ring (Client c) text
-answer_made ring c (Resp maker instance client stamp n d reply) text e = ap (λ k. tag_made ring (Client k) text) ((Decides-eqb client c).0 e)
-answer_made ring c other text e = absurd (false≢true e)
-
-not_to_replica : (s : Content) (r : ℕ) → goes_to_client s (Replica r) ≡ false
-not_to_replica (Resp maker instance client stamp n d reply) r = refl
-not_to_replica _ r = refl
-
-only : (s : Content) → Contains (s ∷ []) s
-only s = (0, omega arith, refl)
-
--- the tag for b that a makes of a message is right
-made_right : (f clients : ℕ) (plan : Plan) (seed : List ℕ) (a b : Party) (m : Msg) → IsTrue (is_party f clients a) → IsTrue (is_party f clients b)
-    → IsDraft m → IsOwn f a m → takes (ring_of f clients plan seed b) m ≡ true → IsReceiver plan f b m
-    → checks (ring_of f clients plan seed b) (tagged (ring_of f clients plan seed a) m) ≡ Ok tt
-made_right f clients plan seed a (Replica r) (msg.Req content tags) a_in b_in draft made taken receives =
-    let of_a = ring_of f clients plan seed a in
-    let of_b = ring_of f clients plan seed (Replica r) in
-    let text = spell_content content in
-    let by_a = made content (only content) in
-    let wanted : tag_from of_b (maker_of content) text ≡ Some (tag_made of_a (Replica r) text)
-    = ap (λ p. tag_from of_b p text) by_a ∙ agreed f clients plan seed text a (Replica r) a_in b_in (client_exchanges content a r draft by_a) in
-    let there = tag_in-each (λ n. tag_made of_a (Replica n) text) (receivers plan f (instance_of content)) r receives in
-    ap (λ x. cond x (Ok tt) (Err 0)) (same_tag _ _ (tag_made of_a (Replica r) text) wanted there)
-made_right f clients plan seed a (Client c) (msg.Req content tags) a_in b_in draft made taken receives = absurd receives
-made_right f clients plan seed a (Replica r) (msg.Resp content tag) a_in b_in draft made taken receives =
-    absurd (false≢true (sym (not_to_replica content r) ∙ (and_parts (goes_to_client content (Replica r)) _ taken).0))
-made_right f clients plan seed a (Client c) (msg.Resp content tag) a_in b_in draft made taken receives =
-    let of_a = ring_of f clients plan seed a in
-    let of_b = ring_of f clients plan seed (Client c) in
-    let text = spell_content content in
-    let by_a = made content (only content) in
-    let wanted : tag_from of_b (maker_of content) text ≡ Some (tag_made of_a (Client c) text)
-    = ap (λ p. tag_from of_b p text) by_a ∙ agreed f clients plan seed text a (Client c) a_in b_in (replica_exchanges content a c draft by_a) in
-    let there = ap Some (answer_made of_a c content text (and_parts (goes_to_client content (Client c)) _ taken).0) in
-    ap (λ x. cond x (Ok tt) (Err 0)) (same_tag _ _ (tag_made of_a (Client c) text) wanted there)
-made_right f clients plan seed a b _ a_in b_in draft made taken receives = absurd draft
-
-tagged_opens : (f clients : ℕ) (plan : Plan) (seed : List ℕ) (a b : Party) (m : Msg) → IsInBounds f clients → IsTrue (is_party f clients a) → IsTrue (is_party f clients b)
-    → IsDraft m → IsOwn f a m → takes (ring_of f clients plan seed b) m ≡ true → IsReceiver plan f b m
-    → opening (ring_of f clients plan seed b) (spell_message (tagged (ring_of f clients plan seed a) m)) ≡ Ok (tagged (ring_of f clients plan seed a) m)
-tagged_opens f clients plan seed a b m bounds a_in b_in draft made taken receives =
-    let of_a = ring_of f clients plan seed a in
-    let of_b = ring_of f clients plan seed b in
-    opens of_b (spell_message (tagged of_a m)) (tagged of_a m) (message-law.again (tagged of_a m) (tagged-message of_a m bounds draft))
-    (taken_tagged of_b of_a m ∙ taken) (made_right f clients plan seed a b m a_in b_in draft made taken receives)
-
-pub sealed_opens : (f clients : ℕ) (plan : Plan) (seed : List ℕ) (a b : Party) (o : Out) → IsInBounds f clients → IsTrue (is_party f clients a) → IsTrue (is_party f clients b)
-    → IsDraft o.msg → IsOwn f a o.msg → IsTrue (takes (ring_of f clients plan seed b) o.msg) → IsReceiver plan f b o.msg
-    → opening (ring_of f clients plan seed b) (sealed (ring_of f clients plan seed a) o) ≡ Ok (tagged (ring_of f clients plan seed a) o.msg)
-sealed_opens f clients plan seed a b o bounds a_in b_in draft made taken receives = tagged_opens f clients plan seed a b o.msg bounds a_in b_in draft made taken receives
 
 -- ---- what was opened was checked
 
@@ -177,11 +84,6 @@ pub histories_rise : (f : ℕ) (me : Party) (m : Msg) → IsMessage m → (h : L
 histories_rise f me (msg.Req content tags) is h has = history_of_req content is.0 h has
 histories_rise f me (msg.Resp content tag) is h has = history_of_resp content is.0 h has
 histories_rise f me _ is h has = absurd is
-
-pub drafts_of_grammar : (f : ℕ) (p : Party) (m : Msg) → IsDraft m → All IsContent (fresh f p m)
-drafts_of_grammar f p (msg.Req content tags) h = one_of_grammar content (content-from_req content h)
-drafts_of_grammar f p (msg.Resp content tag) h = one_of_grammar content (content-from_resp content h)
-drafts_of_grammar f p _ h = absurd h
 
 pub opened_of_grammar : (ring : Ring) (bytes : List ℕ) (m : Msg) → IsBytes bytes → opening ring bytes ≡ Ok m
     → IsMessage m × (bytes ≡ spell_message m) × IsTrue (takes ring m) × All IsContent (claims ring.f ring.me m)

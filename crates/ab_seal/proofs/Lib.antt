@@ -1,6 +1,6 @@
 -- Lemmas of this crate.
 pub mod ReceiverLemmas
-pub mod SealLemmas
 pub mod DraftLemmas
+pub mod ChainLemmas
 pub mod OpenLemmas
 pub mod LawLemmas

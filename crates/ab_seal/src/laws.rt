@@ -18,25 +18,6 @@ ghost use Rattle.ab_msg.specs.Carried.{stated_history};
 ghost use Rattle.ab_msg.specs.Grammar.{IsDraft, IsContent, IsMessage, spell_content, spell_message};
 ghost use Rattle.ab_seal.specs.Checks.{Check, checks_of};
 ghost use Rattle.ab_seal.specs.Opening.{IsRight, is_right, opening, takes};
-ghost use Rattle.ab_seal.specs.Sealing.{IsOwn, IsReceiver, sealed, tagged};
-
-/// With its tags a draft is a message of the grammar, of at most 4,194,304 bytes, and what needs its
-/// sender's tags is of the grammar.
-pub fn drafts_are_sealed_as_messages()
-    ensures grammar { (ring : Ring) (m : Message) → IsInBounds ring.f ring.clients → IsDraft m → IsMessage (tagged ring m) }
-    ensures size { (ring : Ring) (o : Sent) → IsInBounds ring.f ring.clients → IsDraft o.msg → length (sealed ring o) ≤ 4194304 }
-    ensures contents { (f : ℕ) (p : Party) (m : Message) → IsDraft m → All IsContent (fresh f p m) }
-{}
-
-/// What `a` seals, `b` opens as the message with its tags, where `b` takes it and is one for whom it
-/// has a tag. Both have the rings of one seed in one cluster.
-pub fn sealed_messages_open()
-    ensures { (f clients : ℕ) (plan : Plan) (seed : List ℕ) (a b : Party) (o : Sent)
-        → IsInBounds f clients → IsTrue (is_party f clients a) → IsTrue (is_party f clients b)
-        → IsDraft o.msg → IsOwn f a o.msg
-        → IsTrue (takes (ring_of f clients plan seed b) o.msg) → IsReceiver plan f b o.msg
-        → opening (ring_of f clients plan seed b) (sealed (ring_of f clients plan seed a) o) ≡ Ok (tagged (ring_of f clients plan seed a) o.msg) }
-{}
 
 /// A message opens only where each tag that is for the receiver is there and is right: the HMAC of the
 /// content's bytes under the key from its maker. The contents that are so checked are the claims of

@@ -1,25 +1,25 @@
 //! Messages with tags: sealed by their makers, and opened by those who take them.
 #![tactic(auto)]
 
+mod chain;
 mod checked;
 mod claimed;
 mod claiming;
-mod drafts;
 mod fault;
 mod laws;
 mod opening;
 mod receivers;
 mod sealing;
 mod stated;
+mod tags;
 
 pub use checked::Checked;
 pub use claimed::Claims;
 pub use claiming::claims;
-pub use drafts::{is_draft, is_own};
 pub use fault::OpenFault;
 pub use laws::{
-    contents_have_their_own_bytes, drafts_are_sealed_as_messages, opened_messages_are_checked,
-    opened_messages_are_of_the_grammar, own_statements_are_refused, sealed_messages_open,
+    contents_have_their_own_bytes, opened_messages_are_checked,
+    opened_messages_are_of_the_grammar, own_statements_are_refused,
 };
 pub use opening::open;
 pub use sealing::seal;

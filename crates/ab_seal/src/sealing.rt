@@ -1,60 +1,149 @@
 //! Sealing messages.
 
-ghost use Rattle.std.specs.Prelude.{◌≡◌, ◌+◌, ◌≤◌, ◌++◌, length, drop, replicate, unwrap_or, IfOk};
-ghost use Rattle.ab_keys.specs.Rings.{tag_to};
+ghost use Rattle.std.specs.Prelude.{◌≡◌, ◌+◌, ◌≤◌, ◌++◌, length, drop, replicate, unwrap_or, IfOk, All};
 ghost use Rattle.ab_form.specs.Formats.{u8_bytes};
+ghost use Rattle.ab_form.specs.Lists.{u8_list};
+ghost use Rattle.ab_msg.specs.declared.message.Msg.TheVariants as msg;
 ghost use Rattle.ab_msg.specs.Claims.{instance_of};
-ghost use Rattle.ab_msg.specs.Grammar.{IsDraft, IsContent, spell_content};
-ghost use Rattle.ab_seal.specs.Sealing.{IsOwn, answer_tag, sealed, tag_made, tags_made};
+ghost use Rattle.ab_msg.specs.Contents.{IsReq, spell_content};
+ghost use Rattle.ab_msg.specs.Fields.{spell_tags};
+ghost use Rattle.ab_msg.specs.Messages.{IsDraft, IsMessage, spell_message, spell_offer};
+ghost use Rattle.ab_write.specs.Writable.{AreSigned, IsProofFit};
+ghost use Rattle.ab_msg.specs.Certs.{spell_proof};
+ghost use Rattle.ab_seal.specs.Sealing.{IsOwn, content_tag, own_tags as tags_of_party, sealed, tags_made as made_tags};
 
-use crate::receivers::is_receiver;
+use crate::chain::{Link, own_tags};
+use crate::tags::{tag_made, tags_made};
 use ab_form::{put_bytes, put_u8};
 use ab_keys::KeyRing;
-use ab_msg::{Content, Msg, NO_TAG, Out, Tag, Tags, content_size, put_content, put_tags};
+use ab_msg::{ChainTags, Content, Msg, Offer, Out, Proofs, Tag};
 use ab_num::{OutOfMemory, Party};
+use ab_write::{put_changes, put_content, put_each, put_link, put_offer, put_tags, write};
 use std::alloc::Global;
 
-/// The tag of a text for a party.
-fn tag_made(k: &KeyRing, to: Party, text: &[u8]) -> Tag
-    ensures { result ≡ tag_made k.now to text.now }
+/// The bytes of a content.
+fn spelled(alloc: Global, content: &Content) -> Result<Vec<u8>, OutOfMemory>
+    ensures { IfOk result (λ v. v.items ≡ spell_content content.now) }
 {
-    k.tag_for(to, text).unwrap_or(NO_TAG)
+    let mut text = Vec::with_capacity(alloc, 160)?;
+    put_content(alloc, &mut text, content)?;
+    Ok(text)
 }
 
-/// The tags of a text in an instance: one for each receiver.
-fn tags_made(k: &KeyRing, instance: u32, text: &[u8]) -> Tags
-    requires { 1 ≤ instance }
-    ensures { result.items ≡ tags_made k.now instance text.now }
+/// The code of a message and the bytes of its content, with room for more.
+fn begun(alloc: Global, code: u8, text: &[u8], room: usize) -> Result<Vec<u8>, OutOfMemory>
+    requires { room ≤ 1000 }
+    ensures { IfOk result (λ v. v.items ≡ u8_bytes code ++ text.now) }
 {
-    let c = k.cluster();
-    let mut tags = Tags::new();
-    'receivers: for r in 0..c.replicas() {
-        if is_receiver(c, instance, r) {
-            tags.push((r, tag_made(k, Party::Replica(r), text)));
-        }
-    }
-    tags
-}
-
-/// The tag of an answer's text: for the client that it names.
-fn answer_tag(k: &KeyRing, content: &Content, text: &[u8]) -> Tag
-    ensures { result ≡ answer_tag k.now content.now text.now }
-{
-    match content {
-        Content::Resp { client, .. } => tag_made(k, Party::Client(*client), text),
-        _ => NO_TAG,
-    }
-}
-
-/// The code of a message and its content, with room for more bytes.
-fn begun(alloc: Global, code: u8, content: &Content, room: usize) -> Result<Vec<u8>, OutOfMemory>
-    requires content { IsContent content.now }
-    requires few { room ≤ 1000 }
-    ensures { IfOk result (λ v. v.items ≡ u8_bytes code ++ spell_content content.now) }
-{
-    let mut out = Vec::with_capacity(alloc, 1 + content_size(content) + room)?;
+    let most = text.len().saturating_add(room);
+    let mut out = Vec::with_capacity(alloc, most.saturating_add(1))?;
     put_u8(alloc, &mut out, code)?;
-    put_content(alloc, &mut out, content)?;
+    put_bytes(alloc, &mut out, text)?;
+    Ok(out)
+}
+
+/// A content with its maker's tag for a party.
+fn seal_tagged(
+    alloc: Global,
+    k: &KeyRing,
+    to: Party,
+    code: u8,
+    content: &Content,
+) -> Result<Vec<u8>, OutOfMemory>
+    ensures { IfOk result (λ v. v.items ≡ u8_bytes code ++ (spell_content content.now ++ content_tag k.now to content.now)) }
+{
+    let text = spelled(alloc, content)?;
+    let mut out = begun(alloc, code, &text, 32)?;
+    put_bytes(alloc, &mut out, &tag_made(k, to, &text))?;
+    Ok(out)
+}
+
+/// A request with tags for its receivers.
+fn seal_request(alloc: Global, k: &KeyRing, content: &Content) -> Result<Vec<u8>, OutOfMemory>
+    requires { IsReq content.now }
+    ensures { IfOk result (λ v. v.items ≡ u8_bytes 1 ++ (spell_content content.now ++ spell_tags (made_tags k.now (instance_of content.now) (spell_content content.now)))) }
+{
+    let text = spelled(alloc, content)?;
+    let room = 1 + 33 * usize::from(k.cluster().replicas());
+    let mut out = begun(alloc, 1, &text, room)?;
+    put_tags(alloc, &mut out, &tags_made(k, content.instance(), &text))?;
+    Ok(out)
+}
+
+/// A place for a request, with the client's tag.
+fn seal_order(
+    alloc: Global,
+    k: &KeyRing,
+    to: Party,
+    content: &Content,
+    client_tag: &Tag,
+) -> Result<Vec<u8>, OutOfMemory>
+    ensures { IfOk result (λ v. v.items ≡ u8_bytes 2 ++ (spell_content content.now ++ (client_tag.now ++ content_tag k.now to content.now))) }
+{
+    let text = spelled(alloc, content)?;
+    let mut out = begun(alloc, 2, &text, 64)?;
+    put_bytes(alloc, &mut out, client_tag)?;
+    put_bytes(alloc, &mut out, &tag_made(k, to, &text))?;
+    Ok(out)
+}
+
+/// A value for a slot.
+fn seal_pre_prepare(
+    alloc: Global,
+    k: &KeyRing,
+    to: Party,
+    content: &Content,
+    offer: &Offer,
+) -> Result<Vec<u8>, OutOfMemory>
+    requires { AreSigned offer.now }
+    ensures { IfOk result (λ v. v.items ≡ u8_bytes 8 ++ ((spell_content content.now ++ content_tag k.now to content.now) ++ spell_offer offer.now)) }
+{
+    let text = spelled(alloc, content)?;
+    let mut out = begun(alloc, 8, &text, 204)?;
+    put_bytes(alloc, &mut out, &tag_made(k, to, &text))?;
+    put_offer(alloc, &mut out, offer)?;
+    Ok(out)
+}
+
+/// A view that begins.
+fn seal_new_view(
+    alloc: Global,
+    k: &KeyRing,
+    to: Party,
+    content: &Content,
+    changes: &Proofs,
+) -> Result<Vec<u8>, OutOfMemory>
+    requires few { length changes.now ≤ 255 }
+    requires fits { All IsProofFit changes.now }
+    ensures { IfOk result (λ v. v.items ≡ u8_bytes 12 ++ (spell_content content.now ++ (content_tag k.now to content.now ++ u8_list spell_proof changes.now))) }
+{
+    let text = spelled(alloc, content)?;
+    let mut out = begun(alloc, 12, &text, 32)?;
+    put_bytes(alloc, &mut out, &tag_made(k, to, &text))?;
+    put_changes(alloc, &mut out, changes)?;
+    Ok(out)
+}
+
+/// A request on its way along a chain, with the tags that came and those of the ring's party.
+fn seal_chain(
+    alloc: Global,
+    k: &KeyRing,
+    l: &Link<'_>,
+    tags: &ChainTags,
+) -> Result<Vec<u8>, OutOfMemory>
+    requires instance { 1 ≤ l.now.instance }
+    requires few { length tags.now ≤ 61 }
+    ensures { IfOk result (λ v. v.items ≡ spell_message (msg.Chain l.now.instance l.now.request.now l.now.n l.now.d.now l.now.reply.now (tags.now ++ tags_of_party k.now k.now.me l.now.instance l.now.request.now l.now.n l.now.d.now l.now.reply.now))) }
+{
+    let own = own_tags(alloc, k, l)?;
+    let came = tags.as_slice();
+    let count = (came.len() + own.len()) as u8;
+    let mut out = Vec::with_capacity(alloc, 256 + 38 * usize::from(count))?;
+    put_u8(alloc, &mut out, 4)?;
+    put_link(alloc, &mut out, l.instance, l.request, l.n, l.d, l.reply)?;
+    put_u8(alloc, &mut out, count)?;
+    put_each(alloc, &mut out, came)?;
+    put_each(alloc, &mut out, own.as_slice())?;
     Ok(out)
 }
 
@@ -65,19 +154,39 @@ pub fn seal(alloc: Global, k: &KeyRing, o: &Out) -> Result<Vec<u8>, OutOfMemory>
     ensures { IfOk result (λ v. v.items ≡ sealed k.now o.now) }
 {
     match &o.msg {
-        Msg::Req { content, tags: _ } => {
-            let room = 1 + 33 * usize::from(k.cluster().replicas());
-            let mut out = begun(alloc, 1, content, room)?;
-            let tags = tags_made(k, content.instance(), &out[1..]);
-            put_tags(alloc, &mut out, &tags)?;
-            Ok(out)
+        Msg::Req { content, .. } => seal_request(alloc, k, content),
+        Msg::Order {
+            content,
+            client_tag,
+            ..
+        } => seal_order(alloc, k, o.to, content, client_tag),
+        Msg::Resp { content, .. } => seal_tagged(alloc, k, o.to, 3, content),
+        Msg::Chain {
+            instance,
+            request,
+            n,
+            d,
+            reply,
+            tags,
+        } => {
+            let link = Link {
+                instance: *instance,
+                request,
+                n: *n,
+                d,
+                reply,
+            };
+            seal_chain(alloc, k, &link, tags)
         }
-        Msg::Resp { content, tag: _ } => {
-            let mut out = begun(alloc, 3, content, 32)?;
-            let tag = answer_tag(k, content, &out[1..]);
-            put_bytes(alloc, &mut out, &tag)?;
-            Ok(out)
-        }
-        _ => unreachable!(),
+        Msg::Panic { content, .. } => seal_tagged(alloc, k, o.to, 5, content),
+        Msg::PrePrepare { content, offer, .. } => seal_pre_prepare(alloc, k, o.to, content, offer),
+        Msg::Commit { content, .. } => seal_tagged(alloc, k, o.to, 10, content),
+        Msg::NewView {
+            content, changes, ..
+        } => seal_new_view(alloc, k, o.to, content, changes),
+        Msg::Abort { .. } => write(alloc, &o.msg),
+        Msg::Init { .. } => write(alloc, &o.msg),
+        Msg::Prepare { .. } => write(alloc, &o.msg),
+        Msg::ViewChange { .. } => write(alloc, &o.msg),
     }
 }

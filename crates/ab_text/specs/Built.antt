@@ -12,8 +12,8 @@ unfoldable pub plan_is_built : Plan → Bool
 plan_is_built AZyzzyva = false
 plan_is_built Aliph = false
 plan_is_built Quorum = true
-plan_is_built ZLight = false
-plan_is_built Chain = false
+plan_is_built ZLight = true
+plan_is_built Chain = true
 plan_is_built Backup = false
 
 unfoldable pub service_is_built : ServiceName → Bool
@@ -26,5 +26,5 @@ height_is_built lms = true
 unfoldable pub event_is_built : Event → Bool
 event_is_built (Invoke core command) = true
 event_is_built (Deliver packet core) = true
-event_is_built (Timeout core) = false
+event_is_built (Timeout core) = true
 event_is_built (Inject core bytes) = true

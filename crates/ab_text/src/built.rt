@@ -12,8 +12,8 @@ pub(crate) fn takes_plan(plan: Plan) -> bool
     ensures { result ≡ plan_is_built plan }
 {
     match plan {
-        Plan::Quorum => true,
-        Plan::AZyzzyva | Plan::Aliph | Plan::ZLight | Plan::Chain | Plan::Backup => false,
+        Plan::Quorum | Plan::ZLight | Plan::Chain => true,
+        Plan::AZyzzyva | Plan::Aliph | Plan::Backup => false,
     }
 }
 
@@ -44,6 +44,6 @@ pub(crate) fn takes_event(event: &Event) -> bool
 {
     match event {
         Event::Invoke { .. } | Event::Deliver { .. } | Event::Inject { .. } => true,
-        Event::Timeout { .. } => false,
+        Event::Timeout { .. } => true,
     }
 }

@@ -35,8 +35,8 @@ fn heads(rt: HostRuntime) -> Result<(), Fail> {
         ("abstract 1\nf 2\nplan quorums\n", TextFault::BadLine(3)),
         ("abstract 1\nf 2\nplan azyzzyva\n", TextFault::NotBuilt(3)),
         ("abstract 1\nf 2\nplan aliph\n", TextFault::NotBuilt(3)),
-        ("abstract 1\nf 2\nplan zlight\n", TextFault::NotBuilt(3)),
-        ("abstract 1\nf 2\nplan chain\n", TextFault::NotBuilt(3)),
+        ("abstract 1\nf 2\nplan zlight\n", TextFault::NoEnd(4)),
+        ("abstract 1\nf 2\nplan chain\n", TextFault::NoEnd(4)),
         ("abstract 1\nf 2\nplan backup\n", TextFault::NotBuilt(3)),
         (
             "abstract 1\nf 1\nplan quorum\nclients 0\n",
@@ -111,9 +111,9 @@ fn lines(rt: HostRuntime) -> Result<(), Fail> {
         ("run\ndeliver 1 r0.256", TextFault::BadLine(8)),
         ("run\ndeliver 18446744073709551616", TextFault::BadLine(8)),
         ("run\ntimeout r300", TextFault::BadLine(8)),
-        ("run\ntimeout r9", TextFault::NotBuilt(8)),
+        ("run\ntimeout r9", TextFault::NoEnd(9)),
         ("run\ntimeout r1.0", TextFault::BadLine(8)),
-        ("run\ntimeout r1.3", TextFault::NotBuilt(8)),
+        ("run\ntimeout r1.3", TextFault::NoEnd(9)),
         ("run\ntimeout r1.", TextFault::BadLine(8)),
         ("run\ntimeout R0", TextFault::BadLine(8)),
         ("run\ntimeout r00", TextFault::BadLine(8)),
@@ -201,8 +201,8 @@ fn faulty_lines(rt: HostRuntime) -> Result<(), Fail> {
             TextFault::NoEnd(11),
         ),
         (
-            "faulty r1 2\nfaulty c1 1\nrun\ntimeout r1.2\nend",
-            TextFault::NotBuilt(10),
+            "faulty r1 2\nfaulty c1 1\nrun\ntimeout r1.2",
+            TextFault::NoEnd(11),
         ),
     ];
     refused(rt.alloc(), &rt, &cases)

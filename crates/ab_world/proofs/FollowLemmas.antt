@@ -12,45 +12,41 @@ use Rattle.ab_text.specs.declared.event.Event.{Event}
 use Rattle.ab_text.specs.declared.line.Cause.{Cause}
 use Rattle.ab_text.specs.declared.line.Line.{Line}
 use Rattle.ab_text.specs.declared.line.Line.TheVariants.{Refused}
-use Rattle.ab_msg.specs.declared.content.Content.TheVariants as content
 use Rattle.ab_msg.specs.declared.message.Msg.{Msg}
-use Rattle.ab_msg.specs.declared.message.Msg.TheVariants as msg
-use Rattle.ab_msg.specs.Claims.{claims}
-use Rattle.ab_msg.specs.Carried.{stated_history, value_histories, values_in}
-use Rattle.ab_msg.specs.Grammar.{IsMessage, spell_content}
-use Rattle.ab_seal.specs.declared.fault.OpenFault.{OpenFault}
+use Rattle.ab_msg.specs.Contents.{spell_content}
+use Rattle.ab_open.specs.declared.fault.OpenFault.{OpenFault}
 use Rattle.ab_abs.specs.declared.seen.Seen.{Seen}
 use Rattle.ab_abs.specs.declared.seen.Seen.TheVariants as seen
-use Rattle.ab_abs.specs.Messages.{took}
+use Rattle.ab_abs.specs.Messages.{Call, took, timed}
 use Rattle.ab_abs.specs.Ensembles.{Proto}
-use Rattle.ab_links.specs.Digested.{request}
+use Rattle.ab_carried.specs.Carried.{carried_histories, carried_requests}
+use Rattle.ab_hist.specs.declared.request.Request.{Request}
 use Rattle.ab_run.specs.Setups.{Setup as RunSetup, replicas}
-use Rattle.ab_run.specs.Replicas.{Rep}
-use Rattle.ab_run.specs.Runs.{to_replica, to_client, Run, run, first_rep, histories_for, requests_for}
-use Rattle.ab_run.specs.Local.{rep_after}
+use Rattle.ab_run.specs.Runs.{to_replica, to_client, replica_time, Run, run, histories_for, requests_for}
+use Rattle.ab_replica.specs.Sites.{Site}
 use Rattle.ab_run.specs.declared.noted.Noted.{Noted}
 use Rattle.ab_run.specs.Inputs.{Input, events_in, opened as opened_event}
-use Rattle.ab_run.specs.Stages.{Stage, stage_after, first_stage}
+use Rattle.ab_run.specs.Stages.{Stage, stage_after, first_stage, call_histories, call_requests}
 use Rattle.ab_run.proofs.Listed.{set_hit}
-use Rattle.ab_run.proofs.Shown.{first_length}
 use Rattle.ab_run.proofs.Staged.{stage_back, back_shown}
 use Rattle.ab_client.specs.Clients.{Seat}
 use Rattle.ab_post.specs.Packets.{total, most_bytes}
 use Rattle.ab_cast.specs.declared.place.Place.{Place}
 use Rattle.ab_cast.specs.declared.place.Place.TheVariants as place
+use Rattle.ab_cast.proofs.StandLemmas.{some_injective}
 use Rattle.ab_cast.specs.Setups.{Setup, run_setup, is_bad, party_at, replica_twins, client_twins}
-use Rattle.ab_cast.specs.Cores.{Core, replica, client, Taken, command, message, core_after, core_marks, core_spends}
-use Rattle.ab_cast.specs.Casts.{core_at, with_core, next, first_seat}
-use Rattle.ab_premise.specs.Collisions.{Watch, OpensMessages, checked_items, state_items, call_items, client_items, items_of, looked, looked_in, watched}
+use Rattle.ab_cast.specs.Cores.{Core, replica, client, Taken, command, message, time, site_after, core_after, core_marks, core_spends}
+use Rattle.ab_cast.specs.Casts.{core_at, with_core, next, reps_of, first_seat, first_site}
+use Rattle.ab_premise.specs.Collisions.{Watch, checked_items, state_items, call_items, client_items, items_of, looked, looked_in, watched}
 use Rattle.ab_premise.specs.Spelled.{IsSpelledInput, AreSpelledInputs}
 use Rattle.ab_premise.proofs.Watches.{not_found}
 use Rattle.ab_world.specs.declared.fault.WorldFault.{WorldFault}
 use Rattle.ab_world.specs.declared.fault.WorldFault.TheVariants.{PacketLimit}
 use Rattle.ab_world.specs.Lines.{line_of, note, spent_lines, is_observed, line_of_noted}
 use Rattle.ab_world.specs.Worlds.{World, start, shown_on, opening_at, opened, opener}
-use Rattle.ab_world.specs.Steps.{Given, ask, hand, Happening, ready, messages, taken_from, moved_at, after_taking, after, stepped_by, input_at, input_of, standing_of, replica_items, taken_requests}
+use Rattle.ab_world.specs.Steps.{Given, ask, hand, ring, Happening, ready, messages, taken_from, moved_at, after_taking, after, stepped_by, input_at, input_of, standing_of, replica_items}
 use Rattle.ab_world.specs.Runs.{refused_or, outcome, input_or, inputs_of, came_to}
-use Rattle.ab_world.proofs.SeatLemmas.{clis_of-first, length-first_seats, get_there}
+use Rattle.ab_world.proofs.SeatLemmas.{clis_of-first, length-first_seats, length-first_sites, reps_of-first, reps_of-get, get_there}
 use Rattle.ab_world.proofs.PlaceLemmas.{IsAt, Takes, Happens, ready_happens}
 use Rattle.ab_world.proofs.RunLemmas.{Stands, advances}
 
@@ -87,15 +83,12 @@ refused_lines false e p cause lines = filter-append is_observed lines (Refused e
 
 -- ---- what is looked at
 
-no_histories : (f : ℕ) (p : Party) (m : Msg) → IsMessage m → flat_map stated_history (claims f p m) ++ flat_map value_histories (values_in m) ≡ []
-no_histories f p (msg.Req (content.Req maker i q) tags) is = refl
-no_histories f p (msg.Req _ tags) is = absurd (is.0)
-no_histories f p (msg.Resp (content.Resp maker i c stamp n d reply) tag) is = refl
-no_histories f p (msg.Resp _ tag) is = absurd (is.0)
-no_histories f p _ is = absurd (is)
-
 looked_none : (x : Watch) (n : ℕ) (p : Party) → looked x n p [] ≡ x
 looked_none x n p = ap (λ c. record { kept = x.kept; collided = c }) (not_found x.collided n p)
+
+either_none : {A : Type 0} (b : Bool) → (if b then [] else []) ≡ ([] : List A)
+either_none true = refl
+either_none false = refl
 
 module _ {P : Type 0} (proto : Proto P) (w : World P) where
   abbrev k : RunSetup
@@ -104,45 +97,72 @@ module _ {P : Type 0} (proto : Proto P) (w : World P) where
   abbrev n : ℕ
   n = w.cast.events + 1
 
-  watch_replica : (r : ℕ) (m : Msg) (s : Rep P) → IsMessage m → r < replicas k → slice_get w.cast.replicas r ≡ Some s
-      → (moved_at proto w (place.Replica r) (message m) (core_at w.cast (place.Replica r))).watch ≡ looked w.watch n (Replica r) (if nat_lt r (replicas k) then call_items k proto r s (took m) else [])
-  watch_replica r m s is lt there =
+  -- what is looked at of a replica that takes a call in which these histories and requests are checked
+  abbrev looked_replica : ℕ → Site P → Call → List (List Request) → List Request → Watch
+  looked_replica r s call hs ms =
+      if is_bad w.cast.setup (Replica r)
+      then w.watch
+      else looked w.watch n (Replica r) (checked_items hs ms ++ replica_items proto (standing_of proto (slice_get w.cast.replicas r)) (slice_get (slice_set w.cast.replicas r (site_after k proto r s call)) r))
+
+  looks_as_run : (r : ℕ) (s : Site P) (call : Call) (hs : List (List Request)) (ms : List Request) → r < replicas k → slice_get w.cast.replicas r ≡ Some s
+      → call_histories k (Replica r) call ≡ (if is_bad w.cast.setup (Replica r) then [] else hs) → call_requests k (Replica r) call ≡ (if is_bad w.cast.setup (Replica r) then [] else ms)
+      → looked_replica r s call hs ms ≡ looked w.watch n (Replica r) (if nat_lt r (replicas k) then call_items k proto r s.rep call else [])
+  looks_as_run r s call hs ms lt there told asked =
       let p = Replica r in
-      let now = rep_after k proto r s (took m) in
-      let asked = taken_requests k.cluster.f p (message m) in
-      let within : (if nat_lt r (replicas k) then call_items k proto r s (took m) else []) ≡ call_items k proto r s (took m) = ap (λ (b : Bool). if b then call_items k proto r s (took m) else []) (lt-ltb r (replicas k) lt) in
-      ap (λ o. (moved_at proto w (place.Replica r) (message m) (option_map replica o)).watch) there
-      ∙ (elim (cases_Bool (is_bad w.cast.setup p)) [
+      let now = site_after k proto r s call in
+      let within : (if nat_lt r (replicas k) then call_items k proto r s.rep call else []) ≡ call_items k proto r s.rep call = ap (λ (b : Bool). if b then call_items k proto r s.rep call else []) (lt-ltb r (replicas k) lt) in
+      elim (cases_Bool (is_bad w.cast.setup p)) [
         | inl bad ↦
-            let none : call_items k proto r s (took m) ≡ [] = ap (λ (b : Bool). if b then [] else checked_items (histories_for k p m) (requests_for k p m) ++ state_items k proto s now) bad in
+            let none : call_items k proto r s.rep call ≡ [] = ap (λ (b : Bool). if b then [] else checked_items (call_histories k p call) (call_requests k p call) ++ state_items k proto s.rep now.rep) bad in
             (rw bad refl) ∙ sym (looked_none w.watch n p) ∙ ap (looked w.watch n p) (sym (within ∙ none))
         | inr good ↦
-            let hs : histories_for k p m ≡ [] = ap (λ (b : Bool). if b then [] else flat_map stated_history (claims k.cluster.f p m) ++ flat_map value_histories (values_in m)) good ∙ no_histories k.cluster.f p m is in
-            let ms : requests_for k p m ≡ asked = ap (λ (b : Bool). if b then [] else asked) good in
-            let all : call_items k proto r s (took m) ≡ map request asked ++ state_items k proto s now =
-            ap (λ (b : Bool). if b then [] else checked_items (histories_for k p m) (requests_for k p m) ++ state_items k proto s now) good
-            ∙ (λ j. checked_items (hs j) (ms j) ++ state_items k proto s now) in
-            let own : replica_items proto (standing_of proto (slice_get w.cast.replicas r)) (slice_get (slice_set w.cast.replicas r now) r) ≡ state_items k proto s now =
+            let hs_is : call_histories k p call ≡ hs = told ∙ ap (λ (b : Bool). if b then [] else hs) good in
+            let ms_is : call_requests k p call ≡ ms = asked ∙ ap (λ (b : Bool). if b then [] else ms) good in
+            let all : call_items k proto r s.rep call ≡ checked_items hs ms ++ state_items k proto s.rep now.rep =
+            ap (λ (b : Bool). if b then [] else checked_items (call_histories k p call) (call_requests k p call) ++ state_items k proto s.rep now.rep) good
+            ∙ (λ j. checked_items (hs_is j) (ms_is j) ++ state_items k proto s.rep now.rep) in
+            let own : replica_items proto (standing_of proto (slice_get w.cast.replicas r)) (slice_get (slice_set w.cast.replicas r now) r) ≡ state_items k proto s.rep now.rep =
             (λ j. replica_items proto (standing_of proto (there j)) (set_hit w.cast.replicas r now s there j)) in
-            (rw good refl) ∙ ap (λ l. looked w.watch n p (map request asked ++ l)) own ∙ ap (looked w.watch n p) (sym (within ∙ all))
-      ])
+            (rw good refl) ∙ ap (λ l. looked w.watch n p (checked_items hs ms ++ l)) own ∙ ap (looked w.watch n p) (sym (within ∙ all))
+      ]
 
-  watch_client : (c : ℕ) (m : Msg) (seat : Seat) → IsMessage m → c < k.cluster.clients → slice_get w.cast.clients c ≡ Some seat
+  watch_replica : (r : ℕ) (m : Msg) (s : Site P) → r < replicas k → slice_get w.cast.replicas r ≡ Some s
+      → (moved_at proto w (place.Replica r) (message m) (core_at w.cast (place.Replica r))).watch ≡ looked w.watch n (Replica r) (if nat_lt r (replicas k) then call_items k proto r s.rep (took m) else [])
+  watch_replica r m s lt there =
+      ap (λ o. (moved_at proto w (place.Replica r) (message m) (option_map replica o)).watch) there
+      ∙ looks_as_run r s (took m) (carried_histories k.cluster.f (Replica r) m) (carried_requests k.cluster.f (Replica r) m) lt there refl refl
+
+  watch_rung : (r : ℕ) (s : Site P) → r < replicas k → slice_get w.cast.replicas r ≡ Some s
+      → (moved_at proto w (place.Replica r) time (core_at w.cast (place.Replica r))).watch ≡ looked w.watch n (Replica r) (if nat_lt r (replicas k) then call_items k proto r s.rep timed else [])
+  watch_rung r s lt there =
+      ap (λ o. (moved_at proto w (place.Replica r) time (option_map replica o)).watch) there
+      ∙ looks_as_run r s timed [] [] lt there (sym (either_none (is_bad w.cast.setup (Replica r)))) (sym (either_none (is_bad w.cast.setup (Replica r))))
+
+  watch_client : (c : ℕ) (m : Msg) (seat : Seat) → c < k.cluster.clients → slice_get w.cast.clients c ≡ Some seat
       → (moved_at proto w (place.Client c) (message m) (core_at w.cast (place.Client c))).watch ≡ looked w.watch n (Client c) (if nat_lt c k.cluster.clients then client_items k proto c m else [])
-  watch_client c m seat is lt there =
+  watch_client c m seat lt there =
       let p = Client c in
-      let asked = taken_requests k.cluster.f p (message m) in
+      let told = carried_histories k.cluster.f p m in
+      let asked = carried_requests k.cluster.f p m in
       let within : (if nat_lt c k.cluster.clients then client_items k proto c m else []) ≡ client_items k proto c m = ap (λ (b : Bool). if b then client_items k proto c m else []) (lt-ltb c k.cluster.clients lt) in
       ap (λ o. (moved_at proto w (place.Client c) (message m) (option_map client o)).watch) there
       ∙ (elim (cases_Bool (is_bad w.cast.setup p)) [
         | inl bad ↦
-            let hs : histories_for k p m ≡ [] = ap (λ (b : Bool). if b then [] else flat_map stated_history (claims k.cluster.f p m) ++ flat_map value_histories (values_in m)) bad in
+            let hs : histories_for k p m ≡ [] = ap (λ (b : Bool). if b then [] else told) bad in
             let ms : requests_for k p m ≡ [] = ap (λ (b : Bool). if b then [] else asked) bad in
             (rw bad refl) ∙ sym (looked_none w.watch n p) ∙ ap (looked w.watch n p) (sym (within ∙ (λ j. checked_items (hs j) (ms j))))
         | inr good ↦
-            let hs : histories_for k p m ≡ [] = ap (λ (b : Bool). if b then [] else flat_map stated_history (claims k.cluster.f p m) ++ flat_map value_histories (values_in m)) good ∙ no_histories k.cluster.f p m is in
+            let hs : histories_for k p m ≡ told = ap (λ (b : Bool). if b then [] else told) good in
             let ms : requests_for k p m ≡ asked = ap (λ (b : Bool). if b then [] else asked) good in
-            (rw good refl) ∙ ap (looked w.watch n p) (append-nil (map request asked)) ∙ ap (looked w.watch n p) (sym (within ∙ (λ j. checked_items (hs j) (ms j))))
+            (rw good refl) ∙ ap (looked w.watch n p) (append-nil (checked_items told asked)) ∙ ap (looked w.watch n p) (sym (within ∙ (λ j. checked_items (hs j) (ms j))))
+      ])
+
+  watch_client_rung : (c : ℕ) (seat : Seat) → slice_get w.cast.clients c ≡ Some seat → (moved_at proto w (place.Client c) time (core_at w.cast (place.Client c))).watch ≡ w.watch
+  watch_client_rung c seat there =
+      ap (λ o. (moved_at proto w (place.Client c) time (option_map client o)).watch) there
+      ∙ (elim (cases_Bool (is_bad w.cast.setup (Client c))) [
+        | inl bad ↦ rw bad refl
+        | inr good ↦ (rw good refl) ∙ looked_none w.watch n (Client c)
       ])
 
   watch_told : (c : ℕ) (bytes : _) (seat : Seat) → slice_get w.cast.clients c ≡ Some seat → (moved_at proto w (place.Client c) (command bytes) (core_at w.cast (place.Client c))).watch ≡ w.watch
@@ -153,10 +173,11 @@ module _ {P : Type 0} (proto : Proto P) (w : World P) where
         | inr good ↦ (rw good refl) ∙ looked_none w.watch n (Client c)
       ])
 
-  watch_replica_twin : (r i : ℕ) (t : Taken) (o : Option (Rep P)) → is_bad w.cast.setup (Replica r) ≡ true → (moved_at proto w (place.ReplicaTwin r i) t (option_map replica o)).watch ≡ w.watch
+  watch_replica_twin : (r i : ℕ) (t : Taken) (o : Option (Site P)) → is_bad w.cast.setup (Replica r) ≡ true → (moved_at proto w (place.ReplicaTwin r i) t (option_map replica o)).watch ≡ w.watch
   watch_replica_twin r i t None bad = refl
   watch_replica_twin r i (command bytes) (Some s) bad = rw bad refl
   watch_replica_twin r i (message m) (Some s) bad = rw bad refl
+  watch_replica_twin r i time (Some s) bad = rw bad refl
 
   watch_client_twin : (c i : ℕ) (t : Taken) (o : Option Seat) → is_bad w.cast.setup (Client c) ≡ true → (moved_at proto w (place.ClientTwin c i) t (option_map client o)).watch ≡ w.watch
   watch_client_twin c i t None bad = refl
@@ -177,7 +198,7 @@ module _ {P : Type 0} (proto : Proto P) (w : World P) where
 opened_so : (o : Result Msg OpenFault) (m : Msg) → o ≡ Ok m → opened o ≡ Some m
 opened_so o m is = ap opened is
 
-module _ {P : Type 0} (proto : Proto P) (x : Setup) (built : OpensMessages (opener x)) where
+module _ {P : Type 0} (proto : Proto P) (x : Setup) where
   abbrev K : RunSetup
   K = run_setup x
 
@@ -204,39 +225,61 @@ module _ {P : Type 0} (proto : Proto P) (x : Setup) (built : OpensMessages (open
     number : w.cast.events + 1 ≡ length before + 1
     number = ap (λ n. n + 1) (ap (λ (s : Stage P). s.events) shows ∙ (back_shown K proto spell_content (opener x) before).count)
 
-    replica_there : (r : ℕ) → r < 3 * x.cluster.f + 1 → slice_get w.cast.replicas r ≡ Some ((at before).reps r)
-    replica_there r lt = ap (λ (s : Stage P). slice_get s.replicas r) shows ∙ (back_shown K proto spell_content (opener x) before).replicas r lt
+    -- an own replica, where the run has it
+    record HasSite (r : ℕ) : Type 0 where
+      site : Site P
+      there : slice_get w.cast.replicas r ≡ Some site
+      rep : site.rep ≡ (at before).reps r
 
-    -- what a message that opens is looked at for, as the run does
-    heard_replica : (r : ℕ) (m : Msg) → IsMessage m → r < 3 * x.cluster.f + 1
+    replica_there : (r : ℕ) → r < 3 * x.cluster.f + 1 → HasSite r
+    replica_there r lt =
+        let lt' : r < 3 * w.cast.setup.cluster.f + 1 = subst (λ (y : Setup). r < 3 * y.cluster.f + 1) (sym setup) lt in
+        let found = get_there w.cast.replicas r (subst (λ n. r < n) (sym stands.replicas) lt') in
+        let here : slice_get (reps_of w.cast.replicas) r ≡ Some ((at before).reps r) = ap (λ (s : Stage P). slice_get s.replicas r) shows ∙ (back_shown K proto spell_content (opener x) before).replicas r lt in
+        record { site = found.0; there = found.1; rep = some_injective found.0.rep ((at before).reps r) (sym (reps_of-get w.cast.replicas r ∙ ap (option_map (λ s. s.rep)) found.1) ∙ here) }
+
+    -- what a call is looked at for, as the run does
+    same_items : (r : ℕ) (call : Call) (has : HasSite r) → looked w.watch (w.cast.events + 1) (Replica r) (if nat_lt r (replicas (run_setup w.cast.setup)) then call_items (run_setup w.cast.setup) proto r has.site.rep call else [])
+        ≡ looked known (length before + 1) (Replica r) (if nat_lt r (replicas K) then call_items K proto r ((at before).reps r) call else [])
+    same_items r call has = λ j. looked (watch j) (number j) (Replica r) (if nat_lt r (replicas (run_setup (setup j))) then call_items (run_setup (setup j)) proto r (has.rep j) call else [])
+
+    heard_replica : (r : ℕ) (m : Msg) → r < 3 * x.cluster.f + 1
         → (moved_at proto w (place.Replica r) (message m) (core_at w.cast (place.Replica r))).watch ≡ looked_in K proto known (length before + 1) (Some (Replica r)) (flat_map (items_of K proto (at before)) (to_replica r m ∷ []))
-    heard_replica r m is lt =
-        let s = (at before).reps r in
-        watch_replica proto w r m s is (subst (λ (y : Setup). r < 3 * y.cluster.f + 1) (sym setup) lt) (replica_there r lt)
-        ∙ (λ j. looked (watch j) (number j) (Replica r) (if nat_lt r (replicas (run_setup (setup j))) then call_items (run_setup (setup j)) proto r s (took m) else []))
+    heard_replica r m lt =
+        let has = replica_there r lt in
+        watch_replica proto w r m has.site (subst (λ (y : Setup). r < 3 * y.cluster.f + 1) (sym setup) lt) has.there
+        ∙ same_items r (took m) has
         ∙ ap (looked known (length before + 1) (Replica r)) (sym (append-nil (items_of K proto (at before) (to_replica r m))))
 
-    heard_client : (c : ℕ) (m : Msg) → IsMessage m → c < x.cluster.clients
+    rung_replica : (r : ℕ) → r < 3 * x.cluster.f + 1
+        → (moved_at proto w (place.Replica r) time (core_at w.cast (place.Replica r))).watch ≡ looked_in K proto known (length before + 1) (Some (Replica r)) (flat_map (items_of K proto (at before)) (replica_time r ∷ []))
+    rung_replica r lt =
+        let has = replica_there r lt in
+        watch_rung proto w r has.site (subst (λ (y : Setup). r < 3 * y.cluster.f + 1) (sym setup) lt) has.there
+        ∙ same_items r timed has
+        ∙ ap (looked known (length before + 1) (Replica r)) (sym (append-nil (items_of K proto (at before) (replica_time r))))
+
+    heard_client : (c : ℕ) (m : Msg) → c < x.cluster.clients
         → (moved_at proto w (place.Client c) (message m) (core_at w.cast (place.Client c))).watch ≡ looked_in K proto known (length before + 1) (Some (Client c)) (flat_map (items_of K proto (at before)) (to_client c m ∷ []))
-    heard_client c m is lt =
+    heard_client c m lt =
         let lt' : c < w.cast.setup.cluster.clients = subst (λ (y : Setup). c < y.cluster.clients) (sym setup) lt in
         let found = get_there w.cast.clients c (subst (λ n. c < n) (sym stands.clients) lt') in
-        watch_client proto w c m found.0 is lt' found.1
+        watch_client proto w c m found.0 lt' found.1
         ∙ (λ j. looked (watch j) (number j) (Client c) (if nat_lt c (setup j).cluster.clients then client_items (run_setup (setup j)) proto c m else []))
         ∙ ap (looked known (length before + 1) (Client c)) (sym (append-nil (items_of K proto (at before) (to_client c m))))
 
     quiet_watch : (v : Watch) (p : Party) → v ≡ w.watch → v ≡ looked_in K proto known (length before + 1) (Some p) []
     quiet_watch v p is = is ∙ watch ∙ sym (looked_none known (length before + 1) p)
 
-    hears_replica : (r : ℕ) (o : Result Msg OpenFault) → ((m : Msg) → opened o ≡ Some m → IsMessage m) → r < 3 * x.cluster.f + 1
+    hears_replica : (r : ℕ) (o : Result Msg OpenFault) → r < 3 * x.cluster.f + 1
         → (after_taking proto w (place.Replica r) (messages o)).watch ≡ looked_in K proto known (length before + 1) (Some (Replica r)) (flat_map (items_of K proto (at before)) (opened_event (Replica r) (opened o)))
-    hears_replica r (Ok m) is lt = heard_replica r m (is m refl) lt
-    hears_replica r (Err fault) is lt = quiet_watch w.watch (Replica r) refl
+    hears_replica r (Ok m) lt = heard_replica r m lt
+    hears_replica r (Err fault) lt = quiet_watch w.watch (Replica r) refl
 
-    hears_client : (c : ℕ) (o : Result Msg OpenFault) → ((m : Msg) → opened o ≡ Some m → IsMessage m) → c < x.cluster.clients
+    hears_client : (c : ℕ) (o : Result Msg OpenFault) → c < x.cluster.clients
         → (after_taking proto w (place.Client c) (messages o)).watch ≡ looked_in K proto known (length before + 1) (Some (Client c)) (flat_map (items_of K proto (at before)) (opened_event (Client c) (opened o)))
-    hears_client c (Ok m) is lt = heard_client c m (is m refl) lt
-    hears_client c (Err fault) is lt = quiet_watch w.watch (Client c) refl
+    hears_client c (Ok m) lt = heard_client c m lt
+    hears_client c (Err fault) lt = quiet_watch w.watch (Client c) refl
 
     hears_replica_twin : (r i : ℕ) (o : Result Msg OpenFault) → is_bad w.cast.setup (Replica r) ≡ true → (after_taking proto w (place.ReplicaTwin r i) (messages o)).watch ≡ w.watch
     hears_replica_twin r i (Ok m) bad = watch_replica_twin proto w r i (message m) (slice_get w.cast.replica_twins i) bad
@@ -249,9 +292,6 @@ module _ {P : Type 0} (proto : Proto P) (x : Setup) (built : OpensMessages (open
     same_opening : (p : Party) (bytes : List ℕ) → opening_at w.cast.setup p bytes ≡ opening_at x p bytes
     same_opening p bytes = ap (λ (y : Setup). opening_at y p bytes) setup
 
-    opens_built : (p : Party) (bytes : List ℕ) (m : Msg) → opened (opening_at x p bytes) ≡ Some m → IsMessage m
-    opens_built p bytes m e = built p bytes m e
-
     watch_at : (spot : Place) (g : Given) → IsAt w.cast.setup spot → Takes spot g
         → (after_taking proto w spot (taken_from w.cast.setup (party_at spot) g)).watch ≡ watched K proto (opener x) (input_at spot g ∷ before)
     watch_at (place.Replica r) (ask bytes) is takes = absurd takes
@@ -262,12 +302,19 @@ module _ {P : Type 0} (proto : Proto P) (x : Setup) (built : OpensMessages (open
     watch_at (place.ClientTwin c i) (ask bytes) is takes = watch_client_twin proto w c i (command bytes) (slice_get w.cast.client_twins i) is.0 ∙ watch
     watch_at (place.Replica r) (hand bytes) is takes =
         ap (λ o. (after_taking proto w (place.Replica r) (messages o)).watch) (same_opening (Replica r) bytes)
-        ∙ hears_replica r (opening_at x (Replica r) bytes) (opens_built (Replica r) bytes) (subst (λ (y : Setup). r < 3 * y.cluster.f + 1) setup is)
+        ∙ hears_replica r (opening_at x (Replica r) bytes) (subst (λ (y : Setup). r < 3 * y.cluster.f + 1) setup is)
     watch_at (place.Client c) (hand bytes) is takes =
         ap (λ o. (after_taking proto w (place.Client c) (messages o)).watch) (same_opening (Client c) bytes)
-        ∙ hears_client c (opening_at x (Client c) bytes) (opens_built (Client c) bytes) (subst (λ (y : Setup). c < y.cluster.clients) setup is)
+        ∙ hears_client c (opening_at x (Client c) bytes) (subst (λ (y : Setup). c < y.cluster.clients) setup is)
     watch_at (place.ReplicaTwin r i) (hand bytes) is takes = hears_replica_twin r i (opening_at w.cast.setup (Replica r) bytes) is.0 ∙ watch
     watch_at (place.ClientTwin c i) (hand bytes) is takes = hears_client_twin c i (opening_at w.cast.setup (Client c) bytes) is.0 ∙ watch
+
+    watch_at (place.Replica r) ring is takes = rung_replica r (subst (λ (y : Setup). r < 3 * y.cluster.f + 1) setup is)
+    watch_at (place.Client c) ring is takes =
+        let found = get_there w.cast.clients c (subst (λ n. c < n) (sym stands.clients) is) in
+        quiet_watch _ (Client c) (watch_client_rung proto w c found.0 found.1)
+    watch_at (place.ReplicaTwin r i) ring is takes = watch_replica_twin proto w r i time (slice_get w.cast.replica_twins i) is.0 ∙ watch
+    watch_at (place.ClientTwin c i) ring is takes = watch_client_twin proto w c i time (slice_get w.cast.client_twins i) is.0 ∙ watch
 
     lines_taken : (spot : Place) (o : Result Taken OpenFault) → filter is_observed (after_taking proto w spot o).lines ≡ map line_of_noted (after_taking proto w spot o).seen
     lines_taken spot (Ok t) = moved_lines proto w spot t (core_at w.cast spot) lines
@@ -282,6 +329,10 @@ module _ {P : Type 0} (proto : Proto P) (x : Setup) (built : OpensMessages (open
   spelled_at (place.Client c) (hand bytes) takes = tt
   spelled_at (place.ReplicaTwin r i) (hand bytes) takes = tt
   spelled_at (place.ClientTwin c i) (hand bytes) takes = tt
+  spelled_at (place.Replica r) ring takes = tt
+  spelled_at (place.Client c) ring takes = tt
+  spelled_at (place.ReplicaTwin r i) ring takes = tt
+  spelled_at (place.ClientTwin c i) ring takes = tt
 
   pub follows_on : (w : World P) (before : List Input) (h : Happening) → Follows w before → Happens w h → Follows (after proto w h) (input_of h ∷ before)
   follows_on w before h is happens =
@@ -326,12 +377,12 @@ module _ {P : Type 0} (proto : Proto P) (x : Setup) (built : OpensMessages (open
   first_follows = record {
     setup = refl;
     stands = record {
-      replicas = first_length K proto (3 * x.cluster.f + 1);
+      replicas = length-first_sites x proto (3 * x.cluster.f + 1);
       clients = length-first_seats x.cluster x.cluster.clients;
-      replica_twins = length-map (replica_twins x.faulty) (λ z. first_rep K proto z.0);
+      replica_twins = length-map (replica_twins x.faulty) (λ z. first_site x proto z.0);
       client_twins = length-map (client_twins x.faulty) (λ z. first_seat x.cluster z.0);
     };
-    shows = ap (λ z. record (first_stage K proto) { clients = z }) (clis_of-first x.cluster x.cluster.clients);
+    shows = λ j. record (first_stage K proto) { replicas = reps_of-first x proto (3 * x.cluster.f + 1) j; clients = clis_of-first x.cluster x.cluster.clients j };
     watch = refl;
     lines = refl;
     spelled = tt;

@@ -6,75 +6,77 @@ use Rattle.std.proofs.lemmas.Bool.{ltb-true}
 use Rattle.ab_num.specs.declared.party.Party.{Party}
 use Rattle.ab_num.specs.declared.party.Party.TheVariants.{Replica}
 use Rattle.ab_num.specs.declared.plan.Kind.{Kind}
-use Rattle.ab_num.specs.Places.{kind_of}
 use Rattle.ab_hist.specs.declared.request.Request.{Request}
 use Rattle.ab_hist.specs.Histories.{IsHistory}
 use Rattle.ab_text.specs.declared.event.Event.{Event}
 use Rattle.ab_text.specs.declared.line.Premise.{Premise}
 use Rattle.ab_text.specs.declared.line.Premise.TheVariants.{Held}
 use Rattle.ab_form.specs.Formats.{IsBytes}
-use Rattle.ab_keys.specs.Rings.{Ring}
 use Rattle.ab_msg.specs.declared.content.Content.{Content}
 use Rattle.ab_msg.specs.declared.message.Msg.{Msg}
-use Rattle.ab_msg.specs.declared.message.Msg.TheVariants as msg
 use Rattle.ab_msg.specs.Claims.{claims}
 use Rattle.ab_msg.specs.Carried.{stated_history}
-use Rattle.ab_msg.specs.Grammar.{IsContent, IsMessage, spell_content}
-use Rattle.ab_seal.specs.declared.fault.OpenFault.{OpenFault}
-use Rattle.ab_seal.specs.declared.fault.OpenFault.TheVariants.{NotMine}
-use Rattle.ab_seal.specs.Opening.{opening}
-use Rattle.ab_abs.specs.Messages.{IsKnown}
+use Rattle.ab_msg.specs.declared.content.Content.TheVariants.{Abort}
+use Rattle.ab_msg.specs.Contents.{IsContent, spell_content}
+use Rattle.ab_open.specs.declared.fault.OpenFault.{OpenFault}
 use Rattle.ab_abs.specs.Places.{KeepsForm}
 use Rattle.ab_abs.specs.Ensembles.{Proto}
 use Rattle.ab_run.specs.Setups.{Setup as RunSetup}
-use Rattle.ab_run.specs.Replicas.{Rep}
+use Rattle.ab_abs.specs.Promises.{ServesAll}
+use Rattle.ab_abs.proofs.Lists.{flat_map_cases}
+use Rattle.ab_abs.proofs.Statements.{one_of, none_of}
+use Rattle.ab_replica.specs.Sites.{Site}
+use Rattle.std.specs.Option.{option_map}
+use Rattle.std.proofs.lemmas.List.Elements.{All-contains}
 use Rattle.ab_run.specs.Premises.{IsHonestRun}
 use Rattle.ab_run.specs.Inputs.{Input, Opener, OpensFormed, SpellsApart, events_in}
 use Rattle.ab_run.specs.Stages.{Stage, Forgery, IsForgedAt, stage_over, find_log}
 use Rattle.ab_run.proofs.Staged.{stage_is_back}
-use Rattle.ab_cast.specs.Setups.{Setup, run_setup, ring_at, is_bad}
-use Rattle.ab_premise.specs.Collisions.{IsFree, OpensMessages, watched}
+use Rattle.ab_cast.specs.Setups.{Setup, run_setup, is_bad}
+use Rattle.ab_cast.proofs.ReplicaLemmas.{written_setup}
+use Rattle.ab_premise.specs.Collisions.{IsFree, watched}
 use Rattle.ab_premise.specs.Premises.{passing, first_premise, faulty_premise, IsPremise, is_held}
-use Rattle.ab_premise.specs.Spelled.{IsSpelledRun}
+use Rattle.ab_premise.specs.Spelled.{AreSpelledContents, OpensSpelled}
 use Rattle.ab_premise.proofs.Lines.{premise_told}
 use Rattle.ab_premise.proofs.Watches.{free_told, earliest_told}
 use Rattle.ab_premise.proofs.Spelled.{spells_apart}
 use Rattle.ab_world.specs.Lines.{is_observed, line_of_noted}
-use Rattle.ab_world.specs.Worlds.{World, start, shown_on, premise_of, opening_at, opened, opener}
+use Rattle.ab_world.specs.Worlds.{World, start, shown_on, premise_of, opened, opener}
 use Rattle.ab_world.specs.Runs.{outcome, inputs_of, came_to}
-use Rattle.ab_world.proofs.PlaceLemmas.{test_ok, parts_true}
+use Rattle.ab_world.proofs.PlaceLemmas.{parts_true}
+use Rattle.ab_world.proofs.SeatLemmas.{reps_of-get}
 use Rattle.ab_world.proofs.LogLemmas.{AreKept, all_kept}
 use Rattle.ab_world.proofs.FollowLemmas.{Follows, world_follows}
 
 -- ---- what opens
 
-all_bytes : (bytes : List ℕ) → list_all (λ b. nat_lt b 256) bytes ≡ true → IsBytes bytes
+pub all_bytes : (bytes : List ℕ) → list_all (λ b. nat_lt b 256) bytes ≡ true → IsBytes bytes
 all_bytes [] are i = omega arith
 all_bytes (b ∷ bytes) are zero = ltb-true b 256 (parts_true (nat_lt b 256) _ are).0
 all_bytes (b ∷ bytes) are (suc i) = all_bytes bytes (parts_true (nat_lt b 256) _ are).1 i
 
-opened_is : (o : Result Msg OpenFault) (m : Msg) → opened o ≡ Some m → o ≡ Ok m
+pub opened_is : (o : Result Msg OpenFault) (m : Msg) → opened o ≡ Some m → o ≡ Ok m
 opened_is (Ok n) m e = let e' : n ≡ m = cc (e) in ap Ok e'
 opened_is (Err fault) m e = absurd (cc (e))
 
-pub opens_messages : (x : Setup) → ((ring : Ring) (bytes : List ℕ) (m : Msg) → IsBytes bytes → opening ring bytes ≡ Ok m → IsMessage m) → OpensMessages (opener x)
-opens_messages x grammar p bytes m e =
-    let test = test_ok (list_all (λ b. nat_lt b 256) bytes) (opening (ring_at x p) bytes) NotMine m (opened_is (opening_at x p bytes) m e) in
-    grammar (ring_at x p) bytes m (all_bytes bytes test.0) test.1
+-- the histories of contents of the grammar rise
+content_rises : (s : Content) → IsContent s → (h : List Request) → Contains (stated_history s) h → IsHistory h
+content_rises (Abort maker i g) is h has = subst IsHistory (one_of g h has) is.1.1.1.1
+content_rises _ is h has = absurd (none_of h has)
 
-message_known : (m : Msg) → IsMessage m → IsKnown m
-message_known (msg.Req content tags) is = is
-message_known (msg.Resp content tag) is = is
-message_known _ is = absurd (is)
-
-pub opens_formed : (x : Setup) → OpensMessages (opener x)
-    → ((f : ℕ) (me : Party) (m : Msg) → IsMessage m → (h : List Request) → Contains (flat_map stated_history (claims f me m)) h → IsHistory h) → OpensFormed (run_setup x) (opener x)
-opens_formed x built rises p bytes m e = record { of_grammar = message_known m (built p bytes m e); rises = rises x.cluster.f p m (built p bytes m e) }
+pub opens_formed : (x : Setup) → OpensSpelled (run_setup x) (opener x) → OpensFormed (run_setup x) (opener x)
+opens_formed x spelled p bytes m e =
+    let is = spelled p bytes m e in
+    record {
+      of_grammar = is.0;
+      rises = λ h has.
+          let found = flat_map_cases stated_history (claims x.cluster.f p m) h has in
+          content_rises found.0 (All-contains IsContent (claims x.cluster.f p m) found.0 is.1 found.1) h found.2;
+    }
 
 -- ---- the premise line
 
-module _ {P : Type 0} (proto : Proto P) (serves : Kind → Bool) (x : Setup) (built : OpensMessages (opener x)) (serves_first : IsTrue (serves (kind_of x.cluster.plan 1)))
-    (form : KeepsForm proto serves) (own : (a b : Content) → IsContent a → IsContent b → spell_content a ≡ spell_content b → a ≡ b) (es : List Event) (end : World P) (out : outcome proto 1 (start proto x) es ≡ Ok end) where
+module _ {P : Type 0} (proto : Proto P) (serves : Kind → Bool) (x : Setup) (form : KeepsForm proto serves) (es : List Event) (end : World P) (out : outcome proto 1 (start proto x) es ≡ Ok end) where
   abbrev K : RunSetup
   K = run_setup x
 
@@ -84,14 +86,12 @@ module _ {P : Type 0} (proto : Proto P) (serves : Kind → Bool) (x : Setup) (bu
   abbrev came : List Input
   came = came_to proto x es
 
-  is : Follows proto x built end came
-  is = world_follows proto x built es end out
+  is : Follows proto x end came
+  is = world_follows proto x es end out
 
-  spelled : IsSpelledRun K serves (opener x) came
-  spelled = record { serves_first = serves_first; opens_messages = built; unsigned = refl; each = is.spelled; few = omega (arith, is.few) }
-
-  pub are_apart : SpellsApart K proto spell_content (events_in (opener x) came)
-  are_apart = spells_apart K proto serves (opener x) came form spelled own
+  pub are_apart : ServesAll serves x.cluster → OpensSpelled K (opener x) → AreSpelledContents x.cluster.f → SpellsApart K proto spell_content (events_in (opener x) came)
+  are_apart served opens contents =
+      spells_apart K proto serves (opener x) came form (record { written = written_setup x serves served; opens_spelled = opens; each = is.spelled; few = omega (arith, is.few) }) contents
 
   abbrev stage : Stage P
   stage = stage_over K proto spell_content (opener x) inputs
@@ -111,8 +111,8 @@ module _ {P : Type 0} (proto : Proto P) (serves : Kind → Bool) (x : Setup) (bu
         let told = premise_told K proto (opener x) x.faulty came end.forged end.watch.collided
         (λ e. honest.0 (sym forged_is ∙ e), λ h. forged_is ∙ honest.1 h)
         (λ b. (λ e. (first b).0 (sym forged_is ∙ e), λ h. forged_is ∙ (first b).1 h))
-        (λ e. (free_told K proto form (opener x) built came).0 (sym collided_is ∙ e), λ h. collided_is ∙ (free_told K proto form (opener x) built came).1 h)
-        (λ c. (λ e. (earliest_told K proto form (opener x) built came c).0 (sym collided_is ∙ e), λ h. collided_is ∙ (earliest_told K proto form (opener x) built came c).1 h))
+        (λ e. (free_told K proto form (opener x) came).0 (sym collided_is ∙ e), λ h. collided_is ∙ (free_told K proto form (opener x) came).1 h)
+        (λ c. (λ e. (earliest_told K proto form (opener x) came c).0 (sym collided_is ∙ e), λ h. collided_is ∙ (earliest_told K proto form (opener x) came c).1 h))
         line in
         let same : premise_of end ≡ faulty_premise (passing K.cluster.f x.faulty) (first_premise end.forged end.watch.collided) =
         ap (λ (y : Setup). faulty_premise (passing y.cluster.f y.faulty) (first_premise end.forged end.watch.collided)) is.setup in
@@ -121,10 +121,11 @@ module _ {P : Type 0} (proto : Proto P) (serves : Kind → Bool) (x : Setup) (bu
   pub lines_are : filter is_observed end.lines ≡ map line_of_noted stage.seen
   lines_are = is.lines ∙ ap (λ s. map line_of_noted s.seen) shows
 
-  pub logs_are : (r : ℕ) (q : Rep P) → is_bad x (Replica r) ≡ false → slice_get end.cast.replicas r ≡ Some q → find_log stage.logs q.at r ≡ (proto.state q.value).log
+  pub logs_are : (r : ℕ) (q : Site P) → is_bad x (Replica r) ≡ false → slice_get end.cast.replicas r ≡ Some q → find_log stage.logs q.rep.at r ≡ (proto.state q.rep.value).log
   logs_are r q good there =
       subst (AreKept K proto spell_content (opener x)) (sym (stage_is_back K proto spell_content (opener x) inputs))
-      (all_kept K proto spell_content (opener x) (λ n. (form.starts K.cluster n).logged) came) r q good (sym (ap (λ (s : Stage P). slice_get s.replicas r) shows) ∙ there)
+      (all_kept K proto spell_content (opener x) (λ n. (form.starts K.cluster n).logged) came) r q.rep good
+      (sym (ap (λ (s : Stage P). slice_get s.replicas r) shows) ∙ reps_of-get end.cast.replicas r ∙ ap (option_map (λ s. s.rep)) there)
 
 -- where the line says held, all three are met
 pub held_parts : {P : Type 0} (k : RunSetup) (proto : Proto P) (opens : Opener) (faulty : List (Party × ℕ)) (inputs : List Input) (line : Premise) → IsPremise k proto opens faulty inputs line → line ≡ Held

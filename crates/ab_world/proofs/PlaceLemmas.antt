@@ -12,7 +12,7 @@ use Rattle.ab_text.specs.declared.event.Core.{Core as CoreName}
 use Rattle.ab_text.specs.declared.event.Event.{Event}
 use Rattle.ab_text.specs.declared.event.Event.TheVariants.{Invoke, Deliver, Timeout, Inject}
 use Rattle.ab_keys.specs.Keys.{is_party}
-use Rattle.ab_run.specs.Replicas.{Rep}
+use Rattle.ab_replica.specs.Sites.{Site}
 use Rattle.ab_post.specs.Packets.{Packet, nth}
 use Rattle.ab_cast.specs.declared.fault.CommandFault.{CommandFault}
 use Rattle.ab_cast.specs.declared.fault.CommandFault.TheVariants as command_fault
@@ -24,7 +24,7 @@ use Rattle.ab_cast.specs.Casts.{core_at, command_refusal}
 use Rattle.ab_world.specs.declared.fault.WorldFault.{WorldFault}
 use Rattle.ab_world.specs.declared.fault.WorldFault.TheVariants.{EventLimit, NotBuilt}
 use Rattle.ab_world.specs.Worlds.{World}
-use Rattle.ab_world.specs.Steps.{Given, ask, hand, Happening, refuse_command, asked_at, asked, handed, addressed, delivered, happening, ready_in, ready}
+use Rattle.ab_world.specs.Steps.{Given, ask, hand, ring, Happening, refuse_command, asked_at, asked, handed, rung, addressed, delivered, happening, ready_in, ready}
 
 -- a place of the cluster. Further cores are those of faulty parties
 abbrev pub IsAt : Setup → Place → Type 0
@@ -40,6 +40,7 @@ Takes (place.Client c) (ask bytes) = (1 ≤ length bytes.items) × (length bytes
 Takes (place.ReplicaTwin r i) (ask bytes) = Unit {0}
 Takes (place.ClientTwin c i) (ask bytes) = Unit {0}
 Takes at (hand bytes) = Unit {0}
+Takes at ring = Unit {0}
 
 pub record Happens {P : Type 0} (w : World P) (h : Happening) : Type 0 where
   pub few : w.cast.events < 100000
@@ -113,11 +114,18 @@ module _ {P : Type 0} where
       let e' : record { place = at; given = hand bytes } ≡ h = cc in
       subst (Happens w) e' was
 
+  rings : (w : World P) (o : Option Place) (h : Happening) → w.cast.events < 100000 → ((at : Place) → o ≡ Some at → IsAt w.cast.setup at) → rung o ≡ Ok h → Happens w h
+  rings w None h few there e = absurd (cc)
+  rings w (Some at) h few there e =
+      let was : Happens w (record { place = at; given = ring }) = record { few = few; there = there at refl; takes = tt } in
+      let e' : record { place = at; given = ring } ≡ h = cc in
+      subst (Happens w) e' was
+
   delivers : (w : World P) (o : Option Packet) (core : Option CoreName) (h : Happening) → w.cast.events < 100000 → delivered w.cast.setup o core ≡ Ok h → Happens w h
   delivers w None core h few e = absurd (cc)
   delivers w (Some packet) core h few e = hands w packet.bytes (addressed w.cast.setup packet.to core) h few (λ at is. addressed_there w.cast.setup packet.to core at is) e
 
-  no_replica : (o : Option (Rep P)) (at : Place) (bytes : ArrayVec ℕ) (h : Happening) → asked_at at bytes (option_map replica o) ≡ Ok h → ⊥
+  no_replica : (o : Option (Site P)) (at : Place) (bytes : ArrayVec ℕ) (h : Happening) → asked_at at bytes (option_map replica o) ≡ Ok h → ⊥
   no_replica None at bytes h e = cc
   no_replica (Some s) at bytes h e = cc
 
@@ -144,7 +152,7 @@ module _ {P : Type 0} where
       asks w bytes (place_of w.cast.setup core.party core.twin) h few (leb-true 1 (length bytes.items) parts.0, leb-true (length bytes.items) 128 parts.1)
       (λ at is. place_there w.cast.setup core.party core.twin at is) test.1
   happens w (Deliver packet core) h few e = delivers w (nth w.packets packet) core h few e
-  happens w (Timeout core) h few e = absurd (cc)
+  happens w (Timeout core) h few e = rings w (place_of w.cast.setup core.party core.twin) h few (λ at is. place_there w.cast.setup core.party core.twin at is) e
   happens w (Inject core bytes) h few e = hands w bytes (place_of w.cast.setup core.party core.twin) h few (λ at is. place_there w.cast.setup core.party core.twin at is) e
 
   happens_in : (w : World P) (e : Event) (o : Option WorldFault) (h : Happening) → ready_in w e o ≡ Ok h → Happens w h

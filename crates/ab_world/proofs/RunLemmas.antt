@@ -6,25 +6,25 @@ use Rattle.ab_num.specs.declared.party.Party.{Party}
 use Rattle.ab_num.specs.declared.party.Party.TheVariants.{Replica, Client}
 use Rattle.ab_text.specs.declared.line.Cause.{Cause}
 use Rattle.ab_msg.specs.declared.message.Msg.{Msg}
-use Rattle.ab_msg.specs.Grammar.{spell_content}
-use Rattle.ab_seal.specs.declared.fault.OpenFault.{OpenFault}
-use Rattle.ab_abs.specs.Messages.{took}
+use Rattle.ab_msg.specs.Contents.{spell_content}
+use Rattle.ab_open.specs.declared.fault.OpenFault.{OpenFault}
+use Rattle.ab_abs.specs.Messages.{Call, took, timed}
 use Rattle.ab_abs.specs.Ensembles.{Proto}
 use Rattle.ab_run.specs.Setups.{Setup as RunSetup}
 use Rattle.ab_run.specs.Clients.{Cli}
 use Rattle.ab_run.specs.Replicas.{Rep}
-use Rattle.ab_run.specs.Local.{rep_after}
-use Rattle.ab_run.specs.Stages.{Stage, stage_call, stage_cue, stage_still, stage_opened, stage_after}
+use Rattle.ab_replica.specs.Sites.{Site}
+use Rattle.ab_run.specs.Stages.{Stage, stage_call, stage_cue, stage_still, stage_opened, stage_timed, stage_after}
 use Rattle.ab_run.proofs.Listed.{set_length}
 use Rattle.ab_client.specs.Clients.{Seat}
 use Rattle.ab_cast.specs.declared.place.Place.{Place}
 use Rattle.ab_cast.specs.declared.place.Place.TheVariants as place
 use Rattle.ab_cast.specs.Setups.{run_setup, is_bad, party_at, replica_twins, client_twins}
-use Rattle.ab_cast.specs.Cores.{replica, client, Taken, command, message, cue_of}
-use Rattle.ab_cast.specs.Casts.{Cast, core_at, with_replica, with_client, next, clis_of}
+use Rattle.ab_cast.specs.Cores.{replica, client, Taken, command, message, time, cue_of, site_after}
+use Rattle.ab_cast.specs.Casts.{Cast, core_at, with_replica, with_client, next, clis_of, reps_of}
 use Rattle.ab_world.specs.Worlds.{World, shown_on, opening_at, opened, opener}
-use Rattle.ab_world.specs.Steps.{Given, ask, hand, Happening, messages, taken_from, missed, moved_at, after_taking, after, input_at, input_of}
-use Rattle.ab_world.proofs.SeatLemmas.{clis_of-get, clis_of-set, get_there}
+use Rattle.ab_world.specs.Steps.{Given, ask, hand, ring, Happening, messages, taken_from, missed, moved_at, after_taking, after, input_at, input_of}
+use Rattle.ab_world.proofs.SeatLemmas.{clis_of-get, clis_of-set, reps_of-get, reps_of-set, get_there}
 use Rattle.ab_world.proofs.PlaceLemmas.{IsAt, Takes, Happens}
 
 -- as many cores as the setup says
@@ -38,7 +38,7 @@ module _ {P : Type 0} where
   stands_still : (x : Cast P) → Stands x → Stands (next x)
   stands_still x is = record { replicas = is.replicas; clients = is.clients; replica_twins = is.replica_twins; client_twins = is.client_twins }
 
-  stands_replica : (x : Cast P) (at : Place) (s : Rep P) → Stands x → Stands (next (with_replica x at s))
+  stands_replica : (x : Cast P) (at : Place) (s : Site P) → Stands x → Stands (next (with_replica x at s))
   stands_replica x (place.Replica r) s is = record { replicas = set_length x.replicas r s ∙ is.replicas; clients = is.clients; replica_twins = is.replica_twins; client_twins = is.client_twins }
   stands_replica x (place.Client c) s is = stands_still x is
   stands_replica x (place.ReplicaTwin r i) s is = record { replicas = is.replicas; clients = is.clients; replica_twins = set_length x.replica_twins i s ∙ is.replica_twins; client_twins = is.client_twins }
@@ -67,11 +67,12 @@ module _ {P : Type 0} (proto : Proto P) where
 
     -- ---- further cores of faulty parties
 
-    replica_twin : (r i : ℕ) (t : Taken) (o : Option (Rep P)) (s : Rep P) → o ≡ Some s → Stands w.cast → is_bad w.cast.setup (Replica r) ≡ true
+    replica_twin : (r i : ℕ) (t : Taken) (o : Option (Site P)) (s : Site P) → o ≡ Some s → Stands w.cast → is_bad w.cast.setup (Replica r) ≡ true
         → Advances w (moved_at proto w (place.ReplicaTwin r i) t (option_map replica o)) (stage_still k proto spell_content was)
     replica_twin r i t None s e is bad = absurd (cc (e))
     replica_twin r i (command bytes) (Some t) s e is bad = record { setup = refl; events = refl; stands = stands_replica w.cast (place.ReplicaTwin r i) t is; shows = rw bad refl }
-    replica_twin r i (message m) (Some t) s e is bad = record { setup = refl; events = refl; stands = stands_replica w.cast (place.ReplicaTwin r i) (rep_after k proto r t (took m)) is; shows = rw bad refl }
+    replica_twin r i (message m) (Some t) s e is bad = record { setup = refl; events = refl; stands = stands_replica w.cast (place.ReplicaTwin r i) (site_after k proto r t (took m)) is; shows = rw bad refl }
+    replica_twin r i time (Some t) s e is bad = record { setup = refl; events = refl; stands = stands_replica w.cast (place.ReplicaTwin r i) (site_after k proto r t timed) is; shows = rw bad refl }
 
     client_twin : (c i : ℕ) (t : Taken) (o : Option Seat) (s : Seat) → o ≡ Some s → Stands w.cast → is_bad w.cast.setup (Client c) ≡ true
         → Advances w (moved_at proto w (place.ClientTwin c i) t (option_map client o)) (stage_still k proto spell_content was)
@@ -92,12 +93,41 @@ module _ {P : Type 0} (proto : Proto P) where
 
     -- ---- a party's own core
 
+    replica_at : (r : ℕ) (m : Msg) (site : Site P) → Stands w.cast
+        → Advances w (moved_at proto w (place.Replica r) (message m) (Some (replica site))) (stage_call k proto spell_content was r (took m) (Some site.rep))
+    replica_at r m site is = record {
+      setup = refl;
+      events = refl;
+      stands = stands_replica w.cast (place.Replica r) (site_after k proto r site (took m)) is;
+      shows = ap (λ (z : List (Rep P)). record (stage_call k proto spell_content was r (took m) (Some site.rep)) { replicas = z }) (reps_of-set w.cast.replicas r _);
+    }
+
+    replica_rings_at : (r : ℕ) (site : Site P) → Stands w.cast → Advances w (moved_at proto w (place.Replica r) time (Some (replica site))) (stage_call k proto spell_content was r timed (Some site.rep))
+    replica_rings_at r site is = record {
+      setup = refl;
+      events = refl;
+      stands = stands_replica w.cast (place.Replica r) (site_after k proto r site timed) is;
+      shows = ap (λ (z : List (Rep P)). record (stage_call k proto spell_content was r timed (Some site.rep)) { replicas = z }) (reps_of-set w.cast.replicas r _);
+    }
+
+    -- an own replica that is there
+    own_replica : (r : ℕ) (t : Taken) (call : Call) → ((site : Site P) → Advances w (moved_at proto w (place.Replica r) t (Some (replica site))) (stage_call k proto spell_content was r call (Some site.rep)))
+        → Stands w.cast → IsAt w.cast.setup (place.Replica r)
+        → Advances w (moved_at proto w (place.Replica r) t (core_at w.cast (place.Replica r))) (stage_call k proto spell_content was r call (slice_get (reps_of w.cast.replicas) r))
+    own_replica r t call each is at =
+        let found = get_there w.cast.replicas r (subst (λ (n : ℕ). r < n) (sym is.replicas) at) in
+        let here : slice_get (reps_of w.cast.replicas) r ≡ Some found.0.rep = reps_of-get w.cast.replicas r ∙ ap (option_map (λ s. s.rep)) found.1 in
+        subst (λ (o : Option (Rep P)). Advances w (moved_at proto w (place.Replica r) t (core_at w.cast (place.Replica r))) (stage_call k proto spell_content was r call o)) (sym here)
+        (subst (λ (o : Option (Site P)). Advances w (moved_at proto w (place.Replica r) t (option_map replica o)) (stage_call k proto spell_content was r call (Some found.0.rep))) (sym found.1)
+        (each found.0))
+
     replica_takes : (r : ℕ) (m : Msg) → Stands w.cast → IsAt w.cast.setup (place.Replica r)
-        → Advances w (moved_at proto w (place.Replica r) (message m) (core_at w.cast (place.Replica r))) (stage_call k proto spell_content was r (took m) (slice_get w.cast.replicas r))
-    replica_takes r m is at =
-        let there = get_there w.cast.replicas r (subst (λ (n : ℕ). r < n) (sym is.replicas) at) in
-        subst (λ (o : Option (Rep P)). Advances w (moved_at proto w (place.Replica r) (message m) (option_map replica o)) (stage_call k proto spell_content was r (took m) o)) (sym there.1)
-        (record { setup = refl; events = refl; stands = stands_replica w.cast (place.Replica r) (rep_after k proto r there.0 (took m)) is; shows = refl })
+        → Advances w (moved_at proto w (place.Replica r) (message m) (core_at w.cast (place.Replica r))) (stage_call k proto spell_content was r (took m) (slice_get (reps_of w.cast.replicas) r))
+    replica_takes r m is at = own_replica r (message m) (took m) (λ site. replica_at r m site is) is at
+
+    replica_rings : (r : ℕ) → Stands w.cast → IsAt w.cast.setup (place.Replica r)
+        → Advances w (moved_at proto w (place.Replica r) time (core_at w.cast (place.Replica r))) (stage_call k proto spell_content was r timed (slice_get (reps_of w.cast.replicas) r))
+    replica_rings r is at = own_replica r time timed (λ site. replica_rings_at r site is) is at
 
     client_at : (c : ℕ) (t : Taken) (seat : Seat) → Stands w.cast → slice_get w.cast.clients c ≡ Some seat
         → Advances w (moved_at proto w (place.Client c) t (Some (client seat))) (stage_cue k proto spell_content was c (cue_of t) (Some seat.cli))
@@ -112,6 +142,13 @@ module _ {P : Type 0} (proto : Proto P) where
       events = refl;
       stands = stands_client w.cast (place.Client c) _ is;
       shows = ap (λ (z : List Cli). record (stage_cue k proto spell_content was c (cue_of (message m)) (Some seat.cli)) { clients = z }) (clis_of-set w.cast.clients c _);
+    }
+
+    client_at c time seat is there = record {
+      setup = refl;
+      events = refl;
+      stands = stands_client w.cast (place.Client c) _ is;
+      shows = ap (λ (z : List Cli). record (stage_cue k proto spell_content was c (cue_of time) (Some seat.cli)) { clients = z }) (clis_of-set w.cast.clients c _);
     }
 
     client_takes : (c : ℕ) (t : Taken) → Stands w.cast → IsAt w.cast.setup (place.Client c)
@@ -159,6 +196,10 @@ module _ {P : Type 0} (proto : Proto P) where
     advances_at (place.Client c) (hand bytes) is at takes = hears_client c (opening_at w.cast.setup (Client c) bytes) is at
     advances_at (place.ReplicaTwin r i) (hand bytes) is at takes = hears_replica_twin r i (opening_at w.cast.setup (Replica r) bytes) is at
     advances_at (place.ClientTwin c i) (hand bytes) is at takes = hears_client_twin c i (opening_at w.cast.setup (Client c) bytes) is at
+    advances_at (place.Replica r) ring is at takes = replica_rings r is at
+    advances_at (place.Client c) ring is at takes = client_takes c time is at
+    advances_at (place.ReplicaTwin r i) ring is at takes = replica_twin_takes r i time is at
+    advances_at (place.ClientTwin c i) ring is at takes = client_twin_takes c i time is at
 
   pub advances : (w : World P) (x : Stage P) (h : Happening) → Stands w.cast → Happens w h
       → Advances w (after proto w h) (stage_after (run_setup w.cast.setup) proto spell_content (opener w.cast.setup) (shown_on w x) (input_of h))

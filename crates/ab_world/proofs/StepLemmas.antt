@@ -9,7 +9,7 @@ use Rattle.ab_text.specs.declared.event.Event.TheVariants.{Invoke}
 use Rattle.ab_keys.specs.Keys.{is_party}
 use Rattle.ab_abs.specs.Ensembles.{Proto}
 use Rattle.ab_post.specs.Packets.{Packet, nth, total, most_bytes}
-use Rattle.ab_cast.specs.declared.effects.Effects.{Effects}
+use Rattle.ab_replica.specs.declared.effects.Effects.{Effects}
 use Rattle.ab_cast.specs.declared.place.Place.{Place}
 use Rattle.ab_cast.specs.Setups.{Setup, party_at, place_of, numbered_place}
 use Rattle.ab_run.specs.Replicas.{Rep}

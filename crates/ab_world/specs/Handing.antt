@@ -1,14 +1,13 @@
 -- What comes of bytes that are handed to a core.
 use Rattle.std.specs.Prelude.{◌≡◌, ℕ, Bool, All, Option, Some, List, Ok, Err}
-use Rattle.std.specs.Option.{option_to_list}
 use Rattle.ab_hist.specs.declared.request.Request.{Request}
 use Rattle.ab_msg.specs.Claims.{claims}
-use Rattle.ab_msg.specs.Grammar.{spell_content}
+use Rattle.ab_msg.specs.Contents.{spell_content}
 use Rattle.ab_num.specs.declared.party.Party.{Party}
 use Rattle.ab_text.specs.declared.line.Cause.{Cause}
 use Rattle.ab_msg.specs.declared.message.Msg.{Msg}
 use Rattle.ab_msg.specs.declared.message.Out.{Out}
-use Rattle.ab_seal.specs.declared.fault.OpenFault.{OpenFault}
+use Rattle.ab_open.specs.declared.fault.OpenFault.{OpenFault}
 use Rattle.ab_abs.specs.declared.seen.Seen.{Seen}
 use Rattle.ab_abs.specs.Ensembles.{Proto}
 use Rattle.ab_run.specs.Stages.{forged_in}
@@ -20,7 +19,7 @@ use Rattle.ab_world.specs.declared.handing.Handed.{Handed}
 use Rattle.ab_world.specs.declared.handing.Handed.TheVariants.{Missed, Heard}
 use Rattle.ab_world.specs.Lines.{cause_of}
 use Rattle.ab_world.specs.Worlds.{World, opening_at}
-use Rattle.ab_world.specs.Steps.{settled, missed, taken_requests}
+use Rattle.ab_world.specs.Steps.{settled, missed, taken_histories, taken_requests}
 
 -- the bytes do not open, for this cause, and no core changes
 pub record IsMissed {P : Type 0} (bytes : List ℕ) (at : Place) (old new : Cast P) (cause : Cause) : Type 0 where
@@ -30,26 +29,27 @@ pub record IsMissed {P : Type 0} (bytes : List ℕ) (at : Place) (old new : Cast
   pub next : new ≡ next old
 
 -- the bytes open as a message, and the core takes it
-pub record IsHeard {P : Type 0} (proto : Proto P) (made : List (List ℕ)) (bytes : List ℕ) (at : Place) (old new : Cast P) (found : Option Party) (asked : List Request) (outs : List Out) (marks : List Seen) (spent : Bool) : Type 0 where
+pub record IsHeard {P : Type 0} (proto : Proto P) (made : List (List ℕ)) (bytes : List ℕ) (at : Place) (old new : Cast P) (found : Option Party) (told : List (List Request)) (asked : List Request) (outs : List Out) (marks : List Seen) (spent : Bool) : Type 0 where
   pub msg : Msg
   pub core : Core P
   pub opens : opening_at old.setup (party_at at) bytes ≡ Ok msg
   pub there : core_at old at ≡ Some core
   pub forged : found ≡ forged_in (run_setup old.setup) spell_content made (claims old.setup.cluster.f (party_at at) msg)
+  pub histories : told ≡ taken_histories old.setup.cluster.f (party_at at) (message msg)
   pub requests : asked ≡ taken_requests old.setup.cluster.f (party_at at) (message msg)
   pub taken : IsTaken proto old at core (message msg) new outs marks spent
 
 abbrev pub IsHanded : {P : Type 0} → Proto P → List (List ℕ) → List ℕ → Place → Cast P → Cast P → Handed → Type 0
 IsHanded proto made bytes at old new (Missed cause) = IsMissed bytes at old new cause
-IsHanded proto made bytes at old new (Heard found asked effects) =
-    IsHeard proto made bytes at old new found (option_to_list asked) effects.outs effects.marks.items effects.spent
+IsHanded proto made bytes at old new (Heard found carried effects) =
+    IsHeard proto made bytes at old new found carried.histories.items carried.requests.items effects.outs effects.marks.items effects.spent
 
 -- the world where this came of what a core of party p, whose own core stood there before, was given in its present event
 abbrev pub finished : {P : Type 0} → Proto P → World P → Party → ℕ × ℕ → Handed → World P
 finished proto w p before (Missed cause) = missed w p cause
-finished proto w p before (Heard found asked effects) = settled proto w p before found (option_to_list asked) effects.outs effects.marks.items effects.spent
+finished proto w p before (Heard found carried effects) = settled proto w p before found carried.histories.items carried.requests.items effects.outs effects.marks.items effects.spent
 
 -- each message that is sent is so
 abbrev pub EachOut : (Out → Type 0) → Handed → Type 0
 EachOut Is (Missed cause) = Unit {0}
-EachOut Is (Heard found asked effects) = All Is effects.outs
+EachOut Is (Heard found carried effects) = All Is effects.outs

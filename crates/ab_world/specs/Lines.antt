@@ -8,8 +8,8 @@ use Rattle.ab_text.specs.declared.line.Cause.{Cause}
 use Rattle.ab_text.specs.declared.line.Cause.TheVariants as cause
 use Rattle.ab_text.specs.declared.line.Line.{Line}
 use Rattle.ab_text.specs.declared.line.Line.TheVariants as line
-use Rattle.ab_seal.specs.declared.fault.OpenFault.{OpenFault}
-use Rattle.ab_seal.specs.declared.fault.OpenFault.TheVariants as fault
+use Rattle.ab_open.specs.declared.fault.OpenFault.{OpenFault}
+use Rattle.ab_open.specs.declared.fault.OpenFault.TheVariants as fault
 use Rattle.ab_abs.specs.declared.seen.Seen.{Seen}
 use Rattle.ab_run.specs.declared.noted.Noted.{Noted}
 use Rattle.ab_abs.specs.declared.seen.Seen.TheVariants.{Invoked, Init, Cert, Committed}

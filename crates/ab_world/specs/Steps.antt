@@ -1,11 +1,11 @@
 -- What an event does to a world.
-use Rattle.std.specs.Prelude.{◌≡◌, ℕ, ◌<◌, ◌==◌, nat_lt, nat_le, ◌&&◌, if◌then◌else◌, Bool, Option, None, Some, List, [], ◌∷◌, ◌++◌, flat_map, length, map, slice_get, Result, Ok, Err}
+use Rattle.std.specs.Prelude.{◌≡◌, ℕ, ◌<◌, ◌==◌, nat_lt, nat_le, ◌&&◌, if◌then◌else◌, Bool, Option, None, Some, List, [], ◌∷◌, ◌++◌, length, map, slice_get, Result, Ok, Err}
 use Rattle.arrayvec.specs.ArrayVec.{ArrayVec}
 use Rattle.ab_num.specs.declared.party.Party.{Party}
 use Rattle.ab_num.specs.declared.party.Party.TheVariants.{Replica, Client}
 use Rattle.ab_num.specs.Parties.{party_eq}
 use Rattle.ab_hist.specs.declared.request.Request.{Request}
-use Rattle.ab_links.specs.Digested.{Item, history, request}
+use Rattle.ab_links.specs.Digested.{Item, history}
 use Rattle.ab_text.specs.declared.line.Cause.{Cause as TextCause}
 use Rattle.ab_text.specs.declared.event.Core.{Core as CoreName}
 use Rattle.ab_text.specs.declared.event.Event.{Event}
@@ -14,25 +14,24 @@ use Rattle.ab_text.specs.declared.line.Line.{Line}
 use Rattle.ab_text.specs.declared.line.Line.TheVariants.{Refused}
 use Rattle.ab_msg.specs.declared.message.Msg.{Msg}
 use Rattle.ab_msg.specs.declared.message.Out.{Out}
-use Rattle.ab_msg.specs.Claims.{claims}
-use Rattle.ab_msg.specs.Carried.{stated_request, value_requests, values_in}
-use Rattle.ab_msg.specs.Grammar.{spell_content}
-use Rattle.ab_seal.specs.declared.fault.OpenFault.{OpenFault}
+use Rattle.ab_carried.specs.Carried.{carried_histories, carried_requests}
+use Rattle.ab_msg.specs.Contents.{spell_content}
+use Rattle.ab_open.specs.declared.fault.OpenFault.{OpenFault}
 use Rattle.ab_seal.specs.Sealing.{sealed}
 use Rattle.ab_abs.specs.declared.seen.Seen.{Seen}
 use Rattle.ab_abs.specs.Ensembles.{Proto}
-use Rattle.ab_run.specs.Replicas.{Rep}
+use Rattle.ab_replica.specs.Sites.{Site}
 use Rattle.ab_run.specs.Stages.{Forgery, noted, made_after, forged_in, forgery, first_of}
-use Rattle.ab_run.specs.Inputs.{Input, told, came, elsewhere}
+use Rattle.ab_run.specs.Inputs.{Input, told, came, rang, elsewhere}
 use Rattle.ab_post.specs.Packets.{Packet, nth, total, most_bytes}
 use Rattle.ab_cast.specs.declared.fault.CommandFault.{CommandFault}
 use Rattle.ab_cast.specs.declared.fault.CommandFault.TheVariants as command_fault
 use Rattle.ab_cast.specs.declared.place.Place.{Place}
 use Rattle.ab_cast.specs.declared.place.Place.TheVariants as place
 use Rattle.ab_cast.specs.Setups.{Setup, run_setup, is_bad, party_at, place_of, ring_at}
-use Rattle.ab_cast.specs.Cores.{Core, Taken, command, message, taken_claims, core_after, core_sends, core_marks, core_spends}
+use Rattle.ab_cast.specs.Cores.{Core, Taken, command, message, time, taken_claims, core_after, core_sends, core_marks, core_spends}
 use Rattle.ab_cast.specs.Casts.{Cast, core_at, with_core, next, command_refusal}
-use Rattle.ab_premise.specs.Collisions.{looked, first_items}
+use Rattle.ab_premise.specs.Collisions.{looked, checked_items, first_items}
 use Rattle.ab_world.specs.declared.fault.WorldFault.{WorldFault}
 use Rattle.ab_world.specs.declared.fault.WorldFault.TheVariants.{EventLimit, PacketLimit, NotBuilt, NoPacket, BadParty, Busy, OutOfMemory}
 use Rattle.ab_world.specs.Lines.{line_of, spent_lines, cause_of}
@@ -40,10 +39,11 @@ use Rattle.ab_world.specs.Worlds.{World, opening_at}
 
 -- ---- which core takes what
 
--- a command, or bytes
+-- a command, bytes, or the end of its timer
 pub data Given : Type 0 where
   ask : (bytes : ArrayVec ℕ) → Given
   hand : (bytes : List ℕ) → Given
+  ring : Given
 
 -- something is given to the core at a place
 pub record Happening : Type 0 where
@@ -69,6 +69,10 @@ abbrev pub handed : List ℕ → Option Place → Result Happening WorldFault
 handed bytes None = Err BadParty
 handed bytes (Some at) = Ok (record { place = at; given = hand bytes })
 
+abbrev pub rung : Option Place → Result Happening WorldFault
+rung None = Err BadParty
+rung (Some at) = Ok (record { place = at; given = ring })
+
 -- a packet goes to its addressee's first core, or to the core of the addressee that is named
 abbrev pub addressed : Setup → Party → Option CoreName → Option Place
 addressed x to None = place_of x to None
@@ -86,7 +90,7 @@ happening w (Invoke core bytes) =
     then asked w bytes (place_of w.cast.setup core.party core.twin)
     else Err NotBuilt
 happening w (Deliver packet core) = delivered w.cast.setup (nth w.packets packet) core
-happening w (Timeout core) = Err NotBuilt
+happening w (Timeout core) = rung (place_of w.cast.setup core.party core.twin)
 happening w (Inject core bytes) = handed bytes (place_of w.cast.setup core.party core.twin)
 
 -- the same within the limit of events, where the world has not ended
@@ -107,6 +111,7 @@ messages (Err fault) = Err fault
 abbrev pub taken_from : Setup → Party → Given → Result Taken OpenFault
 taken_from x p (ask bytes) = Ok (command bytes)
 taken_from x p (hand bytes) = messages (opening_at x p bytes)
+taken_from x p ring = Ok time
 
 -- what a party sends, with its tags
 abbrev pub posted : Setup → Party → List Out → List Packet
@@ -121,38 +126,45 @@ abbrev pub forged_now : Setup → Party → ℕ → Option Forgery → Option Pa
 forged_now x p e before found = if is_bad x p then before else first_of before (forgery e found)
 
 -- the instance of a party's own core and the length of its log, where the party is a replica
-abbrev pub standing_of : {P : Type 0} → Proto P → Option (Rep P) → ℕ × ℕ
+abbrev pub standing_of : {P : Type 0} → Proto P → Option (Site P) → ℕ × ℕ
 standing_of proto None = (0, 0)
-standing_of proto (Some s) = (s.at, length (proto.state s.value).log)
+standing_of proto (Some s) = (s.rep.at, length (proto.state s.rep.value).log)
 
 abbrev pub standing : {P : Type 0} → Proto P → Cast P → Party → ℕ × ℕ
 standing proto x (Replica r) = standing_of proto (slice_get x.replicas r)
 standing proto x (Client c) = (0, 0)
 
 -- what is looked at of a replica that stood there before: its log, of which the entries behind those of before are new in the same
--- instance, and the history that it accepted first
-abbrev pub replica_items : {P : Type 0} → Proto P → ℕ × ℕ → Option (Rep P) → List Item
+-- instance, the history with which it entered another one, and the history that it accepted first
+abbrev pub replica_items : {P : Type 0} → Proto P → ℕ × ℕ → Option (Site P) → List Item
 replica_items proto before None = []
 replica_items proto before (Some s) =
-    history (proto.state s.value).log (if before.0 == s.at then before.1 else 0) ∷ first_items (proto.state s.value).first
+    history (proto.state s.rep.value).log (if before.0 == s.rep.at then before.1 else 0)
+    ∷ ((if before.0 == s.rep.at then [] else history s.rep.entry.base 0 ∷ []) ++ first_items (proto.state s.rep.value).first)
 
--- the requests that are taken, and then the replica
+-- the histories and requests that are checked in what comes, and then the replica
 abbrev pub own_items : {P : Type 0} → Proto P → Cast P → Party → ℕ × ℕ → List Item
 own_items proto x (Replica r) before = replica_items proto before (slice_get x.replicas r)
 own_items proto x (Client c) before = []
 
-abbrev pub items_now : {P : Type 0} → Proto P → Cast P → Party → ℕ × ℕ → List Request → List Item
-items_now proto x p before asked = map request asked ++ own_items proto x p before
+abbrev pub items_now : {P : Type 0} → Proto P → Cast P → Party → ℕ × ℕ → List (List Request) → List Request → List Item
+items_now proto x p before told asked = checked_items told asked ++ own_items proto x p before
 
--- the requests that party p checks in what comes
+-- the histories and requests that party p checks in what comes
+abbrev pub taken_histories : ℕ → Party → Taken → List (List Request)
+taken_histories f p (command bytes) = []
+taken_histories f p (message m) = carried_histories f p m
+taken_histories f p time = []
+
 abbrev pub taken_requests : ℕ → Party → Taken → List Request
 taken_requests f p (command bytes) = []
-taken_requests f p (message m) = flat_map stated_request (claims f p m) ++ flat_map value_requests (values_in m)
+taken_requests f p (message m) = carried_requests f p m
+taken_requests f p time = []
 
--- the world where in its present event a core of party p, whose own core stood there before, has taken such a claim and these requests,
--- sends this, shows this, and was spent or not
-abbrev pub settled : {P : Type 0} → Proto P → World P → Party → ℕ × ℕ → Option Party → List Request → List Out → List Seen → Bool → World P
-settled proto w p before found asked outs marks spent =
+-- the world where in its present event a core of party p, whose own core stood there before, has taken such a claim and these histories
+-- and requests, sends this, shows this, and was spent or not
+abbrev pub settled : {P : Type 0} → Proto P → World P → Party → ℕ × ℕ → Option Party → List (List Request) → List Request → List Out → List Seen → Bool → World P
+settled proto w p before found told asked outs marks spent =
     let x = w.cast.setup in
     let e = w.cast.events in
     record w {
@@ -161,7 +173,7 @@ settled proto w p before found asked outs marks spent =
       seen = noted (run_setup x) p e w.seen marks;
       lines = written x p w.lines (spent_lines e p spent ++ map (line_of e) marks);
       forged = forged_now x p e w.forged found;
-      watch = if is_bad x p then w.watch else looked w.watch e p (items_now proto w.cast p before asked);
+      watch = if is_bad x p then w.watch else looked w.watch e p (items_now proto w.cast p before told asked);
     }
 
 -- the world where in its present event bytes came to party p that did not open
@@ -174,7 +186,7 @@ module _ {P : Type 0} (proto : Proto P) where
   moved w at p t s =
       let x = w.cast.setup in
       settled proto (record w { cast = next (with_core w.cast at (core_after x proto p s t)) }) p
-      (standing proto w.cast p) (forged_in (run_setup x) spell_content w.made (taken_claims x.cluster.f p t)) (taken_requests x.cluster.f p t)
+      (standing proto w.cast p) (forged_in (run_setup x) spell_content w.made (taken_claims x.cluster.f p t)) (taken_histories x.cluster.f p t) (taken_requests x.cluster.f p t)
       (core_sends x proto p s t) (core_marks x proto p s t) (core_spends x proto p s t)
 
   abbrev pub moved_at : World P → Place → Taken → Option (Core P) → World P
@@ -262,6 +274,10 @@ input_at (place.Replica r) (hand bytes) = came (party_at (place.Replica r)) byte
 input_at (place.Client c) (hand bytes) = came (party_at (place.Client c)) bytes
 input_at (place.ReplicaTwin r at) (hand bytes) = elsewhere
 input_at (place.ClientTwin c at) (hand bytes) = elsewhere
+input_at (place.Replica r) ring = rang (party_at (place.Replica r))
+input_at (place.Client c) ring = rang (party_at (place.Client c))
+input_at (place.ReplicaTwin r at) ring = elsewhere
+input_at (place.ClientTwin c at) ring = elsewhere
 
 abbrev pub input_of : Happening → Input
 input_of h = input_at h.place h.given

@@ -1,29 +1,29 @@
-//! Bytes that come to a core.
+//! What comes to a core.
 
 ghost use Rattle.std.specs.Prelude.{◌≡◌, ◌<◌, ℕ, All, IfOk, OnErr, Option, Some};
-ghost use Rattle.ab_client.specs.Drafts.{IsDraftOf};
+ghost use Rattle.ab_run.specs.Forms.{IsDraftOf};
 ghost use Rattle.ab_cast.specs.Setups.{party_at, place_of};
 ghost use Rattle.ab_world.specs.Handing.{IsHanded, EachOut};
 
-use crate::looking::asked;
 use crate::opening::{cause_of, forged_in, open_at};
 use ab_abs::Protocol;
-use ab_cast::{Cast, Effects, Place, places_have_cores};
-use ab_hist::Request;
+use ab_carried::{Carried, carried};
+use ab_cast::{Cast, Place, places_have_cores};
 use ab_num::{OutOfMemory, Party};
 use ab_post::Statements;
+use ab_replica::Effects;
 use ab_svc::Service;
 use ab_text::Cause;
 use std::alloc::Global;
 
-/// What comes of bytes that are handed to a core.
+/// What comes of something that is given to a core.
 #[derive(Drop)]
 pub(crate) enum Handed {
-    /// They don't open.
+    /// Bytes that don't open.
     Missed(Cause),
-    /// They open, with the maker of the first claim that its maker, a correct party, didn't make
-    /// before, and the request that is checked in them, and the core takes the message.
-    Heard(Option<Party>, Option<Request>, Effects),
+    /// The core takes it, with the maker of the first claim that its maker, a correct party, didn't
+    /// make before, and the histories and requests that are checked in it.
+    Heard(Option<Party>, Carried, Effects),
 }
 
 /// Hands bytes to the core at a place of the cluster. Each message is opened once, and its parts stay
@@ -41,7 +41,7 @@ pub(crate) fn hand<S: Service, P: Protocol<S>>(
     ensures drafts { IfOk result (EachOut (IsDraftOf cast.old.setup.cluster.f (party_at place))) }
     ensures err { OnErr result (cast.new ≡ cast.old) }
 {
-    let checked = match open_at(cast.setup(), place.party(), bytes) {
+    let checked = match open_at(alloc, cast.setup(), place.party(), bytes) {
         Ok(checked) => checked,
         Err(fault) => {
             cast.pass();
@@ -49,8 +49,8 @@ pub(crate) fn hand<S: Service, P: Protocol<S>>(
         }
     };
     let found = forged_in(cast.setup(), made, &checked);
-    let request = asked(checked.msg());
+    let carried = carried(alloc, cast.setup().cluster(), &checked)?;
     places_have_cores(cast);
     let effects = cast.hear(alloc, place, checked.msg())?;
-    Ok(Handed::Heard(found, request, effects))
+    Ok(Handed::Heard(found, carried, effects))
 }

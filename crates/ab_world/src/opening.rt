@@ -1,7 +1,8 @@
 //! What is looked at as bytes come to a party.
 
 ghost use Rattle.std.specs.Prelude.{◌≡◌, ℕ, Ok, Err, MatchResult, IfOk, IsTrue};
-ghost use Rattle.ab_msg.specs.Grammar.{IsMessage, spell_content};
+ghost use Rattle.ab_msg.specs.Messages.{IsMessage};
+ghost use Rattle.ab_msg.specs.Contents.{spell_content};
 ghost use Rattle.ab_msg.specs.Claims.{claims};
 ghost use Rattle.ab_run.specs.Stages.{forged_in};
 ghost use Rattle.ab_cast.specs.Setups.{run_setup};
@@ -11,32 +12,34 @@ ghost use Rattle.ab_keys.specs.Keys.{is_party};
 
 use ab_cast::Setup;
 use ab_num::Party;
+use ab_open::{Checked, OpenFault, open};
 use ab_post::Statements;
-use ab_seal::{Checked, OpenFault, open};
 use ab_text::Cause;
+use std::alloc::Global;
 
 /// Opens bytes that came to a party of the cluster.
 pub(crate) fn open_at<'a>(
+    alloc: Global,
     setup: &Setup,
     party: Party,
     bytes: &'a [u8],
 ) -> Result<Checked<'a>, OpenFault>
     requires { IsTrue (is_party setup.now.cluster.f setup.now.cluster.clients party) }
     ensures opening { MatchResult result (λ c. opening_at setup.now party bytes.now ≡ Ok c.msg) (λ e. opening_at setup.now party bytes.now ≡ Err e) }
-    ensures grammar { IfOk result (λ c. IsMessage c.msg) }
     ensures me { IfOk result (λ c. c.me ≡ party) }
 {
-    open(setup.ring(party), bytes)
+    let mut verifier = setup.verifier(party);
+    open(alloc, setup.cluster(), party, &mut verifier, bytes)
 }
 
 /// The maker of the first claim of an opened message that names a correct party which didn't make it
 /// before.
 pub(crate) fn forged_in(setup: &Setup, made: &Statements, checked: &Checked<'_>) -> Option<Party>
-    requires { IsMessage checked.now.msg }
+    requires { IsTrue (is_party setup.now.cluster.f setup.now.cluster.clients checked.now.me) }
     ensures { result ≡ forged_in (run_setup setup.now) spell_content made.now (claims setup.now.cluster.f checked.now.me checked.now.msg) }
 {
-    for (maker, bytes) in checked.stated() {
-        if !setup.is_faulty(maker) && !made.contains(bytes) {
+    for (maker, bytes) in checked.stated(setup.cluster()) {
+        if !setup.is_faulty(maker) && !made.contains(bytes.as_slice()) {
             return Some(maker);
         }
     }

@@ -1,22 +1,22 @@
 //! What a party sends, as packets and as statements.
 
-ghost use Rattle.std.specs.Prelude.{◌≡◌, ◌++◌, ◌∷◌, [], All, IfOk, OnOk, map, IsTrue};
+ghost use Rattle.std.specs.Prelude.{◌≡◌, ◌++◌, All, IfOk, OnOk, map, IsTrue};
 ghost use Rattle.std.specs.List.{fold};
 ghost use Rattle.ab_keys.specs.Keys.{is_party};
-ghost use Rattle.std.specs.Prelude.{ℕ};
-ghost use Rattle.ab_num.specs.declared.party.Party.{Party as TheParty};
 ghost use Rattle.ab_msg.specs.Claims.{fresh};
-ghost use Rattle.ab_msg.specs.Grammar.{IsContent, IsDraft, spell_content};
-ghost use Rattle.ab_client.specs.Drafts.{IsDraftOf};
+ghost use Rattle.ab_msg.specs.Contents.{spell_content};
+ghost use Rattle.ab_msg.specs.Messages.{IsDraft};
+ghost use Rattle.ab_run.specs.Forms.{IsDraftOf};
 ghost use Rattle.ab_run.specs.Stages.{keep, made_after};
 ghost use Rattle.ab_cast.specs.Setups.{run_setup};
 ghost use Rattle.ab_world.specs.Steps.{posted};
 
 use ab_cast::Setup;
-use ab_msg::{Content, Msg, Out, content_bytes};
+use ab_msg::{Msg, Out};
 use ab_num::{OutOfMemory, Party};
 use ab_post::{Packet, Statements};
 use ab_seal::seal;
+use ab_stated::stated;
 use std::alloc::Global;
 
 /// What a party of the cluster sends, sealed with its keys.
@@ -38,20 +38,26 @@ pub(crate) fn post(
     Ok(packets)
 }
 
-/// The content that a draft states.
-fn content_of(m: &Msg) -> &Content
-    requires { IsDraft m.now }
-    ensures stated { (f : ℕ) (p : TheParty) → fresh f p m.now ≡ result.now ∷ [] }
-    ensures content { IsContent result.now }
+/// Keeps what a party states in a message.
+fn state_message(
+    alloc: Global,
+    setup: &Setup,
+    party: Party,
+    made: &mut Statements,
+    m: &Msg,
+) -> Result<(), OutOfMemory>
+    requires party { IsTrue (is_party setup.now.cluster.f setup.now.cluster.clients party) }
+    requires draft { IsDraft m.now }
+    ensures { OnOk result (made.new ≡ fold keep made.old (map spell_content (fresh setup.now.cluster.f party m.now))) }
 {
-    match m {
-        Msg::Req { content, .. } => content,
-        Msg::Resp { content, .. } => content,
-        _ => unreachable!(),
+    let texts = stated(alloc, setup.cluster(), party, m)?;
+    'texts: for text in texts.into_vec() {
+        made.add(alloc, text)?;
     }
+    Ok(())
 }
 
-/// Keeps what a party states in what it sends, if it is correct.
+/// Keeps what a party of the cluster states in what it sends, if it is correct.
 pub(crate) fn state(
     alloc: Global,
     setup: &Setup,
@@ -59,6 +65,7 @@ pub(crate) fn state(
     made: &mut Statements,
     outs: &[Out],
 ) -> Result<(), OutOfMemory>
+    requires party { IsTrue (is_party setup.now.cluster.f setup.now.cluster.clients party) }
     requires drafts { All (IsDraftOf setup.now.cluster.f party) outs.now }
     ensures { OnOk result (made.new ≡ made_after (run_setup setup.now) spell_content party made.old outs.now) }
 {
@@ -66,7 +73,7 @@ pub(crate) fn state(
         return Ok(());
     }
     for out in outs {
-        made.add(alloc, content_bytes(alloc, content_of(&out.msg))?)?;
+        state_message(alloc, setup, party, made, &out.msg)?;
     }
     Ok(())
 }

@@ -1,15 +1,15 @@
 //! The cluster as a whole.
 
 ghost use Rattle.std.specs.Prelude.{◌≡◌, ◌⊎◌, ◌+◌, ◌<◌, ◌≤◌, ℕ, All, length, IsTrue, OnOk, OnErr, IfErr, IfOk, IfSome, MatchOption, Ok, Some, None, Option, is_some, slice_get};
-ghost use Rattle.std.specs.Option.{option_map, option_to_list};
-ghost use Rattle.ab_num.specs.Places.{kind_of};
+ghost use Rattle.std.specs.Option.{option_map};
+ghost use Rattle.ab_abs.specs.Promises.{ServesAll};
 ghost use Rattle.ab_keys.specs.Keys.{is_party};
-ghost use Rattle.ab_client.specs.Drafts.{IsDraftOf};
+ghost use Rattle.ab_run.specs.Forms.{IsDraftOf};
 ghost use Rattle.ab_post.specs.Packets.{total, most_bytes};
 ghost use Rattle.ab_cast.specs.Setups.{place_of, party_at};
 ghost use Rattle.ab_cast.specs.Casts.{is_free};
 ghost use Rattle.ab_world.specs.Worlds.{premise_of, start};
-ghost use Rattle.ab_world.specs.Steps.{addressed, handed, settled, missed, stepped, stepped_by, happening, Cause, CauseIn, HasEnded, Leaves, SettleCause};
+ghost use Rattle.ab_world.specs.Steps.{addressed, handed, settled, missed, stepped, stepped_by, happening, rung, Cause, CauseIn, HasEnded, Leaves, SettleCause};
 ghost use Rattle.ab_world.specs.Handing.{finished, EachOut};
 
 use crate::fault::WorldFault;
@@ -18,11 +18,13 @@ use crate::looking::{look, standing};
 use crate::posting::{post, state};
 use crate::recording::{add_lines, add_seen, lines_of};
 use ab_abs::{Marks, Protocol};
-use ab_cast::{Cast, CommandFault, Effects, Place, Setup, places_have_cores};
-use ab_hist::{History, Request};
+use ab_carried::Carried;
+use ab_cast::{Cast, CommandFault, Place, Setup, places_have_cores};
+use ab_hist::History;
 use ab_links::Digests;
 use ab_num::{OutOfMemory, Party};
 use ab_post::{Packets, Statements};
+use ab_replica::Effects;
 use ab_premise::{Collision, Forgery, first_collision, first_forgery, premise};
 use ab_run::Noted;
 use ab_svc::Service;
@@ -88,10 +90,9 @@ fn addressed(setup: &Setup, to: Party, core: Option<Core>) -> Option<Place>
 }
 
 impl<S: Service, P: Protocol<S>> World<S, P> {
-    /// A cluster before the first event, where P serves the kind that the cluster's plan gives to
-    /// instance 1.
+    /// A cluster before the first event, where P serves each kind of the cluster's plan.
     pub fn new(alloc: Global, setup: Setup) -> Result<Self, OutOfMemory>
-        requires { IsTrue (P.serves (kind_of setup.cluster.plan 1)) }
+        requires { ServesAll P.serves setup.cluster }
         ensures { IfOk result (λ w. w ≡ start P.proto setup) }
     {
         let mut digests = Digests::new(alloc);
@@ -174,7 +175,7 @@ impl<S: Service, P: Protocol<S>> World<S, P> {
 
     /// The log that the first core of replica `r` has. None exactly where there is no such replica.
     pub fn log_of(&self, r: u8) -> Option<&History>
-        ensures { option_map (λ log. log.now) result ≡ option_map (λ s. (P.proto.state s.value).log) (slice_get self.now.cast.replicas r) }
+        ensures { option_map (λ log. log.now) result ≡ option_map (λ s. (P.proto.state s.rep.value).log) (slice_get self.now.cast.replicas r) }
     {
         self.cast.log_of(r)
     }
@@ -182,7 +183,7 @@ impl<S: Service, P: Protocol<S>> World<S, P> {
     /// The instance in which the first core of replica `r` is. None exactly where there is no such
     /// replica.
     pub fn instance_of(&self, r: u8) -> Option<u32>
-        ensures { result ≡ option_map (λ s. s.at) (slice_get self.now.cast.replicas r) }
+        ensures { result ≡ option_map (λ s. s.rep.at) (slice_get self.now.cast.replicas r) }
     {
         self.cast.instance_of(r)
     }
@@ -197,21 +198,21 @@ impl<S: Service, P: Protocol<S>> World<S, P> {
     }
 
     /// Adds what a party of the cluster sends and shows in the present event, the name in which
-    /// something forged was taken and the request that was checked in it. The party's own core stood
-    /// there before. After an `Err` all that is shown is as before.
+    /// something forged was taken and what was checked in it. The party's own core stood there before.
+    /// After an `Err` all that is shown is as before.
     fn add(
         &mut self,
         alloc: Global,
         party: Party,
         before: (u32, usize),
         found: Option<Party>,
-        asked: &Option<Request>,
+        carried: &Carried,
         effects: Effects,
     ) -> Result<(), WorldFault>
         requires party { IsTrue (is_party self.old.cast.setup.cluster.f self.old.cast.setup.cluster.clients party) }
         requires drafts { All (IsDraftOf self.old.cast.setup.cluster.f party) effects.outs }
-        ensures ok { OnOk result ((self.new ≡ settled P.proto self.old party before found (option_to_list asked.now) effects.outs effects.marks.items effects.spent) × (total self.new.packets ≤ most_bytes)) }
-        ensures cause { IfErr result (λ f. SettleCause f (settled P.proto self.old party before found (option_to_list asked.now) effects.outs effects.marks.items effects.spent)) }
+        ensures ok { OnOk result ((self.new ≡ settled P.proto self.old party before found carried.now.histories.items carried.now.requests.items effects.outs effects.marks.items effects.spent) × (total self.new.packets ≤ most_bytes)) }
+        ensures cause { IfErr result (λ f. SettleCause f (settled P.proto self.old party before found carried.now.histories.items carried.now.requests.items effects.outs effects.marks.items effects.spent)) }
         ensures err { OnErr result (self.new ≡ record self.old { made = self.new.made; watch = record { kept = self.new.watch.kept; collided = self.old.watch.collided } }) }
     {
         let event = self.cast.events();
@@ -225,7 +226,7 @@ impl<S: Service, P: Protocol<S>> World<S, P> {
         self.lines.reserve(lines.len())?;
         self.seen.reserve(effects.marks.len())?;
         state(alloc, setup, party, &mut self.made, effects.outs.as_slice())?;
-        let collides = look(&self.cast, &mut self.digests, party, before, asked)?;
+        let collides = look(&self.cast, &mut self.digests, party, before, carried)?;
         self.packets.send(alloc, packets)?;
         add_lines(&mut self.lines, lines);
         add_seen(&mut self.seen, event, effects.marks);
@@ -270,8 +271,8 @@ impl<S: Service, P: Protocol<S>> World<S, P> {
     {
         let finished = match handed {
             Handed::Missed(cause) => self.refuse(party, cause),
-            Handed::Heard(found, asked, effects) => {
-                self.add(alloc, party, before, found, &asked, effects)
+            Handed::Heard(found, carried, effects) => {
+                self.add(alloc, party, before, found, &carried, effects)
             }
         };
         match finished {
@@ -307,7 +308,7 @@ impl<S: Service, P: Protocol<S>> World<S, P> {
                     alloc,
                     place.party(),
                     before,
-                    Handed::Heard(None, None, effects),
+                    Handed::Heard(None, Carried::none(alloc), effects),
                 )
             }
             Err(CommandFault::NoClient) => Err(WorldFault::BadParty),
@@ -353,6 +354,27 @@ impl<S: Service, P: Protocol<S>> World<S, P> {
         }
     }
 
+    /// The timer of a core runs out.
+    fn ring(&mut self, alloc: Global, core: Core) -> Result<(), WorldFault>
+        requires few { self.old.cast.events < 100000 }
+        ensures ok { OnOk result (stepped_by P.proto self.old (rung (place_of self.old.cast.setup core.party core.twin)) ≡ Ok self.new) }
+        ensures cause { IfErr result (λ f. CauseIn P.proto f self.old (rung (place_of self.old.cast.setup core.party core.twin))) }
+        ensures err { IfErr result (λ f. Leaves f self.old self.new) }
+    {
+        let Some(place) = self.cast.setup().place(core.party, core.twin) else {
+            return Err(WorldFault::BadParty);
+        };
+        places_have_cores(&self.cast);
+        let before = standing(&self.cast, place.party());
+        match self.cast.ring(alloc, place) {
+            Ok(effects) => {
+                let handed = Handed::Heard(None, Carried::none(alloc), effects);
+                self.finish(alloc, place.party(), before, handed)
+            }
+            Err(_) => Err(self.end(WorldFault::OutOfMemory)),
+        }
+    }
+
     /// One event. A refused event changes nothing, but for the limits and want of memory: after
     /// these the world has ended, and each further step answers the same.
     pub fn step(&mut self, alloc: Global, e: &Event) -> Result<(), WorldFault>
@@ -370,7 +392,7 @@ impl<S: Service, P: Protocol<S>> World<S, P> {
             Event::Invoke { core, command } => self.invoke(alloc, *core, command),
             Event::Deliver { packet, core } => self.deliver(alloc, *packet, *core),
             Event::Inject { core, bytes } => self.inject(alloc, *core, bytes.as_slice()),
-            Event::Timeout { core: _ } => Err(WorldFault::NotBuilt),
+            Event::Timeout { core } => self.ring(alloc, *core),
         }
     }
 }

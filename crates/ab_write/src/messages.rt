@@ -1,10 +1,10 @@
 //! Messages.
 
 ghost use Rattle.std.specs.Prelude.{◌≡◌, ◌++◌, ◌≤◌, OnOk, All, length};
-ghost use Rattle.ab_form.specs.Formats.{u8_bytes, spell_each};
-ghost use Rattle.ab_form.specs.Lists.{u8_list};
+ghost use Rattle.ab_form.specs.Formats.{u8_bytes, u16_bytes, u32_bytes, spell_each};
+ghost use Rattle.ab_form.specs.Lists.{spell_optional, u8_list};
 ghost use Rattle.ab_msg.specs.Certs.{spell_aborts, spell_signed};
-ghost use Rattle.ab_msg.specs.Fields.{spell_tags};
+ghost use Rattle.ab_msg.specs.Fields.{spell_reply, spell_request, spell_tags};
 ghost use Rattle.ab_msg.specs.Certs.{spell_proof};
 ghost use Rattle.ab_msg.specs.Messages.{IsMessage, spell_message, spell_offer};
 ghost use Rattle.ab_write.specs.Writable.{AreSigned, IsSignable, IsProofFit};
@@ -13,7 +13,10 @@ use crate::contents::put_content;
 use crate::parts::{put_history, put_optional, put_party, put_sig};
 use crate::spelled::{Spelled, put_each};
 use ab_form::{put_bytes, put_u8, put_u16, put_u32};
-use ab_msg::{AbortCert, Msg, Offer, Proof, Sig, Signed, SlotPrepares, TagBetween, Tags, Value};
+use ab_hist::{Reply, Request};
+use ab_msg::{
+    AbortCert, Msg, Offer, Proof, Proofs, Sig, Signed, SlotPrepares, TagBetween, Tags, Value,
+};
 use ab_num::OutOfMemory;
 use std::alloc::Global;
 
@@ -118,7 +121,8 @@ fn put_aborts(alloc: Global, out: &mut Vec<u8>, cert: &AbortCert) -> Result<(), 
     Ok(())
 }
 
-fn put_tags(alloc: Global, out: &mut Vec<u8>, tags: &Tags) -> Result<(), OutOfMemory>
+/// Adds tags of one maker for replicas behind their number.
+pub fn put_tags(alloc: Global, out: &mut Vec<u8>, tags: &Tags) -> Result<(), OutOfMemory>
     ensures { OnOk result (out.new.items ≡ out.old.items ++ spell_tags tags.now.items) }
 {
     let count = tags.len() as u8;
@@ -127,7 +131,8 @@ fn put_tags(alloc: Global, out: &mut Vec<u8>, tags: &Tags) -> Result<(), OutOfMe
     Ok(())
 }
 
-fn put_offer(alloc: Global, out: &mut Vec<u8>, offer: &Offer) -> Result<(), OutOfMemory>
+/// Adds what a PRE-PREPARE offers.
+pub fn put_offer(alloc: Global, out: &mut Vec<u8>, offer: &Offer) -> Result<(), OutOfMemory>
     requires { AreSigned offer.now }
     ensures { OnOk result (out.new.items ≡ out.old.items ++ spell_offer offer.now) }
 {
@@ -138,6 +143,38 @@ fn put_offer(alloc: Global, out: &mut Vec<u8>, offer: &Offer) -> Result<(), OutO
             put_bytes(alloc, out, tag)
         }
     }
+}
+
+/// Adds the parts of a CHAIN that stand before its tags.
+pub fn put_link(
+    alloc: Global,
+    out: &mut Vec<u8>,
+    instance: u32,
+    request: &Request,
+    n: u16,
+    d: &[u8; 32],
+    reply: &Option<Reply>,
+) -> Result<(), OutOfMemory>
+    ensures { OnOk result (out.new.items ≡ out.old.items ++ (u32_bytes instance ++ (spell_request request.now ++ (u16_bytes n ++ (d.now ++ spell_optional spell_reply reply.now))))) }
+{
+    put_u32(alloc, out, instance)?;
+    request.put(alloc, out)?;
+    put_u16(alloc, out, n)?;
+    put_bytes(alloc, out, d)?;
+    put_optional(alloc, out, reply)
+}
+
+/// Adds view changes behind their number.
+pub fn put_changes(alloc: Global, out: &mut Vec<u8>, changes: &Proofs) -> Result<(), OutOfMemory>
+    requires few { length changes.now ≤ 255 }
+    requires fits { All IsProofFit changes.now }
+    ensures { OnOk result (out.new.items ≡ out.old.items ++ u8_list spell_proof changes.now) }
+{
+    let changes = changes.as_slice();
+    let count = changes.len() as u8;
+    put_u8(alloc, out, count)?;
+    put_each(alloc, out, changes)?;
+    Ok(())
 }
 
 /// Adds the bytes of a message.
@@ -175,11 +212,7 @@ pub fn put_message(alloc: Global, out: &mut Vec<u8>, m: &Msg) -> Result<(), OutO
             tags,
         } => {
             put_u8(alloc, out, 4)?;
-            put_u32(alloc, out, *instance)?;
-            request.put(alloc, out)?;
-            put_u16(alloc, out, *n)?;
-            put_bytes(alloc, out, d)?;
-            put_optional(alloc, out, reply)?;
+            put_link(alloc, out, *instance, request, *n, d, reply)?;
             let tags = tags.as_slice();
             let count = tags.len() as u8;
             put_u8(alloc, out, count)?;
@@ -229,10 +262,7 @@ pub fn put_message(alloc: Global, out: &mut Vec<u8>, m: &Msg) -> Result<(), OutO
             put_u8(alloc, out, 12)?;
             put_content(alloc, out, content)?;
             put_bytes(alloc, out, tag)?;
-            let changes = changes.as_slice();
-            let count = changes.len() as u8;
-            put_u8(alloc, out, count)?;
-            put_each(alloc, out, changes)?;
+            put_changes(alloc, out, changes)?;
         }
     }
     Ok(())

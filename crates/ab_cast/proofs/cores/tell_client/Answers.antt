@@ -1,6 +1,6 @@
 use Rattle.std.proofs.Common.{◌≡◌, ◌≢◌, ◌+◌, ◌≤◌, All, length, slice_set, arith, refl, sym, ap, ◌∙◌, subst, inl, inr}
 use Rattle.ab_num.specs.declared.party.Party.TheVariants.{Client}
-use Rattle.ab_client.specs.Drafts.{IsDraftOf}
+use Rattle.ab_run.specs.Forms.{IsDraftOf}
 use Rattle.ab_run.specs.declared.phase.Phase.TheVariants.{Idle}
 use Rattle.ab_client.specs.declared.client.InvokeFault.{InvokeFault}
 use Rattle.ab_client.specs.Clients.{Seat, told, after, sends, marks, InvokeCause}

@@ -3,7 +3,7 @@ use Rattle.std.specs.Option.{option_to_list}
 use Rattle.ab_num.specs.declared.party.Party.{Party}
 use Rattle.ab_msg.specs.Views.{message as message_of}
 use Rattle.ab_msg.specs.Claims.{claims}
-use Rattle.ab_msg.specs.Grammar.{spell_content}
+use Rattle.ab_msg.specs.Contents.{spell_content}
 use Rattle.ab_run.specs.Stages.{forged_in}
 use Rattle.ab_cast.specs.Setups.{party_at, run_setup}
 use Rattle.ab_cast.specs.Cores.{message}

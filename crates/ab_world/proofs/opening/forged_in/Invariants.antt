@@ -1,6 +1,6 @@
 use Rattle.std.proofs.Common.{◌≡◌}
 use Rattle.ab_msg.specs.Claims.{claims}
-use Rattle.ab_msg.specs.Grammar.{spell_content}
+use Rattle.ab_msg.specs.Contents.{spell_content}
 use Rattle.ab_run.specs.Stages.{forged_in}
 use Rattle.ab_cast.specs.Setups.{run_setup}
 use Rattle.ab_world.proofs.ClaimLemmas.{forged_of}

@@ -4,9 +4,9 @@ use Rattle.std.specs.List.{list_all}
 use Rattle.ab_num.specs.declared.party.Party.{Party}
 use Rattle.ab_form.specs.Formats.{IsBytes}
 use Rattle.ab_keys.specs.Rings.{Ring}
-use Rattle.ab_msg.specs.Grammar.{IsMessage}
-use Rattle.ab_seal.specs.declared.fault.OpenFault.{OpenFault}
-use Rattle.ab_seal.specs.declared.fault.OpenFault.TheVariants.{NotMine}
+use Rattle.ab_msg.specs.Messages.{IsMessage}
+use Rattle.ab_open.specs.declared.fault.OpenFault.{OpenFault}
+use Rattle.ab_open.specs.declared.fault.OpenFault.TheVariants.{NotMine}
 use Rattle.ab_seal.specs.Opening.{opening, Opened}
 use Rattle.ab_seal.proofs.LawLemmas.{opened_of_grammar}
 use Rattle.ab_cast.specs.Setups.{Setup, ring_at}

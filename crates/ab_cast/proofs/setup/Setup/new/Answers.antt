@@ -14,6 +14,7 @@ invariant_of-result c =
     let client_ring : ℕ → Ring = λ n. ring_of k.f k.clients k.plan (replicate 32 0) (Client n) in
     record {
       parties = subst (All (λ e. IsTrue (is_party k.f k.clients e.0))) (sym c.in_ok-from_slice.ensures.items) c.requires;
+      keys = c.in_ok-derive.ensures;
       of_replicas = λ r less. ap (λ rings. slice_get rings r) c.in_ok-replica_rings.ensures ∙ stands_by_number replica_ring (3 * k.f + 1) r less;
       of_clients = λ n less. ap (λ rings. slice_get rings n) c.in_ok-client_rings.ensures ∙ stands_by_number client_ring k.clients n less;
       twins_of_replicas = c.in_ok-replica_twins.ensures ∙ ap replica_twins (sym c.in_ok-from_slice.ensures.items);

@@ -1,0 +1,120 @@
+//! What a message brings that digests are made of.
+
+ghost use Rattle.std.specs.Prelude.{◌≡◌, ◌++◌, [], map, IfOk, IsTrue, OnOk};
+ghost use Rattle.std.specs.List.{flat_map};
+ghost use Rattle.ab_keys.specs.Keys.{is_party};
+ghost use Rattle.ab_msg.specs.Carried.{stated_history, stated_request, value_histories, value_requests, values_in};
+ghost use Rattle.ab_msg.specs.Certs.{AreSlotValues};
+ghost use Rattle.ab_wire.specs.Views.{IsReceived, message, proofs, values};
+ghost use Rattle.ab_carried.specs.Carried.{carried_histories, carried_requests};
+
+use ab_form::{ListRef, own_list};
+use ab_hist::{History, Request};
+use ab_msg::Content;
+use ab_num::{Cluster, OutOfMemory, Party};
+use ab_open::Checked;
+use ab_wire::{MsgRef, ProofRef, ValuesRef};
+use std::alloc::Global;
+
+/// Histories and requests.
+#[derive(Drop)]
+pub struct Carried {
+    pub histories: Vec<History>,
+    pub requests: Vec<Request>,
+}
+
+impl Carried {
+    /// Nothing.
+    pub fn none(alloc: Global) -> Carried
+        ensures histories { result.histories.items ≡ [] }
+        ensures requests { result.requests.items ≡ [] }
+    {
+        Carried {
+            histories: Vec::new(alloc),
+            requests: Vec::new(alloc),
+        }
+    }
+
+    /// Adds what a content states.
+    fn add_content(&mut self, content: Content) -> Result<(), OutOfMemory>
+        ensures histories { OnOk result (self.new.histories.items ≡ self.old.histories.items ++ stated_history content) }
+        ensures requests { OnOk result (self.new.requests.items ≡ self.old.requests.items ++ stated_request content) }
+    {
+        match content {
+            Content::Abort { history, .. } => self.histories.push(history)?,
+            Content::Req { request, .. } => self.requests.push(request)?,
+            Content::Order { request, .. } => self.requests.push(request)?,
+            _ => {}
+        }
+        Ok(())
+    }
+
+    /// Adds what claims state.
+    fn add_claims(&mut self, claims: Vec<(Party, Content)>) -> Result<(), OutOfMemory>
+        ensures histories { OnOk result (self.new.histories.items ≡ self.old.histories.items ++ flat_map (λ x. stated_history x.1) claims.items) }
+        ensures requests { OnOk result (self.new.requests.items ≡ self.old.requests.items ++ flat_map (λ x. stated_request x.1) claims.items) }
+    {
+        'claims: for claim in claims {
+            self.add_content(claim.1)?;
+        }
+        Ok(())
+    }
+
+    /// Adds the values of a view change.
+    fn add_values(&mut self, alloc: Global, given: ValuesRef<'_>) -> Result<(), OutOfMemory>
+        requires { AreSlotValues (values given) }
+        ensures histories { OnOk result (self.new.histories.items ≡ self.old.histories.items ++ value_histories (values given.entry)) }
+        ensures requests { OnOk result (self.new.requests.items ≡ self.old.requests.items ++ value_requests (values given.entry)) }
+    {
+        match given {
+            ValuesRef::Nothing => Ok(()),
+            ValuesRef::Slots { base, requests } => {
+                self.histories.push(base.own(alloc)?)?;
+                let mut own = own_list(alloc, requests)?;
+                self.requests.append(&mut own)?;
+                Ok(())
+            }
+        }
+    }
+
+    /// Adds the values of view changes.
+    fn add_changes<'a>(
+        &mut self,
+        alloc: Global,
+        changes: ListRef<'a, ProofRef<'a>>,
+    ) -> Result<(), OutOfMemory>
+        ensures histories { OnOk result (self.new.histories.items ≡ self.old.histories.items ++ flat_map value_histories (map (λ v. v.values) (proofs changes.entry))) }
+        ensures requests { OnOk result (self.new.requests.items ≡ self.old.requests.items ++ flat_map value_requests (map (λ v. v.values) (proofs changes.entry))) }
+    {
+        'changes: for change in changes {
+            self.add_values(alloc, change.values)?;
+        }
+        Ok(())
+    }
+
+    /// Adds the values of the view changes in a message.
+    fn add_message(&mut self, alloc: Global, m: MsgRef<'_>) -> Result<(), OutOfMemory>
+        requires { IsReceived m }
+        ensures histories { OnOk result (self.new.histories.items ≡ self.old.histories.items ++ flat_map value_histories (values_in (message m.entry))) }
+        ensures requests { OnOk result (self.new.requests.items ≡ self.old.requests.items ++ flat_map value_requests (values_in (message m.entry))) }
+    {
+        match m {
+            MsgRef::ViewChange { change } => self.add_values(alloc, change.values),
+            MsgRef::NewView { changes, .. } => self.add_changes(alloc, changes),
+            _ => Ok(()),
+        }
+    }
+}
+
+/// The histories and requests that the party which opened a message checks in it, and those among its
+/// values.
+pub fn carried(alloc: Global, k: &Cluster, m: &Checked<'_>) -> Result<Carried, OutOfMemory>
+    requires { IsTrue (is_party k.now.f k.now.clients m.now.me) }
+    ensures histories { IfOk result (λ x. x.histories.items ≡ carried_histories k.now.f m.now.me m.now.msg) }
+    ensures requests { IfOk result (λ x. x.requests.items ≡ carried_requests k.now.f m.now.me m.now.msg) }
+{
+    let mut carried = Carried::none(alloc);
+    carried.add_claims(m.claims(alloc, k)?.into_vec())?;
+    carried.add_message(alloc, m.msg())?;
+    Ok(carried)
+}

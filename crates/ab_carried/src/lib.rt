@@ -1,0 +1,6 @@
+//! The histories and requests that a message brings.
+#![tactic(auto)]
+
+mod carried;
+
+pub use carried::{Carried, carried};

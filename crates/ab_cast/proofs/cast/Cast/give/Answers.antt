@@ -1,0 +1,100 @@
+use Rattle.std.proofs.Common.{◌≡◌, ◌<◌, ◌+◌, arith, refl, sym, ap}
+use Rattle.ab_cast.specs.declared.place.Place.TheVariants as place
+use Rattle.ab_cast.specs.Cores.{client, replica}
+use Rattle.ab_cast.specs.Hearing.{taken_of}
+use Rattle.ab_cast.specs.Casts.{Cast, IsTaken}
+use Rattle.ab_cast.proofs.CastLemmas.{at_core, at_there, replica_core, client_core, replica_stays, replica_taken, replica_twin_stays, replica_twin_taken, twin_of, DoesAt, client_stays, client_taken, client_twin_stays, client_twin_taken, spends_nothing}
+use Rattle.ab_cast.proofs.cast.Cast.give.Goals as goal
+
+pub invariant_of-self-in-Replica : goal.invariant_of-self-in-Replica
+invariant_of-self-in-Replica g c =
+    let proto = g.P.Protocol.proto in
+    let serves = g.P.Protocol.serves in
+    let x : Cast g.row.P.Denot = record { setup = c.self.inside.setup; replicas = c.self.inside.replicas.items; clients = c.self.inside.clients.items; replica_twins = c.self.inside.replica_twins.items; client_twins = c.self.inside.client_twins.items; events = c.self.inside.events } in
+    let few : x.events < 100000 = omega (arith, c.requires.few, ap (λ y. y.events) c.self.view_is) in
+    let there = at_there x c.args.self.now c.self.view_is c.args.place (place.Replica c.in-Replica.r) c.in-Replica.is c.requires.there.0 c.requires.there.1 in
+    replica_stays proto serves x c.self.invariant g.P.Protocol.formed few c.in-Replica.r c.args.given c.requires.given c.hear_replica.new.cores.items c.in_ok-effects-in-Replica.effects.outs c.in_ok-effects-in-Replica.effects.marks.items c.in_ok-effects-in-Replica.effects.spent there c.in_ok-effects-in-Replica.ensures.heard
+
+pub returns-in_ok-effects-in-Replica-clause-taken : goal.returns-in_ok-effects-in-Replica-clause-taken
+returns-in_ok-effects-in-Replica-clause-taken g c =
+    let proto = g.P.Protocol.proto in
+    let serves = g.P.Protocol.serves in
+    let x : Cast g.row.P.Denot = record { setup = c.self.inside.setup; replicas = c.self.inside.replicas.items; clients = c.self.inside.clients.items; replica_twins = c.self.inside.replica_twins.items; client_twins = c.self.inside.client_twins.items; events = c.self.inside.events } in
+    let few : x.events < 100000 = omega (arith, c.requires.few, ap (λ y. y.events) c.self.view_is) in
+    let there = at_there x c.args.self.now c.self.view_is c.args.place (place.Replica c.in-Replica.r) c.in-Replica.is c.requires.there.0 c.requires.there.1 in
+    let new : Cast g.row.P.Denot = record x { replicas = c.hear_replica.new.cores.items; events = x.events + 1 } in
+    at_core x c.args.self.now c.self.view_is c.args.place (place.Replica c.in-Replica.r) c.in-Replica.is (λ y q s. IsTaken proto y q s (taken_of c.args.given) new c.in_ok-effects-in-Replica.effects.outs c.in_ok-effects-in-Replica.effects.marks.items c.in_ok-effects-in-Replica.effects.spent)
+    (replica_core x.replicas (c.in-Replica.r) (λ s. IsTaken proto x (place.Replica c.in-Replica.r) s (taken_of c.args.given) new c.in_ok-effects-in-Replica.effects.outs c.in_ok-effects-in-Replica.effects.marks.items c.in_ok-effects-in-Replica.effects.spent)
+    (replica_taken proto serves x c.self.invariant g.P.Protocol.formed few c.in-Replica.r c.args.given c.requires.given c.hear_replica.new.cores.items c.in_ok-effects-in-Replica.effects.outs c.in_ok-effects-in-Replica.effects.marks.items c.in_ok-effects-in-Replica.effects.spent there c.in_ok-effects-in-Replica.ensures.heard))
+
+pub invariant_of-self-in-ReplicaTwin : goal.invariant_of-self-in-ReplicaTwin
+invariant_of-self-in-ReplicaTwin g c =
+    let proto = g.P.Protocol.proto in
+    let serves = g.P.Protocol.serves in
+    let x : Cast g.row.P.Denot = record { setup = c.self.inside.setup; replicas = c.self.inside.replicas.items; clients = c.self.inside.clients.items; replica_twins = c.self.inside.replica_twins.items; client_twins = c.self.inside.client_twins.items; events = c.self.inside.events } in
+    let few : x.events < 100000 = omega (arith, c.requires.few, ap (λ y. y.events) c.self.view_is) in
+    let there = at_there x c.args.self.now c.self.view_is c.args.place (place.ReplicaTwin c.in-ReplicaTwin.r c.in-ReplicaTwin.at) c.in-ReplicaTwin.is c.requires.there.0 c.requires.there.1 in
+    replica_twin_stays proto serves x c.self.invariant g.P.Protocol.formed few c.in-ReplicaTwin.r c.in-ReplicaTwin.at c.args.given c.requires.given c.hear_replica-in-ReplicaTwin.new.cores.items c.in_ok-effects-in-ReplicaTwin.effects.outs c.in_ok-effects-in-ReplicaTwin.effects.marks.items c.in_ok-effects-in-ReplicaTwin.effects.spent there c.in_ok-effects-in-ReplicaTwin.ensures.heard
+
+pub returns-in_ok-effects-in-ReplicaTwin-clause-taken : goal.returns-in_ok-effects-in-ReplicaTwin-clause-taken
+returns-in_ok-effects-in-ReplicaTwin-clause-taken g c =
+    let proto = g.P.Protocol.proto in
+    let serves = g.P.Protocol.serves in
+    let x : Cast g.row.P.Denot = record { setup = c.self.inside.setup; replicas = c.self.inside.replicas.items; clients = c.self.inside.clients.items; replica_twins = c.self.inside.replica_twins.items; client_twins = c.self.inside.client_twins.items; events = c.self.inside.events } in
+    let few : x.events < 100000 = omega (arith, c.requires.few, ap (λ y. y.events) c.self.view_is) in
+    let there = at_there x c.args.self.now c.self.view_is c.args.place (place.ReplicaTwin c.in-ReplicaTwin.r c.in-ReplicaTwin.at) c.in-ReplicaTwin.is c.requires.there.0 c.requires.there.1 in
+    let new : Cast g.row.P.Denot = record x { replica_twins = c.hear_replica-in-ReplicaTwin.new.cores.items; events = x.events + 1 } in
+    at_core x c.args.self.now c.self.view_is c.args.place (place.ReplicaTwin c.in-ReplicaTwin.r c.in-ReplicaTwin.at) c.in-ReplicaTwin.is (λ y q s. IsTaken proto y q s (taken_of c.args.given) new c.in_ok-effects-in-ReplicaTwin.effects.outs c.in_ok-effects-in-ReplicaTwin.effects.marks.items c.in_ok-effects-in-ReplicaTwin.effects.spent)
+    (replica_core x.replica_twins (c.in-ReplicaTwin.at) (λ s. IsTaken proto x (place.ReplicaTwin c.in-ReplicaTwin.r c.in-ReplicaTwin.at) s (taken_of c.args.given) new c.in_ok-effects-in-ReplicaTwin.effects.outs c.in_ok-effects-in-ReplicaTwin.effects.marks.items c.in_ok-effects-in-ReplicaTwin.effects.spent)
+    (replica_twin_taken proto serves x c.self.invariant g.P.Protocol.formed few c.in-ReplicaTwin.r c.in-ReplicaTwin.at c.args.given c.requires.given c.hear_replica-in-ReplicaTwin.new.cores.items c.in_ok-effects-in-ReplicaTwin.effects.outs c.in_ok-effects-in-ReplicaTwin.effects.marks.items c.in_ok-effects-in-ReplicaTwin.effects.spent there c.in_ok-effects-in-ReplicaTwin.ensures.heard))
+
+pub invariant_of-self-in-Client : goal.invariant_of-self-in-Client
+invariant_of-self-in-Client g c =
+    let proto = g.P.Protocol.proto in
+    let serves = g.P.Protocol.serves in
+    let x : Cast g.row.P.Denot = record { setup = c.self.inside.setup; replicas = c.self.inside.replicas.items; clients = c.self.inside.clients.items; replica_twins = c.self.inside.replica_twins.items; client_twins = c.self.inside.client_twins.items; events = c.self.inside.events } in
+    let few : x.events < 100000 = omega (arith, c.requires.few, ap (λ y. y.events) c.self.view_is) in
+    let there = at_there x c.args.self.now c.self.view_is c.args.place (place.Client c.in-Client.c) c.in-Client.is c.requires.there.0 c.requires.there.1 in
+    let e = c.in_ok-effects-in-Client.ensures in
+    let does : DoesAt (c.in-Client.c) (taken_of c.args.given) x.clients c.hear_client.new.cores.items c.in_ok-effects-in-Client.effects.outs c.in_ok-effects-in-Client.effects.marks.items = record { cores = e.cores; stamp = λ s at. omega (arith, e.stamp s at); outs = e.outs; marks = e.marks; drafts = e.drafts } in
+    client_stays proto serves x c.self.invariant few c.in-Client.c (taken_of c.args.given) c.hear_client.new.cores.items c.in_ok-effects-in-Client.effects.outs c.in_ok-effects-in-Client.effects.marks.items there does
+
+pub returns-in_ok-effects-in-Client-clause-taken : goal.returns-in_ok-effects-in-Client-clause-taken
+returns-in_ok-effects-in-Client-clause-taken g c =
+    let proto = g.P.Protocol.proto in
+    let serves = g.P.Protocol.serves in
+    let x : Cast g.row.P.Denot = record { setup = c.self.inside.setup; replicas = c.self.inside.replicas.items; clients = c.self.inside.clients.items; replica_twins = c.self.inside.replica_twins.items; client_twins = c.self.inside.client_twins.items; events = c.self.inside.events } in
+    let few : x.events < 100000 = omega (arith, c.requires.few, ap (λ y. y.events) c.self.view_is) in
+    let there = at_there x c.args.self.now c.self.view_is c.args.place (place.Client c.in-Client.c) c.in-Client.is c.requires.there.0 c.requires.there.1 in
+    let e = c.in_ok-effects-in-Client.ensures in
+    let does : DoesAt (c.in-Client.c) (taken_of c.args.given) x.clients c.hear_client.new.cores.items c.in_ok-effects-in-Client.effects.outs c.in_ok-effects-in-Client.effects.marks.items = record { cores = e.cores; stamp = λ s at. omega (arith, e.stamp s at); outs = e.outs; marks = e.marks; drafts = e.drafts } in
+    let new : Cast g.row.P.Denot = record x { clients = c.hear_client.new.cores.items; events = x.events + 1 } in
+    at_core x c.args.self.now c.self.view_is c.args.place (place.Client c.in-Client.c) c.in-Client.is (λ y q s. IsTaken proto y q s (taken_of c.args.given) new c.in_ok-effects-in-Client.effects.outs c.in_ok-effects-in-Client.effects.marks.items c.in_ok-effects-in-Client.effects.spent)
+    (client_core x.clients (c.in-Client.c) (λ s. IsTaken proto x (place.Client c.in-Client.c) s (taken_of c.args.given) new c.in_ok-effects-in-Client.effects.outs c.in_ok-effects-in-Client.effects.marks.items c.in_ok-effects-in-Client.effects.spent)
+    (λ s here. spends_nothing proto x (place.Client c.in-Client.c) (client s) (taken_of c.args.given) new c.in_ok-effects-in-Client.effects.outs c.in_ok-effects-in-Client.effects.marks.items c.in_ok-effects-in-Client.effects.spent e.spent (client_taken proto serves x c.self.invariant few c.in-Client.c (taken_of c.args.given) c.hear_client.new.cores.items c.in_ok-effects-in-Client.effects.outs c.in_ok-effects-in-Client.effects.marks.items there does s here)))
+
+pub invariant_of-self-in-ClientTwin : goal.invariant_of-self-in-ClientTwin
+invariant_of-self-in-ClientTwin g c =
+    let proto = g.P.Protocol.proto in
+    let serves = g.P.Protocol.serves in
+    let x : Cast g.row.P.Denot = record { setup = c.self.inside.setup; replicas = c.self.inside.replicas.items; clients = c.self.inside.clients.items; replica_twins = c.self.inside.replica_twins.items; client_twins = c.self.inside.client_twins.items; events = c.self.inside.events } in
+    let few : x.events < 100000 = omega (arith, c.requires.few, ap (λ y. y.events) c.self.view_is) in
+    let there = at_there x c.args.self.now c.self.view_is c.args.place (place.ClientTwin c.in-ClientTwin.field-0 c.in-ClientTwin.at) c.in-ClientTwin.is c.requires.there.0 c.requires.there.1 in
+    let e = c.in_ok-effects-in-ClientTwin.ensures in
+    let does : DoesAt (c.in-ClientTwin.at) (taken_of c.args.given) x.client_twins c.hear_client-in-ClientTwin.new.cores.items c.in_ok-effects-in-ClientTwin.effects.outs c.in_ok-effects-in-ClientTwin.effects.marks.items = record { cores = e.cores; stamp = λ s at. omega (arith, e.stamp s at); outs = e.outs; marks = e.marks; drafts = e.drafts } in
+    client_twin_stays proto serves x c.self.invariant few c.in-ClientTwin.field-0 c.in-ClientTwin.at (taken_of c.args.given) c.hear_client-in-ClientTwin.new.cores.items c.in_ok-effects-in-ClientTwin.effects.outs c.in_ok-effects-in-ClientTwin.effects.marks.items there does
+
+pub returns-in_ok-effects-in-ClientTwin-clause-taken : goal.returns-in_ok-effects-in-ClientTwin-clause-taken
+returns-in_ok-effects-in-ClientTwin-clause-taken g c =
+    let proto = g.P.Protocol.proto in
+    let serves = g.P.Protocol.serves in
+    let x : Cast g.row.P.Denot = record { setup = c.self.inside.setup; replicas = c.self.inside.replicas.items; clients = c.self.inside.clients.items; replica_twins = c.self.inside.replica_twins.items; client_twins = c.self.inside.client_twins.items; events = c.self.inside.events } in
+    let few : x.events < 100000 = omega (arith, c.requires.few, ap (λ y. y.events) c.self.view_is) in
+    let there = at_there x c.args.self.now c.self.view_is c.args.place (place.ClientTwin c.in-ClientTwin.field-0 c.in-ClientTwin.at) c.in-ClientTwin.is c.requires.there.0 c.requires.there.1 in
+    let e = c.in_ok-effects-in-ClientTwin.ensures in
+    let does : DoesAt (c.in-ClientTwin.at) (taken_of c.args.given) x.client_twins c.hear_client-in-ClientTwin.new.cores.items c.in_ok-effects-in-ClientTwin.effects.outs c.in_ok-effects-in-ClientTwin.effects.marks.items = record { cores = e.cores; stamp = λ s at. omega (arith, e.stamp s at); outs = e.outs; marks = e.marks; drafts = e.drafts } in
+    let new : Cast g.row.P.Denot = record x { client_twins = c.hear_client-in-ClientTwin.new.cores.items; events = x.events + 1 } in
+    at_core x c.args.self.now c.self.view_is c.args.place (place.ClientTwin c.in-ClientTwin.field-0 c.in-ClientTwin.at) c.in-ClientTwin.is (λ y q s. IsTaken proto y q s (taken_of c.args.given) new c.in_ok-effects-in-ClientTwin.effects.outs c.in_ok-effects-in-ClientTwin.effects.marks.items c.in_ok-effects-in-ClientTwin.effects.spent)
+    (client_core x.client_twins (c.in-ClientTwin.at) (λ s. IsTaken proto x (place.ClientTwin c.in-ClientTwin.field-0 c.in-ClientTwin.at) s (taken_of c.args.given) new c.in_ok-effects-in-ClientTwin.effects.outs c.in_ok-effects-in-ClientTwin.effects.marks.items c.in_ok-effects-in-ClientTwin.effects.spent)
+    (λ s here. spends_nothing proto x (place.ClientTwin c.in-ClientTwin.field-0 c.in-ClientTwin.at) (client s) (taken_of c.args.given) new c.in_ok-effects-in-ClientTwin.effects.outs c.in_ok-effects-in-ClientTwin.effects.marks.items c.in_ok-effects-in-ClientTwin.effects.spent e.spent (client_twin_taken proto serves x c.self.invariant few c.in-ClientTwin.field-0 c.in-ClientTwin.at (taken_of c.args.given) c.hear_client-in-ClientTwin.new.cores.items c.in_ok-effects-in-ClientTwin.effects.outs c.in_ok-effects-in-ClientTwin.effects.marks.items there does s here)))
+

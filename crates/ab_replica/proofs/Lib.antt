@@ -1,0 +1,6 @@
+-- Lemmas of this crate.
+pub mod TurnLemmas
+pub mod PurposeLemmas
+pub mod CrossingLemmas
+pub mod CertLemmas
+pub mod PenLemmas

@@ -1,0 +1,52 @@
+-- What a replica does in an event.
+use Rattle.std.specs.Prelude.{◌≡◌, ℕ, ◌+◌, nat_lt, if◌then◌else◌, Bool, true, false, List, [], ◌∷◌, count_by}
+use Rattle.ab_hist.specs.declared.request.Request.{Request}
+use Rattle.ab_msg.specs.declared.signed.Signed.{Signed}
+use Rattle.ab_msg.specs.declared.message.Msg.{Msg}
+use Rattle.ab_msg.specs.declared.message.Out.{Out}
+use Rattle.ab_msg.specs.Pens.{Pen}
+use Rattle.ab_abs.specs.declared.seen.Seen.{Seen}
+use Rattle.ab_abs.specs.Ensembles.{Proto}
+use Rattle.ab_abs.specs.Messages.{Call}
+use Rattle.ab_run.specs.Setups.{Setup}
+use Rattle.ab_run.specs.Replicas.{Rep, Turn, turn_enter, turn_call, turn_halt, turn_sign, turn_bring, turn_abort, after_turn, taken, wanted, is_spent, turns}
+use Rattle.ab_run.specs.Local.{after_turns, sent_in_turns, marks_in_turns, rep_after, rep_sends, rep_marks}
+use Rattle.ab_replica.specs.Sites.{Site, setup_of}
+
+abbrev pub is_entry : Turn → Bool
+is_entry (turn_enter j cert h) = true
+is_entry (turn_call call) = false
+is_entry turn_halt = false
+is_entry turn_sign = false
+is_entry (turn_bring c) = false
+is_entry (turn_abort c) = false
+
+-- the replica takes what comes, by the rules of a run: where it then is, what it sends, what is seen of it, and whether the event is spent
+pub record Hears {P : Type 0} (proto : Proto P) (k : Setup) (s : Site P) (call : Call) (now : Site P) (outs : List Out) (marks : List Seen) (spent : Bool) : Type 0 where
+  pub after : now ≡ record s { rep = rep_after k proto s.me s.rep call; entries = s.entries + count_by is_entry (turns k proto s.me s.rep call) }
+  pub sends : outs ≡ rep_sends k proto s.me s.rep call
+  pub shows : marks ≡ rep_marks k proto s.me s.rep call
+  pub spends : spent ≡ is_spent k proto s.me s.rep call
+
+-- a replica enters the instance after j, and takes the message there
+abbrev pub entering : {P : Type 0} → Setup → Proto P → ℕ → Rep P → Msg → ℕ → List Signed → List Request → List Turn
+entering k proto r s m j cert h = turn_enter j cert h ∷ taken k proto (after_turn k proto r s (turn_enter j cert h)) m
+
+module _ {P : Type 0} (proto : Proto P) (k : Setup) (s : Site P) (ts : List Turn) where
+  -- whether these turns want more signatures than are left
+  abbrev pub are_spent : Bool
+  are_spent = nat_lt k.signatures (s.rep.used + wanted k proto s.me s.rep ts)
+
+  -- then none of them is taken
+  abbrev pub unless_spent : List Turn
+  unless_spent = if are_spent then [] else ts
+
+-- the same of a replica that takes these turns, with the signatures of a pen
+pub record Does {P : Type 0} (proto : Proto P) (pen : Pen) (s : Site P) (ts : List Turn) (now : Site P) (outs : List Out) (marks : List Seen) (spent : Bool) : Type 0 where
+  pub after : now ≡ record s {
+    rep = after_turns (setup_of s pen) proto s.me s.rep (unless_spent proto (setup_of s pen) s ts);
+    entries = s.entries + count_by is_entry (unless_spent proto (setup_of s pen) s ts);
+  }
+  pub sends : outs ≡ sent_in_turns (setup_of s pen) proto s.me s.rep (unless_spent proto (setup_of s pen) s ts)
+  pub shows : marks ≡ marks_in_turns (setup_of s pen) proto s.me s.rep (unless_spent proto (setup_of s pen) s ts)
+  pub spends : spent ≡ are_spent proto (setup_of s pen) s ts

@@ -1,0 +1,5 @@
+-- The definitions that the contracts of this crate cite.
+pub mod Sites
+pub mod Doings
+pub mod Purposes
+pub mod Crossings

@@ -1,0 +1,20 @@
+-- What a message asks of a replica.
+use Rattle.std.specs.Prelude.{ℕ}
+use Rattle.ab_msg.specs.declared.message.Msg.{Msg}
+use Rattle.ab_msg.specs.declared.message.Msg.TheVariants as msg
+use Rattle.ab_msg.specs.declared.message.Offer.{Offer}
+use Rattle.ab_msg.specs.declared.message.Offer.TheVariants as offer
+use Rattle.ab_msg.specs.Claims.{maker_of}
+use Rattle.ab_run.specs.Replicas.{client_of}
+use Rattle.ab_replica.specs.declared.purpose.Purpose.{Purpose}
+use Rattle.ab_replica.specs.declared.purpose.Purpose.TheVariants.{Request, Panic, Base, Other}
+
+abbrev pub purpose_of_offer : Offer → Purpose
+purpose_of_offer (offer.Base cert) = Base
+purpose_of_offer (offer.Request m tag) = Other
+
+abbrev pub purpose_of : Msg → Purpose
+purpose_of (msg.Req content tags) = Request (client_of (maker_of content))
+purpose_of (msg.Panic content tag) = Panic (client_of (maker_of content))
+purpose_of (msg.PrePrepare content tag o) = purpose_of_offer o
+purpose_of _ = Other

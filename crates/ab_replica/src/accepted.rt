@@ -1,0 +1,98 @@
+//! What is seen of a replica that accepts a history.
+
+ghost use Rattle.std.specs.Prelude.{◌≡◌, ◌-◌, ◌≤◌, ◌∷◌, [], IfOk, length, reverse};
+ghost use Rattle.std.specs.Option.{option_map};
+ghost use Rattle.ab_num.specs.declared.party.Party.TheVariants.{Replica};
+ghost use Rattle.ab_abs.specs.Certificates.{history_eq};
+ghost use Rattle.ab_abs.specs.declared.seen.Seen.TheVariants.{Init, Cert};
+ghost use Rattle.ab_run.specs.Replicas.{accepted_marks, new_first, same_first};
+
+use ab_abs::{Marks, Seen};
+use ab_hist::History;
+use ab_num::{OutOfMemory, Party};
+use std::alloc::Global;
+
+/// Whether the two are equal.
+fn is_same(a: &History, b: &History) -> bool
+    ensures { result ≡ history_eq a.now b.now }
+{
+    a.entries() == b.entries()
+}
+
+/// Whether the old one is there and equal.
+fn is_old(old: Option<&History>, h: &History) -> bool
+    ensures { result ≡ same_first (option_map (λ g. g.now) old) h.now }
+{
+    match old {
+        Some(g) => is_same(g, h),
+        None => false,
+    }
+}
+
+/// The history that is newly accepted in slot 0, if it isn't the base.
+pub(crate) fn newly<'a>(
+    old: Option<&History>,
+    new: Option<&'a History>,
+    base: &History,
+) -> Option<&'a History>
+    ensures { option_map (λ h. h.now) result ≡ new_first (option_map (λ g. g.now) old) (option_map (λ h. h.now) new.entry) base.now }
+{
+    let h = new?;
+    if is_old(old, h) || is_same(h, base) {
+        None
+    } else {
+        Some(h)
+    }
+}
+
+/// Replica `me` took the history `h` of a certificate of the instance before `i`, and begins `i`
+/// with it. More is seen after that.
+pub(crate) fn init_marks(
+    alloc: Global,
+    i: u32,
+    me: u8,
+    h: &History,
+    more: Marks,
+) -> Result<Marks, OutOfMemory>
+    requires instance { 1 ≤ i }
+    requires few { length more.items ≤ 2 }
+    ensures { IfOk result (λ marks. marks.items ≡ Cert (i - 1) (Replica me) h.now ∷ Init i me h.now ∷ more.items) }
+{
+    let taken = h.copy(alloc)?;
+    let first = h.copy(alloc)?;
+    let mut marks = more;
+    marks.insert(
+        0,
+        Seen::Init {
+            i,
+            r: me,
+            h: first,
+        },
+    );
+    marks.insert(
+        0,
+        Seen::Cert {
+            i: i - 1,
+            p: Party::Replica(me),
+            h: taken,
+        },
+    );
+    Ok(marks)
+}
+
+/// What is seen of replica `me` that newly accepts this history in slot 0 of instance `i`.
+pub(crate) fn accepted_marks(
+    alloc: Global,
+    i: u32,
+    me: u8,
+    h: Option<&History>,
+) -> Result<Marks, OutOfMemory>
+    requires { 1 ≤ i }
+    ensures marks { IfOk result (λ marks. marks.items ≡ reverse (accepted_marks i me (option_map (λ h. h.now) h.entry))) }
+    ensures few { IfOk result (λ marks. length marks.items ≤ 2) }
+{
+    match h {
+        Some(h) => init_marks(alloc, i, me, h, Marks::new_in(alloc)),
+        None => Ok(Marks::new_in(alloc)),
+    }
+}

@@ -1,0 +1,65 @@
+//! What a message asks of a replica.
+
+ghost use Rattle.std.specs.Prelude.{◌≡◌, All, IfSome};
+ghost use Rattle.std.specs.Option.{option_map};
+ghost use Rattle.ab_msg.specs.Certs.{IsSigned};
+ghost use Rattle.ab_msg.specs.Contents.{IsAbort};
+ghost use Rattle.ab_wire.specs.Views.{IsReceived, aborts, message};
+ghost use Rattle.ab_run.specs.Replicas.{brought, client_of};
+ghost use Rattle.ab_replica.specs.Purposes.{purpose_of};
+
+use ab_form::ListRef;
+use ab_num::Party;
+use ab_wire::{MsgRef, OfferRef, SignedRef};
+
+/// What a message asks for, as far as a replica looks before its protocol does.
+#[derive(Clone, Copy, Debug, PartialEq, Eq)]
+pub(crate) enum Purpose {
+    /// A client asks for an answer.
+    Request(u16),
+    /// A client asks it to stop.
+    Panic(u16),
+    /// A replica offers a base, with the certificate that gives it.
+    Base,
+    Other,
+}
+
+/// The number of a client.
+fn client_of(party: Party) -> u16
+    ensures { result ≡ client_of party }
+{
+    match party {
+        Party::Replica(_) => 0,
+        Party::Client(c) => c,
+    }
+}
+
+/// What the message asks for.
+pub(crate) fn purpose_of(m: MsgRef<'_>) -> Purpose
+    ensures { result ≡ purpose_of (message m.entry) }
+{
+    match m {
+        MsgRef::Req { content, .. } => Purpose::Request(client_of(content.maker())),
+        MsgRef::Panic { content, .. } => Purpose::Panic(client_of(content.maker())),
+        MsgRef::PrePrepare {
+            offer: OfferRef::Base(_),
+            ..
+        } => Purpose::Base,
+        _ => Purpose::Other,
+    }
+}
+
+/// The certificate that the message brings.
+pub(crate) fn brought<'a>(m: MsgRef<'a>) -> Option<ListRef<'a, SignedRef<'a>>>
+    ensures brought { option_map aborts result ≡ brought (message m.entry) }
+    ensures formed { IsReceived m.entry → IfSome result (λ l. All (IsSigned IsAbort) (aborts l)) }
+{
+    match m {
+        MsgRef::Init { cert } => Some(cert),
+        MsgRef::PrePrepare {
+            offer: OfferRef::Base(cert),
+            ..
+        } => Some(cert),
+        _ => None,
+    }
+}

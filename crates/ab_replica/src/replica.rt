@@ -1,0 +1,465 @@
+//! A replica over all instances.
+
+ghost use Rattle.std.specs.Prelude.{◌≡◌, ℕ, ◌+◌, ◌*◌, ◌<◌, ◌≤◌, List, [], ◌∷◌, false, if◌then◌else◌, length, IfOk, OnErr, IsErrOf};
+ghost use Rattle.std.specs.Option.{option_map};
+ghost use Rattle.ab_hist.specs.declared.request.Request.{Request};
+ghost use Rattle.ab_msg.specs.declared.signed.Signed.{Signed as SignedContent};
+ghost use Rattle.ab_msg.specs.Pens.{Pen, moved};
+ghost use Rattle.ab_wire.specs.Views.{IsReceived, message};
+ghost use Rattle.ab_abs.specs.Promises.{ServesAll};
+ghost use Rattle.ab_abs.specs.Ensembles.{entry_of};
+ghost use Rattle.ab_abs.specs.Messages.{took, timed, offered};
+ghost use Rattle.ab_run.specs.Setups.{Setup};
+ghost use Rattle.ab_run.specs.Runs.{first_rep};
+ghost use Rattle.ab_run.specs.Replicas.{aborting, brought, halting, here, late, taken, turn_call};
+ghost use Rattle.ab_replica.specs.Sites.{IsPenAfter, IsPenOf, IsSetupOf, Site, setup_of, timer_number};
+ghost use Rattle.ab_replica.specs.Doings.{Does, Hears, entering};
+ghost use Rattle.ab_replica.specs.Crossings.{crossing_in};
+
+use crate::accepted::{accepted_marks, init_marks, newly};
+use crate::answers::{abort_to, cert_to};
+use crate::crossing::{Crossing, crossing_by};
+use crate::effects::Effects;
+use crate::purpose::{Purpose, brought, purpose_of};
+use ab_abs::{Entry, Protocol, StepFault};
+use ab_hist::History;
+use ab_msg::{Content, Notary, SignFault, Signed};
+use ab_num::{Cluster, OutOfMemory, Party};
+use ab_svc::Service;
+use ab_wire::MsgRef;
+use std::alloc::Global;
+use std::marker::{Model, PhantomData};
+
+/// A replica in its present instance, with the certificate by which it entered, and its ABORT there
+/// once it is signed.
+#[derive(Drop)]
+pub struct Replica<S: Service, P: Protocol<S>> {
+    cluster: Cluster,
+    me: u8,
+    signatures: u64,
+    instance: u32,
+    value: P,
+    entry: Entry,
+    abort: Option<Signed>,
+    used: u64,
+    entries: u32,
+    of: PhantomData<S>,
+}
+
+impl<S: Service, P: Protocol<S>> Model for Replica<S, P> {
+    ghost use Rattle.std.specs.Prelude.{◌+◌, ◌*◌, ◌<◌, ◌≤◌};
+    ghost use Rattle.ab_abs.specs.Promises.{ServesAll};
+    ghost use Rattle.ab_run.specs.Replicas.{Rep};
+    ghost use Rattle.ab_replica.specs.Sites.{Site};
+
+    ghost Value = { Site P };
+
+    ghost view = { λ q. record {
+      cluster = q.cluster;
+      me = q.me;
+      signatures = q.signatures;
+      rep = record { at = q.instance; value = q.value; entry = q.entry; abort = q.abort; used = q.used };
+      entries = q.entries;
+    } };
+
+    ghost invariant = { λ q. (q.entries < q.instance) × (q.me < 3 * q.cluster.f + 1) × ServesAll P.serves q.cluster };
+}
+
+impl<S: Service, P: Protocol<S>> Replica<S, P> {
+    /// Replica `me` before the first event. P serves each kind of the plan.
+    pub fn new(
+        alloc: Global,
+        cluster: &Cluster,
+        me: u8,
+        signatures: u64,
+    ) -> Result<Self, OutOfMemory>
+        requires served { ServesAll P.serves cluster.now }
+        requires replica { me < 3 * cluster.now.f + 1 }
+        ensures { (k : Setup) → k.cluster ≡ cluster.now → IfOk result (λ q. q ≡ record { cluster = cluster.now; me = me; signatures = signatures; rep = first_rep k P.proto me; entries = 0 }) }
+    {
+        let entry = Entry {
+            base: History::new(alloc),
+            cert: None,
+        };
+        let value = P::start(alloc, cluster, 1, me, &entry)?;
+        Ok(Replica {
+            cluster: *cluster,
+            me,
+            signatures,
+            instance: 1,
+            value,
+            entry,
+            abort: None,
+            used: 0,
+            entries: 0,
+            of: PhantomData,
+        })
+    }
+
+    /// The present instance.
+    pub fn instance(&self) -> u32
+        ensures { result ≡ self.now.rep.at }
+    {
+        self.instance
+    }
+
+    /// The present log.
+    pub fn log(&self) -> &History
+        ensures { result.now ≡ (P.proto.state self.now.rep.value).log }
+    {
+        self.value.log()
+    }
+
+    /// Whether the present instance has stopped here.
+    pub fn stopped(&self) -> bool
+        ensures { result ≡ (P.proto.state self.now.rep.value).stopped }
+    {
+        self.value.stopped()
+    }
+
+    /// The history that it accepted in slot 0 in its present view, where its kind has slots.
+    pub fn first(&self) -> Option<&History>
+        ensures { option_map (λ h. h.now) result ≡ (P.proto.state self.now.rep.value).first }
+    {
+        self.value.first()
+    }
+
+    /// How the present instance was entered.
+    pub fn entry(&self) -> &Entry
+        ensures { result.now ≡ self.now.rep.entry }
+    {
+        &self.entry
+    }
+
+    /// How many signatures it has made.
+    pub fn used(&self) -> u64
+        ensures { result ≡ self.now.rep.used }
+    {
+        self.used
+    }
+
+    /// None where no timer runs; else it runs anew whenever the number changes. It is that of the
+    /// protocol and the number of entries, added as 64 bits are.
+    pub fn timer(&self) -> Option<u64>
+        ensures { result ≡ option_map (timer_number self.now.entries) (P.counted self.now.rep.value) }
+    {
+        match self.value.timer() {
+            Some(n) => Some(n.wrapping_add(u64::from(self.entries))),
+            None => None,
+        }
+    }
+
+    /// Takes a message that was read from bytes. After an `Err` it is as before; `n` may then have made
+    /// signatures that nobody has seen, and so it may where the event is spent.
+    pub fn on<N: Notary>(
+        &mut self,
+        alloc: Global,
+        m: MsgRef<'_>,
+        n: &mut N,
+    ) -> Result<Effects, OutOfMemory>
+        requires received { IsReceived m }
+        requires pen { IsPenOf (N.pen n.old) (N.remains n.old) self.old }
+        ensures hears { (k : Setup) → IsSetupOf k self.old (N.pen n.old) → IfOk result (λ e. Hears P.proto k self.old (took (message m.entry)) self.new e.outs e.marks.items e.spent) }
+        ensures pen { IfOk result (λ e. e.spent ≡ false → IsPenAfter (N.pen n.old) (N.pen n.new) (N.remains n.new) self.new) }
+        ensures err { OnErr result (self.new ≡ self.old) }
+    {
+        match self.crossing(alloc, m)? {
+            Some(next) => self.enter(alloc, next, m, n),
+            None => self.take(alloc, m, n),
+        }
+    }
+
+    /// Its timer has run out. As `on` with that call.
+    pub fn timeout<N: Notary>(&mut self, alloc: Global, n: &mut N) -> Result<Effects, OutOfMemory>
+        requires { IsPenOf (N.pen n.old) (N.remains n.old) self.old }
+        ensures hears { (k : Setup) → IsSetupOf k self.old (N.pen n.old) → IfOk result (λ e. Hears P.proto k self.old timed self.new e.outs e.marks.items e.spent) }
+        ensures pen { IfOk result (λ e. e.spent ≡ false → IsPenAfter (N.pen n.old) (N.pen n.new) (N.remains n.new) self.new) }
+        ensures err { OnErr result (self.new ≡ self.old) }
+    {
+        let left = n.left();
+        match self.value.timeout(alloc, n) {
+            Ok(outs) => {
+                self.used += left - n.left();
+                Ok(Effects::sent(alloc, outs))
+            }
+            Err(StepFault::Spent) => Ok(Effects::none(alloc, true)),
+            Err(StepFault::OutOfMemory) => Err(OutOfMemory),
+        }
+    }
+
+    /// Where the certificate that a message brings leads it.
+    fn crossing(&self, alloc: Global, m: MsgRef<'_>) -> Result<Option<Crossing>, OutOfMemory>
+        requires { IsReceived m }
+        ensures { IfOk result (λ o. o ≡ crossing_in self.now.cluster self.now.rep.at (brought (message m.entry))) }
+    {
+        match brought(m) {
+            Some(cert) => crossing_by(alloc, &self.cluster, self.instance, cert),
+            None => Ok(None),
+        }
+    }
+
+    /// The replica as it enters another instance.
+    fn entered(&self, alloc: Global, next: Crossing) -> Result<Self, OutOfMemory>
+        requires { self.now.rep.at < next.instance }
+        ensures { IfOk result (λ q. q ≡ record self.now { rep = record { at = next.instance; value = P.proto.begin self.now.cluster next.instance self.now.me next.entry; entry = next.entry; abort = None; used = self.now.rep.used }; entries = self.now.entries + 1 }) }
+    {
+        let value = P::start(alloc, &self.cluster, next.instance, self.me, &next.entry)?;
+        Ok(Replica {
+            cluster: self.cluster,
+            me: self.me,
+            signatures: self.signatures,
+            instance: next.instance,
+            value,
+            entry: next.entry,
+            abort: None,
+            used: self.used,
+            entries: self.entries + 1,
+            of: PhantomData,
+        })
+    }
+
+    /// Enters another instance and takes the message there. Where that is spent, it hasn't entered.
+    fn enter<N: Notary>(
+        &mut self,
+        alloc: Global,
+        next: Crossing,
+        m: MsgRef<'_>,
+        n: &mut N,
+    ) -> Result<Effects, OutOfMemory>
+        requires higher { self.old.rep.at < next.instance }
+        requires received { IsReceived m }
+        requires pen { IsPenOf (N.pen n.old) (N.remains n.old) self.old }
+        ensures does { (j : ℕ) (cert : List SignedContent) (h : List Request) → next ≡ record { instance = j + 1; entry = entry_of h (Some cert) } → IfOk result (λ e. Does P.proto (N.pen n.old) self.old (entering (setup_of self.old (N.pen n.old)) P.proto self.old.me self.old.rep (message m.entry) j cert h) self.new e.outs e.marks.items e.spent) }
+        ensures pen { IfOk result (λ e. e.spent ≡ false → IsPenAfter (N.pen n.old) (N.pen n.new) (N.remains n.new) self.new) }
+        ensures err { OnErr result (self.new ≡ self.old) }
+    {
+        let mut there = self.entered(alloc, next)?;
+        let effects = there.take(alloc, m, n)?;
+        if effects.spent {
+            return Ok(effects);
+        }
+        let Effects { outs, marks, spent } = effects;
+        let marks = init_marks(alloc, there.instance, self.me, &there.entry.base, marks)?;
+        *self = there;
+        Ok(Effects { outs, marks, spent })
+    }
+
+    /// Takes a message in the present instance.
+    fn take<N: Notary>(
+        &mut self,
+        alloc: Global,
+        m: MsgRef<'_>,
+        n: &mut N,
+    ) -> Result<Effects, OutOfMemory>
+        requires received { IsReceived m }
+        requires pen { IsPenOf (N.pen n.old) (N.remains n.old) self.old }
+        ensures does { IfOk result (λ e. Does P.proto (N.pen n.old) self.old (taken (setup_of self.old (N.pen n.old)) P.proto self.old.rep (message m.entry)) self.new e.outs e.marks.items e.spent) }
+        ensures few { IfOk result (λ e. length e.marks.items ≤ 2) }
+        ensures pen { IfOk result (λ e. e.spent ≡ false → IsPenAfter (N.pen n.old) (N.pen n.new) (N.remains n.new) self.new) }
+        ensures err { OnErr result (self.new ≡ self.old) }
+    {
+        match m.instance() {
+            Some(i) if i == self.instance => self.here(alloc, m, n),
+            Some(i) if i < self.instance => self.late(alloc, m),
+            _ => Ok(Effects::none(alloc, false)),
+        }
+    }
+
+    /// Answers a client that is in an earlier instance with the certificate by which it entered.
+    fn late(&self, alloc: Global, m: MsgRef<'_>) -> Result<Effects, OutOfMemory>
+        ensures does { (pen : Pen) → self.now.rep.used ≤ self.now.signatures → IfOk result (λ e. Does P.proto pen self.now (late (message m.entry)) self.now e.outs e.marks.items e.spent) }
+        ensures few { IfOk result (λ e. length e.marks.items ≤ 2) }
+    {
+        match purpose_of(m) {
+            Purpose::Request(client) | Purpose::Panic(client) => {
+                let outs = cert_to(alloc, client, self.entry.cert.as_ref())?;
+                Ok(Effects::sent(alloc, outs))
+            }
+            Purpose::Base | Purpose::Other => Ok(Effects::none(alloc, false)),
+        }
+    }
+
+    /// Takes a message of the present instance.
+    fn here<N: Notary>(
+        &mut self,
+        alloc: Global,
+        m: MsgRef<'_>,
+        n: &mut N,
+    ) -> Result<Effects, OutOfMemory>
+        requires received { IsReceived m }
+        requires pen { IsPenOf (N.pen n.old) (N.remains n.old) self.old }
+        ensures does { IfOk result (λ e. Does P.proto (N.pen n.old) self.old (here (setup_of self.old (N.pen n.old)) P.proto self.old.rep (message m.entry)) self.new e.outs e.marks.items e.spent) }
+        ensures few { IfOk result (λ e. length e.marks.items ≤ 2) }
+        ensures pen { IfOk result (λ e. e.spent ≡ false → IsPenAfter (N.pen n.old) (N.pen n.new) (N.remains n.new) self.new) }
+        ensures err { OnErr result (self.new ≡ self.old) }
+    {
+        match purpose_of(m) {
+            Purpose::Request(client) => self.request(alloc, client, m, n),
+            Purpose::Panic(client) => self.halting(alloc, client, n),
+            Purpose::Base => self.offered(alloc, m, n),
+            Purpose::Other => self.call(alloc, m, n),
+        }
+    }
+
+    /// Takes a client's request of the present instance.
+    fn request<N: Notary>(
+        &mut self,
+        alloc: Global,
+        client: u16,
+        m: MsgRef<'_>,
+        n: &mut N,
+    ) -> Result<Effects, OutOfMemory>
+        requires received { IsReceived m }
+        requires request { offered (took (message m)) ≡ None }
+        requires pen { IsPenOf (N.pen n.old) (N.remains n.old) self.old }
+        ensures does { IfOk result (λ e. Does P.proto (N.pen n.old) self.old (if (P.proto.state self.old.rep.value).stopped then aborting (setup_of self.old (N.pen n.old)) P.proto client self.old.rep else turn_call (took (message m.entry)) ∷ []) self.new e.outs e.marks.items e.spent) }
+        ensures few { IfOk result (λ e. length e.marks.items ≤ 2) }
+        ensures pen { IfOk result (λ e. e.spent ≡ false → IsPenAfter (N.pen n.old) (N.pen n.new) (N.remains n.new) self.new) }
+        ensures err { OnErr result (self.new ≡ self.old) }
+    {
+        if self.value.stopped() {
+            self.aborting(alloc, client, n)
+        } else {
+            self.call(alloc, m, n)
+        }
+    }
+
+    /// Stops where it was not stopped, and then sends its ABORT where it is. The log that a stop
+    /// leaves is the present one, so the ABORT is signed before: a spent event changes nothing.
+    fn halting<N: Notary>(
+        &mut self,
+        alloc: Global,
+        client: u16,
+        n: &mut N,
+    ) -> Result<Effects, OutOfMemory>
+        requires { IsPenOf (N.pen n.old) (N.remains n.old) self.old }
+        ensures does { IfOk result (λ e. Does P.proto (N.pen n.old) self.old (halting (setup_of self.old (N.pen n.old)) P.proto client self.old.rep) self.new e.outs e.marks.items e.spent) }
+        ensures few { IfOk result (λ e. length e.marks.items ≤ 2) }
+        ensures pen { IfOk result (λ e. e.spent ≡ false → IsPenAfter (N.pen n.old) (N.pen n.new) (N.remains n.new) self.new) }
+        ensures err { OnErr result (self.new ≡ self.old) }
+    {
+        if self.value.stopped() {
+            return self.aborting(alloc, client, n);
+        }
+        if !self.value.may_panic() {
+            self.value.stop();
+            return Ok(Effects::none(alloc, false));
+        }
+        let effects = self.aborting(alloc, client, n)?;
+        if !effects.spent {
+            self.value.stop();
+        }
+        Ok(effects)
+    }
+
+    /// Its protocol takes a message that offers no base.
+    fn call<N: Notary>(
+        &mut self,
+        alloc: Global,
+        m: MsgRef<'_>,
+        n: &mut N,
+    ) -> Result<Effects, OutOfMemory>
+        requires received { IsReceived m }
+        requires other { offered (took (message m)) ≡ None }
+        requires pen { IsPenOf (N.pen n.old) (N.remains n.old) self.old }
+        ensures does { IfOk result (λ e. Does P.proto (N.pen n.old) self.old (turn_call (took (message m.entry)) ∷ []) self.new e.outs e.marks.items e.spent) }
+        ensures few { IfOk result (λ e. length e.marks.items ≤ 2) }
+        ensures pen { IfOk result (λ e. e.spent ≡ false → IsPenAfter (N.pen n.old) (N.pen n.new) (N.remains n.new) self.new) }
+        ensures err { OnErr result (self.new ≡ self.old) }
+    {
+        let left = n.left();
+        match self.value.on(alloc, m, n) {
+            Ok(outs) => {
+                self.used += left - n.left();
+                Ok(Effects::sent(alloc, outs))
+            }
+            Err(StepFault::Spent) => Ok(Effects::none(alloc, true)),
+            Err(StepFault::OutOfMemory) => Err(OutOfMemory),
+        }
+    }
+
+    /// Its protocol takes a message that offers a base. A copy takes it first, so that what was
+    /// accepted before can be told from what is accepted then, and a refused allocation leaves all as
+    /// it was.
+    fn offered<N: Notary>(
+        &mut self,
+        alloc: Global,
+        m: MsgRef<'_>,
+        n: &mut N,
+    ) -> Result<Effects, OutOfMemory>
+        requires received { IsReceived m }
+        requires offer { (cert : List SignedContent) × (offered (took (message m)) ≡ Some cert) }
+        requires pen { IsPenOf (N.pen n.old) (N.remains n.old) self.old }
+        ensures does { IfOk result (λ e. Does P.proto (N.pen n.old) self.old (turn_call (took (message m.entry)) ∷ []) self.new e.outs e.marks.items e.spent) }
+        ensures few { IfOk result (λ e. length e.marks.items ≤ 2) }
+        ensures pen { IfOk result (λ e. e.spent ≡ false → IsPenAfter (N.pen n.old) (N.pen n.new) (N.remains n.new) self.new) }
+        ensures err { OnErr result (self.new ≡ self.old) }
+    {
+        let left = n.left();
+        let mut value = self.value.copy(alloc)?;
+        match value.on(alloc, m, n) {
+            Ok(outs) => {
+                let first = newly(self.value.first(), value.first(), &self.entry.base);
+                let marks = accepted_marks(alloc, self.instance, self.me, first)?;
+                self.value = value;
+                self.used += left - n.left();
+                Ok(Effects {
+                    outs,
+                    marks,
+                    spent: false,
+                })
+            }
+            Err(StepFault::Spent) => Ok(Effects::none(alloc, true)),
+            Err(StepFault::OutOfMemory) => Err(OutOfMemory),
+        }
+    }
+
+    /// Its ABORT in the present instance, signed with the next number.
+    fn signed_abort<N: Notary>(&self, alloc: Global, n: &mut N) -> Result<Signed, SignFault>
+        ensures ok { IfOk result (λ s. (s ≡ record { maker = self.now.me; content = Content.Abort (Party.Replica self.now.me) self.now.rep.at (P.proto.state self.now.rep.value).log; sig = (N.pen n.old).sig (Content.Abort (Party.Replica self.now.me) self.now.rep.at (P.proto.state self.now.rep.value).log) (N.pen n.old).used }) × (N.pen n.new ≡ moved (N.pen n.old) 1) × (N.remains n.new + 1 ≡ N.remains n.old)) }
+        ensures spent { IsErrOf result SignFault.Spent → N.remains n.old ≡ 0 }
+    {
+        let content = Content::Abort {
+            maker: Party::Replica(self.me),
+            instance: self.instance,
+            history: self.value.log().copy(alloc)?,
+        };
+        let sig = n.sign(alloc, &content)?;
+        Ok(Signed {
+            maker: self.me,
+            content,
+            sig,
+        })
+    }
+
+    /// Sends a client the ABORT, which is signed the first time.
+    fn aborting<N: Notary>(
+        &mut self,
+        alloc: Global,
+        client: u16,
+        n: &mut N,
+    ) -> Result<Effects, OutOfMemory>
+        requires { IsPenOf (N.pen n.old) (N.remains n.old) self.old }
+        ensures does { IfOk result (λ e. Does P.proto (N.pen n.old) self.old (aborting (setup_of self.old (N.pen n.old)) P.proto client self.old.rep) self.new e.outs e.marks.items e.spent) }
+        ensures few { IfOk result (λ e. length e.marks.items ≤ 2) }
+        ensures pen { IfOk result (λ e. e.spent ≡ false → IsPenAfter (N.pen n.old) (N.pen n.new) (N.remains n.new) self.new) }
+        ensures err { OnErr result (self.new ≡ self.old) }
+    {
+        match &self.abort {
+            Some(abort) => {
+                let outs = abort_to(alloc, client, abort)?;
+                Ok(Effects::sent(alloc, outs))
+            }
+            None => match self.signed_abort(alloc, n) {
+                Ok(abort) => {
+                    let outs = abort_to(alloc, client, &abort)?;
+                    self.abort = Some(abort);
+                    self.used += 1;
+                    Ok(Effects::sent(alloc, outs))
+                }
+                Err(SignFault::Spent) => Ok(Effects::none(alloc, true)),
+                Err(SignFault::OutOfMemory) => Err(OutOfMemory),
+            },
+        }
+    }
+}

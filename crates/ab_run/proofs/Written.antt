@@ -1,0 +1,228 @@
+-- What replicas keep and send has bytes.
+use Rattle.std.proofs.Common.{◌≡◌, ℕ, zero, suc, ◌+◌, ◌*◌, ◌<◌, ◌≤◌, true, false, Bool, Some, None, Option, List, [], ◌∷◌, ◌++◌, length, refl, sym, ap, ◌∙◌, subst, inl, inr, arith}
+use Rattle.std.proofs.Math.Dec.{eqb-zero-suc}
+use Rattle.std.specs.Prelude.{Contains, nat_le, nat_lt, ◌==◌, ◌&&◌, if◌then◌else◌}
+use Rattle.std.proofs.lemmas.Bool.{cases_Bool, and_parts, ltb-true}
+use Rattle.std.proofs.lemmas.List.Elements.{All-nil, Contains-append_cases}
+use Rattle.ab_num.specs.declared.cluster.Cluster.{Cluster}
+use Rattle.ab_num.specs.declared.party.Party.TheVariants.{Replica, Client}
+use Rattle.ab_num.specs.declared.plan.Kind.{Kind}
+use Rattle.ab_num.specs.declared.plan.Kind.TheVariants as kind
+use Rattle.ab_num.specs.Places.{kind_of}
+use Rattle.ab_hist.specs.declared.request.Request.{Request}
+use Rattle.ab_msg.specs.declared.content.Content.{Content}
+use Rattle.ab_msg.specs.declared.content.Content.TheVariants.{Abort}
+use Rattle.ab_msg.specs.declared.signed.Signed.{Signed}
+use Rattle.ab_msg.specs.declared.message.Msg.{Msg}
+use Rattle.ab_msg.specs.declared.message.Msg.TheVariants as msg
+use Rattle.ab_msg.specs.declared.message.Offer.TheVariants as offer
+use Rattle.ab_msg.specs.declared.message.Out.{Out}
+use Rattle.ab_msg.specs.Claims.{fresh, maker_of, instance_in}
+use Rattle.ab_msg.specs.Fields.{IsInstance, IsRequest, IsWritten}
+use Rattle.ab_msg.specs.Contents.{IsAbort}
+use Rattle.ab_msg.specs.Certs.{AreAborts, IsSigned}
+use Rattle.ab_msg.specs.Messages.{IsDraft, IsMessage}
+use Rattle.ab_abs.specs.Kinds.{need_of, needs_equal}
+use Rattle.ab_abs.specs.Messages.{Call, took, timed, IsFormed}
+use Rattle.ab_abs.specs.Certificates.{history_of, history_held, history_by, is_whole}
+use Rattle.ab_abs.specs.Ensembles.{Proto, entry_of}
+use Rattle.ab_abs.specs.Places.{KeepsForm, Belongs, begun, called, halted, Arises, IsWrittenEntry, from_entry, by_call, by_stop}
+use Rattle.ab_abs.proofs.Certified.{certificate_written}
+use Rattle.ab_abs.proofs.Drafts.{few_replicas}
+use Rattle.ab_abs.proofs.Statements.{one_of, none_of}
+use Rattle.ab_run.specs.Setups.{Setup, replicas, last_instance}
+use Rattle.ab_run.specs.Replicas.{Rep, Turn, turn_enter, turn_call, turn_halt, turn_sign, turn_bring, turn_abort, after_turn, sent_in_turn, state_at, pen_of, client_of, cert_instance, cert_to, abort_to, brought, aborting, aborting_with, halting, late, here, taken, taken_in, due, due_by, due_with, is_spent, turns}
+use Rattle.ab_run.specs.Runs.{first_rep}
+use Rattle.ab_run.specs.Local.{after_turns, sent_in_turns, rep_after, rep_sends}
+use Rattle.ab_run.specs.Forms.{IsDraftOf, IsWrittenRep, IsWrittenSetup}
+
+-- ---- certificates
+
+some_need : (kd : Kind) (f : ℕ) → 1 ≤ need_of kd f
+some_need kind.Quorum f = omega arith
+some_need kind.ZLight f = omega arith
+some_need kind.Chain f = omega arith
+some_need kind.Backup f = omega arith
+
+none_held : (kd : Kind) (f n : ℕ) (h : List Request) → need_of kd f ≡ n → 1 ≤ n → history_held kd f (Some []) ≡ Some h → ⊥
+none_held kd f zero h need some is = omega (arith, some)
+none_held kd f (suc n) h need some is =
+    let empty : history_held kd f (Some []) ≡ None =
+    ap (λ z. if is_whole z [] then history_by (needs_equal kd) f [] else None) need ∙ ap (λ (b : Bool). if b && true then history_by (needs_equal kd) f [] else None) (eqb-zero-suc n) in
+    let both : None ≡ Some h = sym empty ∙ is in
+    cc (both)
+
+-- an empty one has no history
+some_aborts : (c : Cluster) (j : ℕ) (cert : List Signed) (h : List Request) → history_of c j cert ≡ Some h → 1 ≤ length cert
+some_aborts c j [] h is = absurd (none_held (kind_of c.plan j) c.f (need_of (kind_of c.plan j) c.f) h refl (some_need (kind_of c.plan j) c.f) is)
+some_aborts c j (s ∷ cert) h is = omega arith
+
+brought_aborts : (m : Msg) (cert : List Signed) → IsMessage m → brought m ≡ Some cert → AreAborts 0 7 cert
+brought_aborts (msg.Init aborts) cert of_grammar is =
+    let same : aborts ≡ cert = cc (is) in
+    subst (AreAborts 0 7) same ((omega arith, of_grammar.0.1), of_grammar.1)
+brought_aborts (msg.PrePrepare content tag (offer.Base aborts)) cert of_grammar is = let same : aborts ≡ cert = cc (is) in subst (AreAborts 0 7) same of_grammar.1.1
+brought_aborts (msg.PrePrepare content tag (offer.Request m t)) cert of_grammar is = absurd (cc (is))
+brought_aborts _ cert of_grammar is = absurd (cc (is))
+
+-- ---- the turns of replicas
+
+-- a turn whose parts have bytes
+abbrev pub IsGood : Turn → Type 0
+IsGood (turn_enter j cert h) = (j < last_instance) × (AreAborts 1 7 cert × IsWritten h)
+IsGood (turn_call call) = IsFormed call
+IsGood turn_halt = Unit {0}
+IsGood turn_sign = Unit {0}
+IsGood (turn_bring c) = Unit {0}
+IsGood (turn_abort c) = Unit {0}
+
+abbrev pub AllGood : List Turn → Type 0
+AllGood [] = Unit {0}
+AllGood (t ∷ ts) = IsGood t × AllGood ts
+
+pub good_if : (b : Bool) (ts us : List Turn) → AllGood ts → AllGood us → AllGood (if b then ts else us)
+good_if true ts us one other = one
+good_if false ts us one other = other
+
+aborting_good : (c : ℕ) (o : Option Signed) → AllGood (aborting_with c o)
+aborting_good c None = (tt, (tt, tt))
+aborting_good c (Some abort) = (tt, tt)
+
+module _ {P : Type 0} (k : Setup) (proto : Proto P) where
+  halting_good : (c : ℕ) (s : Rep P) → AllGood (halting k proto c s)
+  halting_good c s =
+      let due = aborting k proto c s in
+      let after = (proto.state (proto.halt s.value)).stopped in
+      good_if (state_at k proto s).stopped due (turn_halt ∷ (if after then due else [])) (aborting_good c s.abort) (tt, good_if after due [] (aborting_good c s.abort) tt)
+
+  here_good : (s : Rep P) (m : Msg) → IsMessage m → AllGood (here k proto s m)
+  here_good s (msg.Req content tags) is =
+      let c = client_of (maker_of content) in
+      good_if (state_at k proto s).stopped (aborting k proto c s) (turn_call (took (msg.Req content tags)) ∷ []) (aborting_good c s.abort) (is, tt)
+  here_good s (msg.Panic content tag) is = halting_good (client_of (maker_of content)) s
+  here_good s _ is = (is, tt)
+
+  late_good : (m : Msg) → AllGood (late m)
+  late_good (msg.Req content tags) = (tt, tt)
+  late_good (msg.Panic content tag) = (tt, tt)
+  late_good _ = tt
+
+  taken_good : (s : Rep P) (m : Msg) (i : Option ℕ) → IsMessage m → AllGood (taken_in k proto s m i)
+  taken_good s m None is = tt
+  taken_good s m (Some i) is = good_if (i == s.at) (here k proto s m) (if nat_lt i s.at then late m else []) (here_good s m is) (good_if (nat_lt i s.at) (late m) [] (late_good m) tt)
+
+  entering_good : (r : ℕ) (s : Rep P) (m : Msg) (j : ℕ) (cert : List Signed) (o : Option (List Request)) → IsMessage m → AreAborts 0 7 cert → history_of k.cluster j cert ≡ o → AllGood (due_with k proto r s m j cert o)
+  entering_good r s m j cert None is aborts valid = taken_good s m (instance_in m) is
+  entering_good r s m j cert (Some h) is aborts valid =
+      let there = after_turn k proto r s (turn_enter j cert h) in
+      let may = nat_le s.at j && nat_lt j last_instance in
+      let some : AreAborts 1 7 cert = ((some_aborts k.cluster j cert h valid, aborts.0.1), aborts.1) in
+      elim (cases_Bool may) [
+        | inl goes ↦
+            subst AllGood (sym (ap (λ (b : Bool). if b then turn_enter j cert h ∷ taken k proto there m else taken k proto s m) goes))
+            ((ltb-true j last_instance (and_parts (nat_le s.at j) (nat_lt j last_instance) goes).1, (some, certificate_written k.cluster j 1 7 cert h some valid)), taken_good there m (instance_in m) is)
+        | inr rests ↦ subst AllGood (sym (ap (λ (b : Bool). if b then turn_enter j cert h ∷ taken k proto there m else taken k proto s m) rests)) (taken_good s m (instance_in m) is)
+      ]
+
+  by_good : (r : ℕ) (s : Rep P) (m : Msg) (o : Option (List Signed)) → IsMessage m → brought m ≡ o → AllGood (due_by k proto r s m o)
+  by_good r s m None is brings = taken_good s m (instance_in m) is
+  by_good r s m (Some cert) is brings = entering_good r s m (cert_instance cert) cert (history_of k.cluster (cert_instance cert) cert) is (brought_aborts m cert is brings) refl
+
+  pub due_good : (r : ℕ) (s : Rep P) (call : Call) → IsFormed call → AllGood (due k proto r s call)
+  due_good r s (took m) is = by_good r s m (brought m) is refl
+  due_good r s timed is = (tt, tt)
+
+-- ---- what is kept and sent
+
+no_requests : IsWritten []
+no_requests = ((omega arith, omega arith), (All-nil (IsRequest 0 15), λ i j d e less. absurd (omega (arith, less))))
+
+module _ {P : Type 0} (proto : Proto P) (serves : Kind → Bool) (c : Cluster) (i r : ℕ) where
+  belongs : (p : P) → Arises proto serves c i r p → Belongs proto serves c i r p
+  belongs p (from_entry e served one lt entry) = begun e served
+  belongs p (by_call pen q call lawful formed was) = called pen q call (belongs q was)
+  belongs p (by_stop q was) = halted q (belongs q was)
+
+  pub placed : (p : P) → Arises proto serves c i r p → IsInstance i
+  placed p (from_entry e served one lt entry) = one
+  placed p (by_call pen q call lawful formed was) = placed q was
+  placed p (by_stop q was) = placed q was
+
+module _ {P : Type 0} (k : Setup) (proto : Proto P) {serves : Kind → Bool} (form : KeepsForm proto serves) (are : IsWrittenSetup k serves) where
+  abbrev pub Stands : ℕ → Rep P → Type 0
+  Stands r s = IsWrittenRep proto serves k.cluster r s
+
+  pub first_written : (r : ℕ) → r < replicas k → Stands r (first_rep k proto r)
+  first_written r lt =
+      let entry : IsWrittenEntry (entry_of [] None) = record { base = no_requests; cert = λ cert is. absurd (cc (is)) } in
+      record { arises = from_entry (entry_of [] None) (are.serves_all 1 (omega arith)) (omega arith, omega arith) lt entry; entry = entry; abort = λ v is. absurd (cc (is)) }
+
+  pub abort_written : (r : ℕ) (s : Rep P) → r < replicas k → Stands r s → IsAbort (Abort (Replica r) s.at (state_at k proto s).log)
+  abort_written r s lt was = ((omega arith, few_replicas k.cluster r lt), (placed proto serves k.cluster s.at r s.value was.arises, form.written k.cluster s.at r s.value was.arises))
+
+  pub turn_keeps : (r : ℕ) (t : Turn) (s : Rep P) → r < replicas k → IsGood t → Stands r s → Stands r (after_turn k proto r s t)
+  turn_keeps r (turn_enter j cert h) s lt good was =
+      let entry : IsWrittenEntry (entry_of h (Some cert)) = record { base = good.1.1; cert = λ other is. let same : cert ≡ other = cc (is) in subst (AreAborts 1 7) same good.1.0 } in
+      record {
+        arises = from_entry (entry_of h (Some cert)) (are.serves_all (j + 1) (omega arith)) (omega arith, omega (arith, good.0)) lt entry;
+        entry = entry;
+        abort = λ v is. absurd (cc (is));
+      }
+  turn_keeps r (turn_call call) s lt good was = record { arises = by_call (pen_of k proto r s) s.value call (λ q n. are.signs r q n lt) good was.arises; entry = was.entry; abort = was.abort }
+  turn_keeps r turn_halt s lt good was = record { arises = by_stop s.value was.arises; entry = was.entry; abort = was.abort }
+  turn_keeps r turn_sign s lt good was = record {
+    arises = was.arises;
+    entry = was.entry;
+    abort = λ v is.
+        let signed : Signed = record { maker = r; content = Abort (Replica r) s.at (state_at k proto s).log; sig = k.sig r (Abort (Replica r) s.at (state_at k proto s).log) s.used } in
+        let same : signed ≡ v = cc (is) in
+        subst (λ (w : Signed). IsSigned IsAbort w × (maker_of w.content ≡ Replica r)) same
+        ((refl, (abort_written r s lt was, are.signs r (Abort (Replica r) s.at (state_at k proto s).log) s.used lt)), refl);
+  }
+  turn_keeps r (turn_bring c) s lt good was = was
+  turn_keeps r (turn_abort c) s lt good was = was
+
+  cert_drafts : (r c : ℕ) (o : Option (List Signed)) → ((cert : List Signed) → o ≡ Some cert → AreAborts 1 7 cert) → (out : Out) → Contains (cert_to c o) out → IsDraftOf k.cluster.f (Replica r) out
+  cert_drafts r c None all out has = absurd (none_of out has)
+  cert_drafts r c (Some cert) all out has =
+      let sent : Out = record { to = Client c; msg = msg.Init cert } in
+      subst (IsDraftOf k.cluster.f (Replica r)) (one_of sent out has) (record { draft = all cert refl; own = λ q gone. absurd (none_of q gone) })
+
+  abort_drafts : (r c : ℕ) (o : Option Signed) → ((v : Signed) → o ≡ Some v → IsSigned IsAbort v × (maker_of v.content ≡ Replica r)) → (out : Out) → Contains (abort_to c o) out → IsDraftOf k.cluster.f (Replica r) out
+  abort_drafts r c None all out has = absurd (none_of out has)
+  abort_drafts r c (Some v) all out has =
+      let sent : Out = record { to = Client c; msg = msg.Abort v } in
+      let is = all v refl in
+      subst (IsDraftOf k.cluster.f (Replica r)) (one_of sent out has) (record { draft = is.0; own = λ q at. subst (λ (z : Content). maker_of z ≡ Replica r) (one_of v.content q at) is.1 })
+
+  pub turn_drafts : (r : ℕ) (t : Turn) (s : Rep P) → r < replicas k → IsGood t → Stands r s → (o : Out) → Contains (sent_in_turn k proto r s t) o → IsDraftOf k.cluster.f (Replica r) o
+  turn_drafts r (turn_enter j cert h) s lt good was o has = absurd (none_of o has)
+  turn_drafts r (turn_call call) s lt good was o has = record {
+    draft = form.drafts k.cluster s.at r (pen_of k proto r s) s.value call (λ q n. are.signs r q n lt) was.arises good o has;
+    own = λ q at. (form.own k.cluster s.at r (pen_of k proto r s) s.value call o q (belongs proto serves k.cluster s.at r s.value was.arises) has at).0;
+  }
+  turn_drafts r turn_halt s lt good was o has = absurd (none_of o has)
+  turn_drafts r turn_sign s lt good was o has = absurd (none_of o has)
+  turn_drafts r (turn_bring c) s lt good was o has = cert_drafts r c s.entry.cert was.entry.cert o has
+  turn_drafts r (turn_abort c) s lt good was o has = abort_drafts r c s.abort was.abort o has
+
+  -- where turns leave a replica that stands so, and what it sends in them
+  pub record Goes (r : ℕ) (now : Rep P) (sent : List Out) : Type 0 where
+    pub stands : Stands r now
+    pub drafts : (o : Out) → Contains sent o → IsDraftOf k.cluster.f (Replica r) o
+
+  turns_go : (r : ℕ) (ts : List Turn) (s : Rep P) → r < replicas k → AllGood ts → Stands r s → Goes r (after_turns k proto r s ts) (sent_in_turns k proto r s ts)
+  turns_go r [] s lt good was = record { stands = was; drafts = λ o gone. absurd (none_of o gone) }
+  turns_go r (t ∷ ts) s lt good was =
+      let rest = turns_go r ts (after_turn k proto r s t) lt good.1 (turn_keeps r t s lt good.0 was) in
+      record {
+        stands = rest.stands;
+        drafts = λ o has. elim (Contains-append_cases (sent_in_turn k proto r s t) (sent_in_turns k proto r (after_turn k proto r s t) ts) o has) [
+          | inl now ↦ turn_drafts r t s lt good.0 was o now
+          | inr later ↦ rest.drafts o later
+        ];
+      }
+
+  pub call_goes : (r : ℕ) (s : Rep P) (call : Call) → r < replicas k → IsFormed call → Stands r s → Goes r (rep_after k proto r s call) (rep_sends k proto r s call)
+  call_goes r s call lt formed was =
+      turns_go r (turns k proto r s call) s lt (good_if (is_spent k proto r s call) [] (due k proto r s call) tt (due_good k proto r s call formed)) was

@@ -1,0 +1,53 @@
+//! The signature key of one replica.
+
+ghost use Rattle.std.specs.Prelude.{◌≡◌, ◌<◌, IfOk};
+ghost use Rattle.ab_lms.specs.Signatures.{Verifies};
+ghost use Rattle.ab_sign.specs.Signers.{leaves_in, public_in, signature_in};
+
+use crate::secret::SecretKey;
+use ab_num::{Height, OutOfMemory};
+use std::alloc::Global;
+
+/// What is kept of a replica's key: the secret, or the public key alone.
+#[derive(Drop)]
+pub enum SignKey {
+    Secret(SecretKey),
+    Public([u8; 56]),
+}
+
+impl SignKey {
+    /// The public key.
+    pub fn public(&self) -> [u8; 56]
+        ensures { result ≡ public_in self.now }
+    {
+        match self {
+            SignKey::Secret(key) => key.public(),
+            SignKey::Public(bytes) => *bytes,
+        }
+    }
+
+    /// How many signatures it can make.
+    pub fn leaves(&self) -> u64
+        ensures { result ≡ leaves_in self.now }
+    {
+        match self {
+            SignKey::Secret(key) => match key.height() {
+                Height::Five => 32,
+                Height::Ten => 1024,
+            },
+            SignKey::Public(_) => 0,
+        }
+    }
+
+    /// The signature of `msg` by leaf `q`.
+    pub fn sign_at(&self, alloc: Global, q: u64, msg: &[u8]) -> Result<Vec<u8>, OutOfMemory>
+        requires { q < leaves_in self.now }
+        ensures signature { IfOk result (λ v. v.items ≡ signature_in self.now q msg.now) }
+        ensures verifies { IfOk result (λ v. Verifies (public_in self.now) msg.now v.items) }
+    {
+        match self {
+            SignKey::Secret(key) => key.sign_at(alloc, q, msg),
+            SignKey::Public(_) => unreachable!(),
+        }
+    }
+}
