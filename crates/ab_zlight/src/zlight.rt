@@ -17,7 +17,7 @@ use ab_hist::{History, Request};
 use ab_msg::{Content, Msg, NO_TAG, Notary, Out, Outs, Tag};
 use ab_num::{Cluster, Kind, OutOfMemory, Party};
 use ab_svc::Service;
-use ab_wire::{MsgRef, TagRef};
+use ab_wire::{MsgRef, TagRef, tag_among};
 use std::alloc::Global;
 use std::marker::Model;
 
@@ -57,12 +57,10 @@ fn again<'a, P: Part<'a>>(list: &ListRef<'a, P>) -> ListRef<'a, P>
 fn client_tag<'a>(came: ListRef<'a, TagRef<'a>>, replica: u8) -> Tag
     ensures { result ≡ unwrap_or (tag_in replica (tags_of came.entry)) (replicate 32 0) }
 {
-    'tags: for entry in came {
-        if entry.replica == replica {
-            return *entry.tag;
-        }
+    match tag_among(came, replica) {
+        Some(tag) => *tag,
+        None => NO_TAG,
     }
-    NO_TAG
 }
 
 impl<S: Service> ZLight<S> {
