@@ -2,5 +2,8 @@
 pub mod ReceiverLemmas
 pub mod DraftLemmas
 pub mod ChainLemmas
+pub mod PlaceLemmas
+pub mod PassedLemmas
+pub mod SealedLemmas
 pub mod OpenLemmas
 pub mod LawLemmas

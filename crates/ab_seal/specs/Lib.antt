@@ -3,3 +3,4 @@ pub mod Receivers
 pub mod Checks
 pub mod Opening
 pub mod Sealing
+pub mod Carried

@@ -9,6 +9,7 @@ mod fault;
 mod laws;
 mod opening;
 mod receivers;
+mod sealed;
 mod sealing;
 mod stated;
 mod tags;
@@ -22,6 +23,7 @@ pub use laws::{
     opened_messages_are_of_the_grammar, own_statements_are_refused,
 };
 pub use opening::open;
+pub use sealed::{drafts_are_sealed_as_messages, sealed_messages_are_right};
 pub use sealing::seal;
 pub use stated::Stated;
 
