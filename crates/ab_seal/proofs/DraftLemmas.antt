@@ -169,7 +169,7 @@ own-fits ring (Replica r) i m n d reply few by goes = at-own ring i m n d reply 
 own-fits ring (Client c) i m n d reply few by goes = (omega arith, none-fit)
 
 -- a party of a cluster is one of the grammar
-party-fits : (f clients : ℕ) (p : Party) → f ≤ 2 → clients ≤ 16 → IsTrue (is_party f clients p) → IsParty p
+pub party-fits : (f clients : ℕ) (p : Party) → f ≤ 2 → clients ≤ 16 → IsTrue (is_party f clients p) → IsParty p
 party-fits f clients (Replica r) few many h = (omega arith, omega (arith, ltb-true r (3 * f + 1) h))
 party-fits f clients (Client c) few many h = (omega arith, omega (arith, ltb-true c clients h))
 

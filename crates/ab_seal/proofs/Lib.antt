@@ -1,6 +1,7 @@
 -- Lemmas of this crate.
 pub mod ReceiverLemmas
 pub mod DraftLemmas
+pub mod FreshLemmas
 pub mod ChainLemmas
 pub mod PlaceLemmas
 pub mod PassedLemmas

@@ -1,5 +1,5 @@
 -- Messages with the tags of their makers.
-use Rattle.std.specs.Prelude.{◌≡◌, ℕ, ◌+◌, ◌-◌, ◌*◌, min, nat_lt, List, [], ◌∷◌, ◌++◌, map, replicate, unwrap_or, Option, None, Some, if◌then◌else◌}
+use Rattle.std.specs.Prelude.{◌≡◌, ℕ, ◌+◌, ◌-◌, ◌*◌, min, nat_lt, Bool, true, false, List, [], ◌∷◌, ◌++◌, map, replicate, unwrap_or, Option, None, Some, if◌then◌else◌}
 use Rattle.std.specs.List.{Contains, range_with_len}
 use Rattle.arrayvec.specs.ArrayVec.{ArrayVec}
 use Rattle.ab_num.specs.declared.party.Party.{Party}
@@ -74,6 +74,16 @@ tagged ring to (msg.Abort abort) = msg.Abort abort
 tagged ring to (msg.Init cert) = msg.Init cert
 tagged ring to (msg.Prepare prepare) = msg.Prepare prepare
 tagged ring to (msg.ViewChange change) = msg.ViewChange change
+
+-- whether its tags are the same whoever it goes to: each of them names the one for whom it is, or there are only signatures
+abbrev pub is_for_all : Msg → Bool
+is_for_all (msg.Req content tags) = true
+is_for_all (msg.Chain i m n d reply tags) = true
+is_for_all (msg.Abort abort) = true
+is_for_all (msg.Init cert) = true
+is_for_all (msg.Prepare prepare) = true
+is_for_all (msg.ViewChange change) = true
+is_for_all _ = false
 
 -- whatever in the message needs the tag or the signature of its sender p, p states
 abbrev pub IsOwn : ℕ → Party → Msg → Type 0

@@ -23,7 +23,9 @@ pub use laws::{
     opened_messages_are_of_the_grammar, own_statements_are_refused,
 };
 pub use opening::open;
-pub use sealed::{drafts_are_sealed_as_messages, sealed_messages_are_right};
+pub use sealed::{
+    drafts_are_sealed_as_messages, is_for_all, one_seal_for_all, sealed_messages_are_right,
+};
 pub use sealing::seal;
 pub use stated::Stated;
 

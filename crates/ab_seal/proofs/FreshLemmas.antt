@@ -1,0 +1,116 @@
+-- What a draft states anew is of the grammar, and for whom its bytes are the same.
+use Rattle.std.proofs.Common.{◌≡◌, ℕ, ◌+◌, ◌*◌, ◌≤◌, leb, ltb, cond, Bool, true, false, IsTrue, List, [], ◌∷◌, length, All, Option, None, Some, refl, arith}
+use Rattle.std.proofs.lemmas.Bool.{false≢true}
+use Rattle.std.proofs.lemmas.List.Elements.{All-cons}
+use Rattle.arrayvec.specs.ArrayVec.{ArrayVec}
+use Rattle.ab_num.specs.declared.party.Party.{Party}
+use Rattle.ab_num.specs.declared.party.Party.TheVariants.{Replica, Client}
+use Rattle.ab_num.specs.Bounds.{IsInBounds}
+use Rattle.ab_num.specs.Places.{position_in}
+use Rattle.ab_hist.specs.declared.request.Request.{Request}
+use Rattle.ab_form.specs.Formats.{IsWithin}
+use Rattle.ab_form.specs.Lists.{FitsInside}
+use Rattle.ab_keys.specs.Keys.{is_party}
+use Rattle.ab_keys.specs.Rings.{Ring}
+use Rattle.ab_msg.specs.declared.content.Content.{Content}
+use Rattle.ab_msg.specs.declared.content.Content.TheVariants.{Req, Order, Resp, ChainTag, Panic, Abort, PrePrepare, Prepare, Commit, ViewChange, NewView}
+use Rattle.ab_msg.specs.declared.message.Msg.{Msg}
+use Rattle.ab_msg.specs.declared.message.Msg.TheVariants as msg
+use Rattle.ab_msg.specs.Claims.{fresh, passed_at}
+use Rattle.ab_msg.specs.Fields.{IsInstance, IsParty, IsReply, IsRequest}
+use Rattle.ab_msg.specs.Contents.{IsAbort, IsChainTag, IsChange, IsCommit, IsContent, IsNewView, IsOrder, IsPanic, IsPrePrepare, IsPrepare, IsReq, IsResp}
+use Rattle.ab_msg.specs.Messages.{IsDraft}
+use Rattle.ab_seal.specs.Sealing.{is_for_all, tagged}
+use Rattle.ab_seal.proofs.DraftLemmas.{party-fits}
+
+of-req : (c : Content) → IsReq c → IsContent c
+of-req (Req maker i m) h = h
+of-req c h = absurd h
+
+of-order : (c : Content) → IsOrder c → IsContent c
+of-order (Order maker i n m) h = h
+of-order c h = absurd h
+
+of-resp : (c : Content) → IsResp c → IsContent c
+of-resp (Resp maker i client stamp n d reply) h = h
+of-resp c h = absurd h
+
+of-panic : (c : Content) → IsPanic c → IsContent c
+of-panic (Panic maker i) h = h
+of-panic c h = absurd h
+
+of-abort : (c : Content) → IsAbort c → IsContent c
+of-abort (Abort maker i history) h = h
+of-abort c h = absurd h
+
+of-pre_prepare : (c : Content) → IsPrePrepare c → IsContent c
+of-pre_prepare (PrePrepare maker i view slot x) h = h
+of-pre_prepare c h = absurd h
+
+of-prepare : (c : Content) → IsPrepare c → IsContent c
+of-prepare (Prepare maker i view slot x) h = h
+of-prepare c h = absurd h
+
+of-commit : (c : Content) → IsCommit c → IsContent c
+of-commit (Commit maker i view slot x) h = h
+of-commit c h = absurd h
+
+of-change : (c : Content) → IsChange c → IsContent c
+of-change (ViewChange maker i view entries) h = h
+of-change c h = absurd h
+
+of-new_view : (c : Content) → IsNewView c → IsContent c
+of-new_view (NewView maker i view) h = h
+of-new_view c h = absurd h
+
+nothing : All IsContent []
+nothing = λ k d lt. absurd (omega (arith, lt))
+
+alone : (c : Content) → IsContent c → All IsContent (c ∷ [])
+alone c h = All-cons IsContent c [] h nothing
+
+-- one of three lists
+one-of-three : (late last : Bool) (tag answer : Content) → IsContent tag → IsContent answer
+    → All IsContent (cond late (tag ∷ []) (cond last (tag ∷ answer ∷ []) (answer ∷ [])))
+one-of-three true last tag answer h g = alone tag h
+one-of-three false true tag answer h g = All-cons IsContent tag (answer ∷ []) h (alone answer g)
+one-of-three false false tag answer h g = alone answer g
+
+passed-fits : (f i : ℕ) (m : Request) (n : ℕ) (d : List ℕ) (reply : Option (ArrayVec ℕ)) (r p : ℕ) → IsWithin 0 6 r → IsInstance i → IsRequest 0 15 m → IsWithin 1 1024 n → length d ≡ 32
+    → FitsInside IsReply reply → All IsContent (passed_at f i m n d reply r p)
+passed-fits f i m n d None r p by at asks within long short = alone (ChainTag (Replica r) i m.client m.stamp n d) (by, (at, (asks.0, (asks.1.0, (within, long)))))
+passed-fits f i m n d (Some reply) r p by at asks within long short =
+    one-of-three (leb p (2 * f)) (ltb p (3 * f + 1)) (ChainTag (Replica r) i m.client m.stamp n d) (Resp (Replica r) i m.client m.stamp n d reply)
+    (by, (at, (asks.0, (asks.1.0, (within, long))))) (by, (at, (asks.0, (asks.1.0, (within, (long, short))))))
+
+pub fresh-fits : (f clients : ℕ) (p : Party) (m : Msg) → IsInBounds f clients → IsTrue (is_party f clients p) → IsDraft m → All IsContent (fresh f p m)
+fresh-fits f clients p (msg.Req content tags) bounds party h = alone content (of-req content h)
+fresh-fits f clients p (msg.Order content client_tag tag) bounds party h = alone content (of-order content h.0)
+fresh-fits f clients p (msg.Resp content tag) bounds party h = alone content (of-resp content h)
+fresh-fits f clients (Replica r) (msg.Chain i m n d reply tags) bounds party h =
+    passed-fits f i m n d reply r (position_in f i r) (party-fits f clients (Replica r) bounds.few_faulty bounds.few_clients party) h.0 h.1.0 h.1.1.0 h.1.1.1.0 h.1.1.1.1.0
+fresh-fits f clients (Client c) (msg.Chain i m n d reply tags) bounds party h = nothing
+fresh-fits f clients p (msg.Panic content tag) bounds party h = alone content (of-panic content h)
+fresh-fits f clients p (msg.Abort abort) bounds party h = alone abort.content (of-abort abort.content h.1.0)
+fresh-fits f clients p (msg.Init cert) bounds party h = nothing
+fresh-fits f clients p (msg.PrePrepare content tag offer) bounds party h = alone content (of-pre_prepare content h.0)
+fresh-fits f clients p (msg.Prepare prepare) bounds party h = alone prepare.content (of-prepare prepare.content h.1.0)
+fresh-fits f clients p (msg.Commit content tag) bounds party h = alone content (of-commit content h)
+fresh-fits f clients p (msg.ViewChange change) bounds party h = alone change.change.content (of-change change.change.content h.0.1.0)
+fresh-fits f clients p (msg.NewView content tag changes) bounds party h = alone content (of-new_view content h.0)
+
+-- ---- the same for all
+
+pub same-tags : (ring : Ring) (a b : Party) (m : Msg) → is_for_all m ≡ true → tagged ring a m ≡ tagged ring b m
+same-tags ring a b (msg.Req content tags) e = refl
+same-tags ring a b (msg.Order content client_tag tag) e = absurd (false≢true e)
+same-tags ring a b (msg.Resp content tag) e = absurd (false≢true e)
+same-tags ring a b (msg.Chain i m n d reply tags) e = refl
+same-tags ring a b (msg.Panic content tag) e = absurd (false≢true e)
+same-tags ring a b (msg.Abort abort) e = refl
+same-tags ring a b (msg.Init cert) e = refl
+same-tags ring a b (msg.PrePrepare content tag offer) e = absurd (false≢true e)
+same-tags ring a b (msg.Prepare prepare) e = refl
+same-tags ring a b (msg.Commit content tag) e = absurd (false≢true e)
+same-tags ring a b (msg.ViewChange change) e = refl
+same-tags ring a b (msg.NewView content tag changes) e = absurd (false≢true e)
