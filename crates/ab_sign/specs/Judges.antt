@@ -14,6 +14,11 @@ abbrev pub is_sig_from : List SignKey → Party → List ℕ → List ℕ → Bo
 is_sig_from keys (Replica r) text sig = verified (public_of keys r) text sig
 is_sig_from keys (Client c) text sig = false
 
+-- what tags and signatures are checked by
+pub record Checking : Type 0 where
+  pub ring : Ring
+  pub keys : List SignKey
+
 -- by the ring of a party and the replicas' signature keys
 abbrev pub judge_of : Ring → List SignKey → Judge
 judge_of ring keys maker text (by_tag tag) = is_tag_from ring maker text tag

@@ -56,6 +56,12 @@ signature_of keys r n text = signature_at (slice_get keys r) n text
 abbrev pub pen_of : List SignKey → ℕ → ℕ → Pen
 pen_of keys r used = record { used = used; sig = λ content n. signature_of keys r n (spell_content content) }
 
+-- the keys, a replica that signs by its own, and how often it has signed
+pub record Signing : Type 0 where
+  pub keys : List SignKey
+  pub replica : ℕ
+  pub used : ℕ
+
 -- ---- by a seed
 
 abbrev pub derived_key : Height → List ℕ → ℕ → SignKey

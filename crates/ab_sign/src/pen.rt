@@ -9,6 +9,7 @@ use ab_msg::{Content, Notary, Sig, SignFault};
 use ab_num::OutOfMemory;
 use ab_write::content_bytes;
 use std::alloc::Global;
+use std::marker::Model;
 
 /// Replica `replica` with the leaves of its tree that `used` leaves over. How many are used is a number
 /// of its own, so that cores of one replica share the tree.
@@ -19,12 +20,19 @@ pub struct Pen<'a> {
     used: u64,
 }
 
+/// It is seen as the keys, the replica and how often it has signed.
+impl<'a> Model for Pen<'a> {
+    ghost use Rattle.ab_sign.specs.Signers.{Signing};
+
+    ghost Value = { Signing };
+
+    ghost view = { λ p. record { keys = p.signers.now; replica = p.replica; used = p.used } };
+}
+
 impl<'a> Pen<'a> {
     /// A replica that has signed so often.
     pub fn new(signers: &'a Signers, replica: u8, used: u64) -> Pen<'a>
-        ensures signers { result.signers.now ≡ signers.now }
-        ensures replica { result.replica ≡ replica }
-        ensures used { result.used ≡ used }
+        ensures { result ≡ record { keys = signers.now; replica = replica; used = used } }
     {
         Pen {
             signers,
@@ -42,8 +50,8 @@ impl<'a> Pen<'a> {
 
     /// The signature of a content by the next leaf.
     fn next(&self, alloc: Global, c: &Content) -> Result<Sig, OutOfMemory>
-        requires { self.now.used < leaves_of self.now.signers.now self.now.replica }
-        ensures { IfOk result (λ s. s ≡ signature_of self.now.signers.now self.now.replica self.now.used (spell_content c.now)) }
+        requires { self.now.used < leaves_of self.now.keys self.now.replica }
+        ensures { IfOk result (λ s. s ≡ signature_of self.now.keys self.now.replica self.now.used (spell_content c.now)) }
     {
         let text = content_bytes(alloc, c)?;
         let sig = self.signers.sign_at(alloc, self.replica, self.used, &text)?;
@@ -55,9 +63,9 @@ impl Notary for Pen<'_> {
     ghost use Rattle.std.specs.Prelude.{◌-◌};
     ghost use Rattle.ab_sign.specs.Signers.{leaves_of, pen_of};
 
-    ghost pen = { λ p. pen_of p.signers.now p.replica p.used };
+    ghost pen = { λ p. pen_of p.keys p.replica p.used };
 
-    ghost remains = { λ p. leaves_of p.signers.now p.replica - p.used };
+    ghost remains = { λ p. leaves_of p.keys p.replica - p.used };
 
     fn left(&self) -> u64 {
         self.signers.leaves(self.replica).saturating_sub(self.used)

@@ -4,12 +4,50 @@ use crate::{Pen, SecretKey, SignKey, Signers, Verifier};
 use ab_check::Checker;
 use ab_keys::KeyRing;
 use ab_lms::verify;
+use ab_mac::hash;
 use ab_msg::{Content, Notary};
 use ab_num::{Cluster, Height, Party, Plan};
 use ab_write::content_bytes;
 use std::test::Fail;
 
 const SEED: [u8; 32] = [0; 32];
+
+/// The digest of the empty base.
+const BASE: [u8; 32] = [
+    0xad, 0xb6, 0x39, 0x7f, 0xd2, 0xc3, 0xce, 0x52, 0xa7, 0xaf, 0xeb, 0xde, 0xd9, 0xdd, 0x2d, 0x39,
+    0x68, 0xce, 0x7d, 0x94, 0x52, 0xe0, 0x18, 0x59, 0xb3, 0x97, 0x5e, 0xc0, 0xfe, 0x60, 0x36, 0x71,
+];
+
+/// The digest of replica 0's first signature, over its PREPARE of the empty base in slot 0, as an
+/// independent implementation made it.
+const FIRST: [u8; 32] = [
+    0x98, 0xad, 0x56, 0x6c, 0xf9, 0xd6, 0x41, 0x6d, 0x02, 0xe8, 0xea, 0xba, 0x92, 0x93, 0x14, 0xff,
+    0xd7, 0x5e, 0x3f, 0xd9, 0xd1, 0xcd, 0x64, 0x15, 0xf5, 0x33, 0x23, 0x25, 0xb0, 0x5f, 0x78, 0x15,
+];
+
+fn prepare(replica: u8) -> Content {
+    Content::Prepare {
+        maker: Party::Replica(replica),
+        instance: 1,
+        view: 0,
+        slot: 0,
+        x: BASE,
+    }
+}
+
+#[test]
+fn signs_as_others_do(rt: HostRuntime) -> Result<(), Fail> {
+    let Some(cluster) = Cluster::new(1, 1, Plan::Backup) else {
+        return Ok(());
+    };
+    let signers = Signers::derive(rt.alloc(), &cluster, Height::Five, &SEED)?;
+    let mut pen = Pen::new(&signers, 0, 0);
+    let Ok(sig) = pen.sign(rt.alloc(), &prepare(0)) else {
+        return Ok(());
+    };
+    assert_eq!(rt; hash(sig.as_slice()), FIRST);
+    Ok(())
+}
 
 #[test]
 fn signed_and_checked(rt: HostRuntime) -> Result<(), Fail> {
@@ -19,13 +57,7 @@ fn signed_and_checked(rt: HostRuntime) -> Result<(), Fail> {
     let signers = Signers::derive(rt.alloc(), &cluster, Height::Five, &SEED)?;
     let ring = KeyRing::derive(rt.alloc(), &cluster, &SEED, Party::Client(0))?;
     let mut pen = Pen::new(&signers, 1, 31);
-    let content = Content::Prepare {
-        maker: Party::Replica(1),
-        instance: 1,
-        view: 0,
-        slot: 0,
-        x: [7; 32],
-    };
+    let content = prepare(1);
     let text = content_bytes(rt.alloc(), &content)?;
     let Ok(sig) = pen.sign(rt.alloc(), &content) else {
         return Ok(());
