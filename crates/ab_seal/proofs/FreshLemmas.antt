@@ -16,7 +16,7 @@ use Rattle.ab_msg.specs.declared.content.Content.{Content}
 use Rattle.ab_msg.specs.declared.content.Content.TheVariants.{Req, Order, Resp, ChainTag, Panic, Abort, PrePrepare, Prepare, Commit, ViewChange, NewView}
 use Rattle.ab_msg.specs.declared.message.Msg.{Msg}
 use Rattle.ab_msg.specs.declared.message.Msg.TheVariants as msg
-use Rattle.ab_msg.specs.Claims.{fresh, passed_at}
+use Rattle.ab_msg.specs.Claims.{fresh, maker_of, passed_at}
 use Rattle.ab_msg.specs.Fields.{IsInstance, IsParty, IsReply, IsRequest}
 use Rattle.ab_msg.specs.Contents.{IsAbort, IsChainTag, IsChange, IsCommit, IsContent, IsNewView, IsOrder, IsPanic, IsPrePrepare, IsPrepare, IsReq, IsResp}
 use Rattle.ab_msg.specs.Messages.{IsDraft}
@@ -114,3 +114,8 @@ same-tags ring a b (msg.Prepare prepare) e = refl
 same-tags ring a b (msg.Commit content tag) e = absurd (false≢true e)
 same-tags ring a b (msg.ViewChange change) e = refl
 same-tags ring a b (msg.NewView content tag changes) e = absurd (false≢true e)
+
+-- who makes the one content that is stated makes all that is
+pub only-made : (c : Content) (p : Party) → maker_of c ≡ p → (s : Content) → Contains (c ∷ []) s → maker_of s ≡ p
+only-made c p by s (zero, has) = ap maker_of (sym has.1) ∙ by
+only-made c p by s (suc k, has) = absurd (omega (arith, has.0))

@@ -122,8 +122,8 @@ adds-ahead ring r s i m n d reply j mine some few lt near back same =
     let by : Replica (at_position_of f i q) ≡ Replica r = ap Replica at in (
       by,
       ap (λ (w : Party). tag_between w (Replica s) (own_tags ring (Replica r) i m n d reply)) (by ∙ sym mine)
-      ∙ found-first ring.me (Replica s) (forward_tags ring i (said r) (position_in f i r)) behind (tag_made ring (Replica s) (said r)) ahead
-      ∙ ap (λ x. there (tag_made ring (Replica s) (said x))) (sym at),
+          ∙ found-first ring.me (Replica s) (forward_tags ring i (said r) (position_in f i r)) behind (tag_made ring (Replica s) (said r)) ahead
+          ∙ ap (λ x. there (tag_made ring (Replica s) (said x))) (sym at),
     )
 
 adds-asked : (ring : Ring) (r i : ℕ) (m : Request) (b : Party) (own : List TagBetween) → Adds ring (Replica r) b own (asked i m)
@@ -148,10 +148,10 @@ adds-answer ring r x i m n d reply j mine some few goes near same =
     let by : Replica (at_position_of f i q) ≡ Replica r = ap Replica at in (
       by,
       ap (λ (w : Party). tag_between w (Client x) (own_tags ring (Replica r) i m n d (Some reply))) (by ∙ sym mine)
-      ∙ found-later ring.me (Client x) ahead (answer_tags ring i m n d (Some reply) r (position_in f i r)) (not-forward ring passed (at_position_of f i) x (range_with_len (position_in f i r + 1) (reach_of f (position_in f i r))))
-      ∙ ap (λ t. tag_between ring.me (Client x) (cond t mine_for [])) late
-      ∙ for-client ring (said r) m.client x goes
-      ∙ ap (λ y. there (tag_made ring (Client x) (said y))) (sym at),
+          ∙ found-later ring.me (Client x) ahead (answer_tags ring i m n d (Some reply) r (position_in f i r)) (not-forward ring passed (at_position_of f i) x (range_with_len (position_in f i r + 1) (reach_of f (position_in f i r))))
+          ∙ ap (λ t. tag_between ring.me (Client x) (cond t mine_for [])) late
+          ∙ for-client ring (said r) m.client x goes
+          ∙ ap (λ y. there (tag_made ring (Client x) (said y))) (sym at),
     )
 
 no-claims : (P : Content → Type 0) → All P []
@@ -194,13 +194,13 @@ chain-right f clients plan seed r b judge met i m n d reply came goes none carri
     let others : All (λ c. Other (before c)) claims = mapped Other before claims (kept Right (λ k. not (party_eq (maker_of k.content) (Replica r))) (map before claims) carried) in
     let adds = adds-each ring r b i m n d reply clients came refl met.bounds.some_faulty met.bounds.few_faulty met.taker goes in
     All-map Right after claims (λ k c lt.
-      let x = get_or claims k c in
-      cases (party_eq (maker_of x) (Replica r)) (Right (after x))
-      (λ same.
-        let add = adds k c lt same in
-        let none-came : tag_between (maker_of x) b came ≡ missing = ap (λ w. tag_between w b came) add.0 ∙ none in
-        made-right f clients plan seed (Replica r) b judge met x (tag_between (maker_of x) b (came ++ own)) add.0 (found-later (maker_of x) b came own none-came ∙ add.1))
-      (λ other. unchanged f clients plan seed (Replica r) b judge met x came own (tag_between (maker_of x) b came) refl (others k c lt (not_from_false _ other))))
+    let x = get_or claims k c in
+    cases (party_eq (maker_of x) (Replica r)) (Right (after x))
+    (λ same.
+    let add = adds k c lt same in
+    let none-came : tag_between (maker_of x) b came ≡ missing = ap (λ w. tag_between w b came) add.0 ∙ none in
+    made-right f clients plan seed (Replica r) b judge met x (tag_between (maker_of x) b (came ++ own)) add.0 (found-later (maker_of x) b came own none-came ∙ add.1))
+    (λ other. unchanged f clients plan seed (Replica r) b judge met x came own (tag_between (maker_of x) b came) refl (others k c lt (not_from_false _ other))))
 
 -- ---- any message
 

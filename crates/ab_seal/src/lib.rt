@@ -19,8 +19,8 @@ pub use claimed::Claims;
 pub use claiming::claims;
 pub use fault::OpenFault;
 pub use laws::{
-    contents_have_their_own_bytes, opened_messages_are_checked,
-    opened_messages_are_of_the_grammar, own_statements_are_refused,
+    contents_have_their_own_bytes, opened_messages_are_checked, opened_messages_are_of_the_grammar,
+    own_statements_are_refused,
 };
 pub use opening::open;
 pub use sealed::{
@@ -29,5 +29,7 @@ pub use sealed::{
 pub use sealing::seal;
 pub use stated::Stated;
 
+#[cfg(test)]
+mod opening_tests;
 #[cfg(test)]
 mod tests;

@@ -59,7 +59,11 @@ fn seal_tagged(
 }
 
 /// A request with tags for its receivers.
-fn seal_request(alloc: Global, k: &KeyRing, content: &Content) -> Result<Vec<u8>, OutOfMemory>
+pub(crate) fn seal_request(
+    alloc: Global,
+    k: &KeyRing,
+    content: &Content,
+) -> Result<Vec<u8>, OutOfMemory>
     requires { IsReq content.now }
     ensures { IfOk result (λ v. v.items ≡ u8_bytes 1 ++ (spell_content content.now ++ spell_tags (made_tags k.now (instance_of content.now) (spell_content content.now)))) }
 {
@@ -125,7 +129,7 @@ fn seal_new_view(
 }
 
 /// A request on its way along a chain, with the tags that came and those of the ring's party.
-fn seal_chain(
+pub(crate) fn seal_chain(
     alloc: Global,
     k: &KeyRing,
     l: &Link<'_>,
@@ -182,7 +186,9 @@ pub fn seal(alloc: Global, k: &KeyRing, o: &Out) -> Result<Vec<u8>, OutOfMemory>
         Msg::PrePrepare { content, offer, .. } => seal_pre_prepare(alloc, k, o.to, content, offer),
         Msg::Commit { content, .. } => seal_tagged(alloc, k, o.to, 10, content),
         Msg::NewView {
-            content, changes, ..
+            content,
+            changes,
+            ..
         } => seal_new_view(alloc, k, o.to, content, changes),
         Msg::Abort { .. } => write(alloc, &o.msg),
         Msg::Init { .. } => write(alloc, &o.msg),
