@@ -6,5 +6,3 @@ pub mod ChainLemmas
 pub mod PlaceLemmas
 pub mod PassedLemmas
 pub mod SealedLemmas
-pub mod OpenLemmas
-pub mod LawLemmas

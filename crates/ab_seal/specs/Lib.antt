@@ -1,6 +1,4 @@
 -- The definitions that the contracts of this crate cite.
 pub mod Receivers
-pub mod Checks
-pub mod Opening
 pub mod Sealing
 pub mod Carried

@@ -12,8 +12,8 @@ ghost use Rattle.ab_msg.specs.declared.message.Out.{Out as Sent};
 ghost use Rattle.ab_msg.specs.Carried.{goes_to};
 ghost use Rattle.ab_msg.specs.Claims.{fresh};
 ghost use Rattle.ab_msg.specs.Contents.{IsContent};
-ghost use Rattle.ab_msg.specs.Messages.{IsDraft as IsUntagged, IsMessage as IsWhole};
-ghost use Rattle.ab_check.specs.Checks.{Judge, by_tag, checks_of as all_checks_of, is_right as is_found_right};
+ghost use Rattle.ab_msg.specs.Messages.{IsDraft, IsMessage};
+ghost use Rattle.ab_check.specs.Checks.{Judge, by_tag, checks_of, is_right};
 ghost use Rattle.ab_seal.specs.Carried.{IsFor, carried_checks};
 ghost use Rattle.ab_seal.specs.Sealing.{IsOwn, is_for_all, sealed, tagged};
 
@@ -22,9 +22,9 @@ use ab_msg::Msg;
 /// With its tags a draft is a message of the grammar, of at most 4,194,304 bytes, and what its sender
 /// states anew is of the grammar.
 pub fn drafts_are_sealed_as_messages()
-    ensures grammar { (ring : Ring) (to : Party) (m : Message) → IsInBounds ring.f ring.clients → IsTrue (is_party ring.f ring.clients ring.me) → IsUntagged m → IsWhole (tagged ring to m) }
-    ensures size { (ring : Ring) (o : Sent) → IsInBounds ring.f ring.clients → IsTrue (is_party ring.f ring.clients ring.me) → IsUntagged o.msg → length (sealed ring o) ≤ 4194304 }
-    ensures contents { (f clients : ℕ) (p : Party) (m : Message) → IsInBounds f clients → IsTrue (is_party f clients p) → IsUntagged m → All IsContent (fresh f p m) }
+    ensures grammar { (ring : Ring) (to : Party) (m : Message) → IsInBounds ring.f ring.clients → IsTrue (is_party ring.f ring.clients ring.me) → IsDraft m → IsMessage (tagged ring to m) }
+    ensures size { (ring : Ring) (o : Sent) → IsInBounds ring.f ring.clients → IsTrue (is_party ring.f ring.clients ring.me) → IsDraft o.msg → length (sealed ring o) ≤ 4194304 }
+    ensures contents { (f clients : ℕ) (p : Party) (m : Message) → IsInBounds f clients → IsTrue (is_party f clients p) → IsDraft m → All IsContent (fresh f p m) }
 {}
 
 /// Whether a message has the same bytes whoever it goes to, so that it is sealed once for all.
@@ -53,8 +53,8 @@ pub fn one_seal_for_all()
 pub fn sealed_messages_are_right()
     ensures { (f clients : ℕ) (plan : Plan) (seed : List ℕ) (a b : Party) (judge : Judge) (m : Message)
         → IsInBounds f clients → IsTrue (is_party f clients a) → IsTrue (is_party f clients b) → IsTrue (exchanges a b)
-        → IsUntagged m → IsOwn f a m → IsTrue (goes_to m b) → IsFor plan f a b m
+        → IsDraft m → IsOwn f a m → IsTrue (goes_to m b) → IsFor plan f a b m
         → ((maker : Party) (text : List ℕ) (tag : Option (List ℕ)) → judge maker text (by_tag tag) ≡ is_tag_from (ring_of f clients plan seed b) maker text tag)
-        → All (λ k. IsTrue (is_found_right judge k)) (carried_checks f a b m)
-        → All (λ k. IsTrue (is_found_right judge k)) (all_checks_of f b (tagged (ring_of f clients plan seed a) b m)) }
+        → All (λ k. IsTrue (is_right judge k)) (carried_checks f a b m)
+        → All (λ k. IsTrue (is_right judge k)) (checks_of f b (tagged (ring_of f clients plan seed a) b m)) }
 {}
