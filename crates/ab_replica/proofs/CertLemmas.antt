@@ -87,3 +87,8 @@ module _ (c : Cluster) (j : ℕ) where
         unless_sound (history_of c j cert) refl (λ is. let two : None ≡ Some i = sym is.1 ∙ (foreign i refl).1 in absurd (cc (two)))
     fault_has_none Unequal memory count signer foreign unequal = sym (unequal refl).1
     fault_has_none OutOfMemory memory count signer foreign unequal = absurd (memory refl)
+
+-- whether its signers are of the cluster, as it is asked
+pub members_are : (replicas n : ℕ) (slice cert : List Signed) (b t : Bool) → b ≡ list_all (λ s. nat_lt s.maker n) slice → n ≡ replicas → slice ≡ cert → b ≡ t → list_all (λ s. nat_lt s.maker replicas) cert ≡ t
+members_are replicas n slice cert b t all same whole is =
+    ap (λ (l : List Signed). list_all (λ s. nat_lt s.maker replicas) l) (sym whole) ∙ ap (λ m. list_all (λ s. nat_lt s.maker m) slice) (sym same) ∙ sym all ∙ is

@@ -3,25 +3,18 @@
 ghost use Rattle.std.specs.Prelude.{◌≡◌, ◌-◌, ◌≤◌, ◌∷◌, [], IfOk, length, reverse};
 ghost use Rattle.std.specs.Option.{option_map};
 ghost use Rattle.ab_num.specs.declared.party.Party.TheVariants.{Replica};
-ghost use Rattle.ab_abs.specs.Certificates.{history_eq};
 ghost use Rattle.ab_abs.specs.declared.seen.Seen.TheVariants.{Init, Cert};
 ghost use Rattle.ab_run.specs.Replicas.{accepted_marks, new_first, same_first};
 
 use ab_abs::{Marks, Seen};
+use ab_extract::is_same;
 use ab_hist::History;
 use ab_num::{OutOfMemory, Party};
 use std::alloc::Global;
 
-/// Whether the two are equal.
-fn is_same(a: &History, b: &History) -> bool
-    ensures { result ≡ history_eq a.now b.now }
-{
-    a.entries() == b.entries()
-}
-
 /// Whether the old one is there and equal.
 fn is_old(old: Option<&History>, h: &History) -> bool
-    ensures { result ≡ same_first (option_map (λ g. g.now) old) h.now }
+    ensures { result ≡ same_first (option_map (λ g. g.now) old.entry) h.now }
 {
     match old {
         Some(g) => is_same(g, h),
@@ -35,7 +28,7 @@ pub(crate) fn newly<'a>(
     new: Option<&'a History>,
     base: &History,
 ) -> Option<&'a History>
-    ensures { option_map (λ h. h.now) result ≡ new_first (option_map (λ g. g.now) old) (option_map (λ h. h.now) new.entry) base.now }
+    ensures { option_map (λ h. h.now) result ≡ new_first (option_map (λ g. g.now) old.entry) (option_map (λ h. h.now) new.entry) base.now }
 {
     let h = new?;
     if is_old(old, h) || is_same(h, base) {

@@ -28,7 +28,7 @@ pub(crate) fn cert_to(
     client: u16,
     cert: Option<&AbortCert>,
 ) -> Result<Outs, OutOfMemory>
-    ensures { IfOk result (λ outs. outs ≡ cert_to client (option_map (λ c. c.now) cert)) }
+    ensures { IfOk result (λ outs. outs ≡ cert_to client (option_map (λ c. c.now) cert.entry)) }
 {
     let Some(cert) = cert else {
         return Ok(Outs::new(alloc));

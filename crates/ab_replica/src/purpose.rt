@@ -1,16 +1,12 @@
 //! What a message asks of a replica.
 
-ghost use Rattle.std.specs.Prelude.{◌≡◌, All, IfSome};
-ghost use Rattle.std.specs.Option.{option_map};
-ghost use Rattle.ab_msg.specs.Certs.{IsSigned};
-ghost use Rattle.ab_msg.specs.Contents.{IsAbort};
-ghost use Rattle.ab_wire.specs.Views.{IsReceived, aborts, message};
-ghost use Rattle.ab_run.specs.Replicas.{brought, client_of};
+ghost use Rattle.std.specs.Prelude.{◌≡◌};
+ghost use Rattle.ab_wire.specs.Views.{message};
+ghost use Rattle.ab_run.specs.Replicas.{client_of};
 ghost use Rattle.ab_replica.specs.Purposes.{purpose_of};
 
-use ab_form::ListRef;
 use ab_num::Party;
-use ab_wire::{MsgRef, OfferRef, SignedRef};
+use ab_wire::{MsgRef, OfferRef};
 
 /// What a message asks for, as far as a replica looks before its protocol does.
 #[derive(Clone, Copy, Debug, PartialEq, Eq)]
@@ -35,8 +31,8 @@ fn client_of(party: Party) -> u16
 }
 
 /// What the message asks for.
-pub(crate) fn purpose_of(m: MsgRef<'_>) -> Purpose
-    ensures { result ≡ purpose_of (message m.entry) }
+pub(crate) fn purpose_of(m: &MsgRef<'_>) -> Purpose
+    ensures { result ≡ purpose_of (message m.now) }
 {
     match m {
         MsgRef::Req { content, .. } => Purpose::Request(client_of(content.maker())),
@@ -46,20 +42,5 @@ pub(crate) fn purpose_of(m: MsgRef<'_>) -> Purpose
             ..
         } => Purpose::Base,
         _ => Purpose::Other,
-    }
-}
-
-/// The certificate that the message brings.
-pub(crate) fn brought<'a>(m: MsgRef<'a>) -> Option<ListRef<'a, SignedRef<'a>>>
-    ensures brought { option_map aborts result ≡ brought (message m.entry) }
-    ensures formed { IsReceived m.entry → IfSome result (λ l. All (IsSigned IsAbort) (aborts l)) }
-{
-    match m {
-        MsgRef::Init { cert } => Some(cert),
-        MsgRef::PrePrepare {
-            offer: OfferRef::Base(cert),
-            ..
-        } => Some(cert),
-        _ => None,
     }
 }

@@ -11,16 +11,15 @@ ghost use Rattle.ab_abs.specs.Ensembles.{entry_of};
 ghost use Rattle.ab_abs.specs.Messages.{took, timed, offered};
 ghost use Rattle.ab_run.specs.Setups.{Setup};
 ghost use Rattle.ab_run.specs.Runs.{first_rep};
-ghost use Rattle.ab_run.specs.Replicas.{aborting, brought, halting, here, late, taken, turn_call};
+ghost use Rattle.ab_run.specs.Replicas.{aborting, halting, here, late, taken, turn_call};
 ghost use Rattle.ab_replica.specs.Sites.{IsPenAfter, IsPenOf, IsSetupOf, Site, setup_of, timer_number};
 ghost use Rattle.ab_replica.specs.Doings.{Does, Hears, entering};
-ghost use Rattle.ab_replica.specs.Crossings.{crossing_in};
 
 use crate::accepted::{accepted_marks, init_marks, newly};
 use crate::answers::{abort_to, cert_to};
-use crate::crossing::{Crossing, crossing_by};
+use crate::crossing::{Crossing, crossing_in};
 use crate::effects::Effects;
-use crate::purpose::{Purpose, brought, purpose_of};
+use crate::purpose::{Purpose, purpose_of};
 use ab_abs::{Entry, Protocol, StepFault};
 use ab_hist::History;
 use ab_msg::{Content, Notary, SignFault, Signed};
@@ -151,10 +150,10 @@ impl<S: Service, P: Protocol<S>> Replica<S, P> {
 
     /// Takes a message that was read from bytes. After an `Err` it is as before; `n` may then have made
     /// signatures that nobody has seen, and so it may where the event is spent.
-    pub fn on<N: Notary>(
+    pub fn on<'a, N: Notary>(
         &mut self,
         alloc: Global,
-        m: MsgRef<'_>,
+        m: MsgRef<'a>,
         n: &mut N,
     ) -> Result<Effects, OutOfMemory>
         requires received { IsReceived m }
@@ -163,7 +162,8 @@ impl<S: Service, P: Protocol<S>> Replica<S, P> {
         ensures pen { IfOk result (λ e. e.spent ≡ false → IsPenAfter (N.pen n.old) (N.pen n.new) (N.remains n.new) self.new) }
         ensures err { OnErr result (self.new ≡ self.old) }
     {
-        match self.crossing(alloc, m)? {
+        let next = crossing_in(alloc, &self.cluster, self.instance, &m)?;
+        match next {
             Some(next) => self.enter(alloc, next, m, n),
             None => self.take(alloc, m, n),
         }
@@ -184,17 +184,6 @@ impl<S: Service, P: Protocol<S>> Replica<S, P> {
             }
             Err(StepFault::Spent) => Ok(Effects::none(alloc, true)),
             Err(StepFault::OutOfMemory) => Err(OutOfMemory),
-        }
-    }
-
-    /// Where the certificate that a message brings leads it.
-    fn crossing(&self, alloc: Global, m: MsgRef<'_>) -> Result<Option<Crossing>, OutOfMemory>
-        requires { IsReceived m }
-        ensures { IfOk result (λ o. o ≡ crossing_in self.now.cluster self.now.rep.at (brought (message m.entry))) }
-    {
-        match brought(m) {
-            Some(cert) => crossing_by(alloc, &self.cluster, self.instance, cert),
-            None => Ok(None),
         }
     }
 
@@ -219,11 +208,11 @@ impl<S: Service, P: Protocol<S>> Replica<S, P> {
     }
 
     /// Enters another instance and takes the message there. Where that is spent, it hasn't entered.
-    fn enter<N: Notary>(
+    fn enter<'a, N: Notary>(
         &mut self,
         alloc: Global,
         next: Crossing,
-        m: MsgRef<'_>,
+        m: MsgRef<'a>,
         n: &mut N,
     ) -> Result<Effects, OutOfMemory>
         requires higher { self.old.rep.at < next.instance }
@@ -245,10 +234,10 @@ impl<S: Service, P: Protocol<S>> Replica<S, P> {
     }
 
     /// Takes a message in the present instance.
-    fn take<N: Notary>(
+    fn take<'a, N: Notary>(
         &mut self,
         alloc: Global,
-        m: MsgRef<'_>,
+        m: MsgRef<'a>,
         n: &mut N,
     ) -> Result<Effects, OutOfMemory>
         requires received { IsReceived m }
@@ -260,14 +249,14 @@ impl<S: Service, P: Protocol<S>> Replica<S, P> {
     {
         match m.instance() {
             Some(i) if i == self.instance => self.here(alloc, m, n),
-            Some(i) if i < self.instance => self.late(alloc, m),
+            Some(i) if i < self.instance => self.late(alloc, &m),
             _ => Ok(Effects::none(alloc, false)),
         }
     }
 
     /// Answers a client that is in an earlier instance with the certificate by which it entered.
-    fn late(&self, alloc: Global, m: MsgRef<'_>) -> Result<Effects, OutOfMemory>
-        ensures does { (pen : Pen) → self.now.rep.used ≤ self.now.signatures → IfOk result (λ e. Does P.proto pen self.now (late (message m.entry)) self.now e.outs e.marks.items e.spent) }
+    fn late(&self, alloc: Global, m: &MsgRef<'_>) -> Result<Effects, OutOfMemory>
+        ensures does { (pen : Pen) → self.now.rep.used ≤ self.now.signatures → IfOk result (λ e. Does P.proto pen self.now (late (message m.now)) self.now e.outs e.marks.items e.spent) }
         ensures few { IfOk result (λ e. length e.marks.items ≤ 2) }
     {
         match purpose_of(m) {
@@ -280,10 +269,10 @@ impl<S: Service, P: Protocol<S>> Replica<S, P> {
     }
 
     /// Takes a message of the present instance.
-    fn here<N: Notary>(
+    fn here<'a, N: Notary>(
         &mut self,
         alloc: Global,
-        m: MsgRef<'_>,
+        m: MsgRef<'a>,
         n: &mut N,
     ) -> Result<Effects, OutOfMemory>
         requires received { IsReceived m }
@@ -293,7 +282,7 @@ impl<S: Service, P: Protocol<S>> Replica<S, P> {
         ensures pen { IfOk result (λ e. e.spent ≡ false → IsPenAfter (N.pen n.old) (N.pen n.new) (N.remains n.new) self.new) }
         ensures err { OnErr result (self.new ≡ self.old) }
     {
-        match purpose_of(m) {
+        match purpose_of(&m) {
             Purpose::Request(client) => self.request(alloc, client, m, n),
             Purpose::Panic(client) => self.halting(alloc, client, n),
             Purpose::Base => self.offered(alloc, m, n),
@@ -302,11 +291,11 @@ impl<S: Service, P: Protocol<S>> Replica<S, P> {
     }
 
     /// Takes a client's request of the present instance.
-    fn request<N: Notary>(
+    fn request<'a, N: Notary>(
         &mut self,
         alloc: Global,
         client: u16,
-        m: MsgRef<'_>,
+        m: MsgRef<'a>,
         n: &mut N,
     ) -> Result<Effects, OutOfMemory>
         requires received { IsReceived m }
@@ -353,10 +342,10 @@ impl<S: Service, P: Protocol<S>> Replica<S, P> {
     }
 
     /// Its protocol takes a message that offers no base.
-    fn call<N: Notary>(
+    fn call<'a, N: Notary>(
         &mut self,
         alloc: Global,
-        m: MsgRef<'_>,
+        m: MsgRef<'a>,
         n: &mut N,
     ) -> Result<Effects, OutOfMemory>
         requires received { IsReceived m }
@@ -381,10 +370,10 @@ impl<S: Service, P: Protocol<S>> Replica<S, P> {
     /// Its protocol takes a message that offers a base. A copy takes it first, so that what was
     /// accepted before can be told from what is accepted then, and a refused allocation leaves all as
     /// it was.
-    fn offered<N: Notary>(
+    fn offered<'a, N: Notary>(
         &mut self,
         alloc: Global,
-        m: MsgRef<'_>,
+        m: MsgRef<'a>,
         n: &mut N,
     ) -> Result<Effects, OutOfMemory>
         requires received { IsReceived m }
