@@ -1,5 +1,6 @@
 -- What turns leave, send and show.
-use Rattle.std.proofs.Common.{◌≡◌, ℕ, zero, suc, ◌+◌, ◌<◌, ◌≤◌, Bool, true, false, Option, None, Some, List, [], ◌∷◌, ◌++◌, length, nat_lt, if◌then◌else◌, reverse, count_by, refl, sym, ap, subst, ◌∙◌, arith, add-zero, append-nil}
+use Rattle.std.proofs.Common.{◌≡◌, ℕ, zero, suc, ◌+◌, ◌-◌, ◌<◌, ◌≤◌, Bool, true, false, Option, None, Some, Result, Ok, Err, List, [], ◌∷◌, ◌++◌, length, nat_lt, if◌then◌else◌, reverse, refl, sym, ap, subst, ◌∙◌, arith, add-zero, append-nil}
+use Rattle.std.specs.Prelude.{IfOk}
 use Rattle.std.proofs.lemmas.Bool.{ltb-true}
 use Rattle.std.proofs.lemmas.Bool.Decides.{nat_tests}
 use Rattle.ab_num.specs.declared.party.Party.TheVariants.{Replica, Client}
@@ -15,39 +16,41 @@ use Rattle.ab_msg.specs.Pens.{Pen, moved}
 use Rattle.ab_abs.specs.declared.seen.Seen.{Seen}
 use Rattle.ab_abs.specs.declared.seen.Seen.TheVariants.{Init, Cert}
 use Rattle.ab_abs.specs.declared.entry.Entry.{Entry}
-use Rattle.ab_abs.specs.Ensembles.{Proto}
+use Rattle.ab_abs.specs.Ensembles.{Proto, entry_of}
 use Rattle.ab_abs.specs.Messages.{Call, took, timed, offered}
 use Rattle.ab_run.specs.Setups.{Setup}
-use Rattle.ab_run.specs.Replicas.{Rep, Turn, turn_enter, turn_call, turn_halt, turn_sign, turn_bring, turn_abort, accepted, accepted_marks, if_offered, new_first, called, abort_content, abort_to, cert_to, aborting, aborting_with, halting, after_turn, state_at, pen_of, wanted, due}
+use Rattle.ab_run.specs.Replicas.{Rep, Turn, turn_enter, turn_call, turn_halt, turn_sign, turn_bring, turn_abort, accepted, accepted_marks, if_offered, new_first, called, abort_content, abort_to, cert_to, aborting, aborting_with, halting, after_turn, state_at, pen_of, wanted, taken, due}
 use Rattle.ab_run.specs.Local.{after_turns, sent_in_turns, marks_in_turns}
 use Rattle.ab_replica.specs.Sites.{Site, IsSetupOf, IsPenOf, IsPenAfter, setup_of}
-use Rattle.ab_replica.specs.Doings.{Does, Hears, are_spent, unless_spent, is_entry}
+use Rattle.ab_replica.specs.declared.crossing.Crossing.{Crossing}
+use Rattle.ab_replica.specs.declared.effects.Effects.{Effects}
+use Rattle.ab_replica.specs.Doings.{Does, Hears, entering, are_spent, unless_spent, entries_in}
 
-not_not_above : (a b : ℕ) → nat_lt a b ≡ false → b ≤ a
-not_above a b e = grind (arith, nat_tests)
-
-below : (a b : ℕ) → b ≤ a → nat_lt a b ≡ false
+not_below : (a b : ℕ) → b ≤ a → nat_lt a b ≡ false
 not_below a b le = grind (arith, nat_tests)
+
+not_above : (a b : ℕ) → nat_lt a b ≡ false → b ≤ a
+not_above a b e = grind (arith, nat_tests)
 
 below : (a b : ℕ) → a < b → nat_lt a b ≡ true
 below a b lt = grind (arith, nat_tests)
 
 -- the pen of a replica is the one that a run gives it
-pub pen_is : {P : Type 0} (pen : Pen) (s : Site P) → pen.used ≡ s.rep.used → pen ≡ pen_of (setup_of s pen) s.me s.rep
-pen_is pen s e = ap (λ n. let p : Pen = record { used = n; sig = pen.sig } in p) e
+pub pen_is : {P : Type 0} (proto : Proto P) (pen : Pen) (s : Site P) → pen.used ≡ s.rep.used → pen ≡ pen_of (setup_of s pen) proto s.me s.rep
+pen_is proto pen s e = ap (λ n. let p : Pen = record { used = n; sig = pen.sig } in p) e
 
 module _ {P : Type 0} (proto : Proto P) (pen : Pen) (s : Site P) where
   -- turns for which enough signatures are left are taken
   pub does_all : (ts : List Turn) (now : Site P) (outs : List Out) (marks : List Seen)
       → s.rep.used + wanted (setup_of s pen) proto s.me s.rep ts ≤ s.signatures
-      → now ≡ record s { rep = after_turns (setup_of s pen) proto s.me s.rep ts; entries = s.entries + count_by is_entry ts }
+      → now ≡ record s { rep = after_turns (setup_of s pen) proto s.me s.rep ts; entries = s.entries + entries_in ts }
       → outs ≡ sent_in_turns (setup_of s pen) proto s.me s.rep ts
       → marks ≡ marks_in_turns (setup_of s pen) proto s.me s.rep ts
       → Does proto pen s ts now outs marks false
   does_all ts now outs marks fits after sends shows =
       let e = not_below s.signatures (s.rep.used + wanted (setup_of s pen) proto s.me s.rep ts) fits in
       record {
-        after = subst (λ (b : Bool). now ≡ record s { rep = after_turns (setup_of s pen) proto s.me s.rep (if b then [] else ts); entries = s.entries + count_by is_entry (if b then [] else ts) }) (sym e) after;
+        after = subst (λ (b : Bool). now ≡ record s { rep = after_turns (setup_of s pen) proto s.me s.rep (if b then [] else ts); entries = s.entries + entries_in (if b then [] else ts) }) (sym e) after;
         sends = subst (λ (b : Bool). outs ≡ sent_in_turns (setup_of s pen) proto s.me s.rep (if b then [] else ts)) (sym e) sends;
         shows = subst (λ (b : Bool). marks ≡ marks_in_turns (setup_of s pen) proto s.me s.rep (if b then [] else ts)) (sym e) shows;
         spends = sym e;
@@ -61,7 +64,7 @@ module _ {P : Type 0} (proto : Proto P) (pen : Pen) (s : Site P) where
   does_none ts over =
       let e = below s.signatures (s.rep.used + wanted (setup_of s pen) proto s.me s.rep ts) over in
       record {
-        after = subst (λ (b : Bool). s ≡ record s { rep = after_turns (setup_of s pen) proto s.me s.rep (if b then [] else ts); entries = s.entries + count_by is_entry (if b then [] else ts) }) (sym e) same_site;
+        after = subst (λ (b : Bool). s ≡ record s { rep = after_turns (setup_of s pen) proto s.me s.rep (if b then [] else ts); entries = s.entries + entries_in (if b then [] else ts) }) (sym e) same_site;
         sends = subst (λ (b : Bool). [] ≡ sent_in_turns (setup_of s pen) proto s.me s.rep (if b then [] else ts)) (sym e) refl;
         shows = subst (λ (b : Bool). [] ≡ marks_in_turns (setup_of s pen) proto s.me s.rep (if b then [] else ts)) (sym e) refl;
         spends = sym e;
@@ -77,30 +80,6 @@ module _ {P : Type 0} (proto : Proto P) (pen : Pen) (s : Site P) where
       (subst (λ (os : List Out). Does proto pen s ts s os marks spent) (sym silent)
       (subst (λ (ms : List Seen). Does proto pen s ts s [] ms spent) (sym unseen) does))
 
-  -- ---- an ABORT
-
-  pub aborts_again : (c : ℕ) (a : Signed) → s.rep.abort ≡ Some a → s.rep.used ≤ s.signatures → Does proto pen s (aborting (setup_of s pen) proto c s.rep) s (abort_to c (Some a)) [] false
-  aborts_again c a e fits =
-      subst (λ (o : Option Signed). Does proto pen s (aborting_with c o) s (abort_to c (Some a)) [] false) (sym e)
-      (does_all (turn_abort c ∷ []) s (abort_to c (Some a)) [] (omega arith) same_site (ap (λ o. abort_to c o ++ []) (sym e)) refl)
-
-  -- its ABORT as it signs it
-  abbrev pub own_abort : Signed
-  own_abort = record { maker = s.me; content = abort_content (setup_of s pen) proto s.me s.rep; sig = pen.sig (abort_content (setup_of s pen) proto s.me s.rep) s.rep.used }
-
-  pub aborts_first : (c : ℕ) (a : Signed) → s.rep.abort ≡ None → s.rep.used < s.signatures → a ≡ own_abort
-      → Does proto pen s (aborting (setup_of s pen) proto c s.rep) (record s { rep = record s.rep { abort = Some a; used = s.rep.used + 1 } }) (abort_to c (Some a)) [] false
-  aborts_first c a e less is =
-      let now : Signed → Site P = λ b. record s { rep = record s.rep { abort = Some b; used = s.rep.used + 1 } } in
-      subst (λ (o : Option Signed). Does proto pen s (aborting_with c o) (now a) (abort_to c (Some a)) [] false) (sym e)
-      (subst (λ (b : Signed). Does proto pen s (turn_sign ∷ turn_abort c ∷ []) (now b) (abort_to c (Some b)) [] false) (sym is)
-      (does_all (turn_sign ∷ turn_abort c ∷ []) (now own_abort) (abort_to c (Some own_abort)) [] (omega arith)
-      (ap (λ n. let t : Site P = record (now own_abort) { entries = n } in t) (sym (add-zero s.entries))) refl refl))
-
-  pub aborts_spent : (c : ℕ) → s.rep.abort ≡ None → s.rep.used ≡ s.signatures → Does proto pen s (aborting (setup_of s pen) proto c s.rep) s [] [] true
-  aborts_spent c e full =
-      subst (λ (o : Option Signed). Does proto pen s (aborting_with c o) s [] [] true) (sym e) (does_none (turn_sign ∷ turn_abort c ∷ []) (omega arith))
-
   -- ---- a call
 
   pub calls : (call : Call) (now : Site P) (outs : List Out) (marks : List Seen) → pen.used ≡ s.rep.used
@@ -110,29 +89,27 @@ module _ {P : Type 0} (proto : Proto P) (pen : Pen) (s : Site P) where
       → marks ≡ reverse (accepted_marks s.rep.at s.me (accepted (setup_of s pen) proto s.me s.rep call))
       → Does proto pen s (turn_call call ∷ []) now outs marks false
   calls call now outs marks same fits after sends shows =
-      let p = pen_is pen s same in
+      let p = pen_is proto pen s same in
       let next : Pen → Site P = λ q. record s { rep = record s.rep { value = proto.after q s.rep.value call; used = s.rep.used + length (proto.signs s.rep.value call) } } in
       does_all (turn_call call ∷ []) now outs marks (omega arith)
-      (after ∙ ap next p ∙ ap (λ n. let t : Site P = record (next (pen_of (setup_of s pen) s.me s.rep)) { entries = n } in t) (sym (add-zero s.entries)))
-      (sends ∙ ap (λ q. proto.sends q s.rep.value call) p ∙ sym (append-nil (proto.sends (pen_of (setup_of s pen) s.me s.rep) s.rep.value call)))
+      (after ∙ ap next p ∙ ap (λ n. let t : Site P = record (next (pen_of (setup_of s pen) proto s.me s.rep)) { entries = n } in t) (sym (add-zero s.entries)))
+      (sends ∙ ap (λ q. proto.sends q s.rep.value call) p ∙ sym (append-nil (proto.sends (pen_of (setup_of s pen) proto s.me s.rep) s.rep.value call)))
       (shows ∙ sym (append-nil (reverse (accepted_marks s.rep.at s.me (accepted (setup_of s pen) proto s.me s.rep call)))))
 
-  -- what a call would accept if it offered a base
-  abbrev accepted_by : Call → Option (List Request)
-  accepted_by call = new_first (state_at (setup_of s pen) proto s.rep).first (proto.state (called (setup_of s pen) proto s.me s.rep call)).first s.rep.entry.base
-
-  -- one that offers no base shows nothing
-  pub calls_without : (call : Call) (now : Site P) (outs : List Out) → offered call ≡ None → pen.used ≡ s.rep.used
+  -- one that offers a base
+  pub calls_offer : (call : Call) (cert : List Signed) (now : Site P) (outs : List Out) (marks : List Seen) → offered call ≡ Some cert → pen.used ≡ s.rep.used
       → s.rep.used + length (proto.signs s.rep.value call) ≤ s.signatures
       → now ≡ record s { rep = record s.rep { value = proto.after pen s.rep.value call; used = s.rep.used + length (proto.signs s.rep.value call) } }
       → outs ≡ proto.sends pen s.rep.value call
-      → Does proto pen s (turn_call call ∷ []) now outs [] false
-  calls_without call now outs none same fits after sends =
-      calls call now outs [] same fits after sends
-      (ap (λ o. reverse (accepted_marks s.rep.at s.me (if_offered o (accepted_by call)))) (sym none))
-
-  pub call_spent : (call : Call) → s.signatures < s.rep.used + length (proto.signs s.rep.value call) → Does proto pen s (turn_call call ∷ []) s [] [] true
-  call_spent call over = does_none (turn_call call ∷ []) (omega arith)
+      → marks ≡ reverse (accepted_marks s.rep.at s.me (new_first (proto.state s.rep.value).first (proto.state now.rep.value).first s.rep.entry.base))
+      → Does proto pen s (turn_call call ∷ []) now outs marks false
+  calls_offer call cert now outs marks offers same fits after sends shows =
+      let first : Pen → Option (List Request) = λ q. new_first (proto.state s.rep.value).first (proto.state (proto.after q s.rep.value call)).first s.rep.entry.base in
+      calls call now outs marks same fits after sends
+      (shows
+      ∙ ap (λ t. reverse (accepted_marks s.rep.at s.me (new_first (proto.state s.rep.value).first (proto.state t.rep.value).first s.rep.entry.base))) after
+      ∙ ap (λ q. reverse (accepted_marks s.rep.at s.me (first q))) (pen_is proto pen s same)
+      ∙ ap (λ o. reverse (accepted_marks s.rep.at s.me (if_offered o (first (pen_of (setup_of s pen) proto s.me s.rep))))) (sym offers))
 
   -- ---- what was done, by whether it was spent
 
@@ -146,14 +123,14 @@ module _ {P : Type 0} (proto : Proto P) (pen : Pen) (s : Site P) where
   was_spent ts now outs marks does =
       let e : are_spent proto (setup_of s pen) s ts ≡ true = sym does.spends in
       record {
-        stays = subst (λ (b : Bool). now ≡ record s { rep = after_turns (setup_of s pen) proto s.me s.rep (if b then [] else ts); entries = s.entries + count_by is_entry (if b then [] else ts) }) e does.after ∙ sym same_site;
+        stays = subst (λ (b : Bool). now ≡ record s { rep = after_turns (setup_of s pen) proto s.me s.rep (if b then [] else ts); entries = s.entries + entries_in (if b then [] else ts) }) e does.after ∙ sym same_site;
         silent = subst (λ (b : Bool). outs ≡ sent_in_turns (setup_of s pen) proto s.me s.rep (if b then [] else ts)) e does.sends;
         unseen = subst (λ (b : Bool). marks ≡ marks_in_turns (setup_of s pen) proto s.me s.rep (if b then [] else ts)) e does.shows;
         over = ltb-true s.signatures (s.rep.used + wanted (setup_of s pen) proto s.me s.rep ts) e;
       }
 
   pub record WasTaken (ts : List Turn) (now : Site P) (outs : List Out) (marks : List Seen) : Type 0 where
-    pub after : now ≡ record s { rep = after_turns (setup_of s pen) proto s.me s.rep ts; entries = s.entries + count_by is_entry ts }
+    pub after : now ≡ record s { rep = after_turns (setup_of s pen) proto s.me s.rep ts; entries = s.entries + entries_in ts }
     pub sends : outs ≡ sent_in_turns (setup_of s pen) proto s.me s.rep ts
     pub shows : marks ≡ marks_in_turns (setup_of s pen) proto s.me s.rep ts
     pub fits : s.rep.used + wanted (setup_of s pen) proto s.me s.rep ts ≤ s.signatures
@@ -162,90 +139,11 @@ module _ {P : Type 0} (proto : Proto P) (pen : Pen) (s : Site P) where
   was_taken ts now outs marks does =
       let e : are_spent proto (setup_of s pen) s ts ≡ false = sym does.spends in
       record {
-        after = subst (λ (b : Bool). now ≡ record s { rep = after_turns (setup_of s pen) proto s.me s.rep (if b then [] else ts); entries = s.entries + count_by is_entry (if b then [] else ts) }) e does.after;
+        after = subst (λ (b : Bool). now ≡ record s { rep = after_turns (setup_of s pen) proto s.me s.rep (if b then [] else ts); entries = s.entries + entries_in (if b then [] else ts) }) e does.after;
         sends = subst (λ (b : Bool). outs ≡ sent_in_turns (setup_of s pen) proto s.me s.rep (if b then [] else ts)) e does.sends;
         shows = subst (λ (b : Bool). marks ≡ marks_in_turns (setup_of s pen) proto s.me s.rep (if b then [] else ts)) e does.shows;
         fits = not_above s.signatures (s.rep.used + wanted (setup_of s pen) proto s.me s.rep ts) e;
       }
-
--- ---- a stop
-
-abbrev pub halted : {P : Type 0} → Proto P → Rep P → Rep P
-halted proto q = record q { value = proto.halt q.value }
-
-abbrev pub site_halted : {P : Type 0} → Proto P → Site P → Site P
-site_halted proto s = record s { rep = halted proto s.rep }
-
-module _ {P : Type 0} (proto : Proto P) (k : Setup) (r c : ℕ) (q : Rep P) where
-  halt_wants : (o : Option Signed) → wanted k proto r q (turn_halt ∷ aborting_with c o) ≡ wanted k proto r q (aborting_with c o)
-  halt_wants None = refl
-  halt_wants (Some a) = refl
-
-  -- its ABORT with this log
-  abbrev abort_with : List Request → Signed
-  abort_with h = record { maker = r; content = Abort (Replica r) q.at h; sig = k.sig r (Abort (Replica r) q.at h) q.used }
-
-  module _ (same : (proto.state (proto.halt q.value)).log ≡ (proto.state q.value).log) where
-    halt_after : (o : Option Signed) → halted proto (after_turns k proto r q (aborting_with c o)) ≡ after_turns k proto r q (turn_halt ∷ aborting_with c o)
-    halt_after None = ap (λ h. let t : Rep P = record { at = q.at; value = proto.halt q.value; entry = q.entry; abort = Some (abort_with h); used = q.used + 1 } in t) (sym same)
-    halt_after (Some a) = refl
-
-    halt_sends : (o : Option Signed) → sent_in_turns k proto r q (aborting_with c o) ≡ sent_in_turns k proto r q (turn_halt ∷ aborting_with c o)
-    halt_sends None = ap (λ h. abort_to c (Some (abort_with h)) ++ []) (sym same)
-    halt_sends (Some a) = refl
-
-  halt_shows : (o : Option Signed) → marks_in_turns k proto r q (aborting_with c o) ≡ marks_in_turns k proto r q (turn_halt ∷ aborting_with c o)
-  halt_shows None = refl
-  halt_shows (Some a) = refl
-
-  no_entry : (o : Option Signed) → count_by is_entry (aborting_with c o) ≡ count_by is_entry (turn_halt ∷ aborting_with c o)
-  no_entry None = refl
-  no_entry (Some a) = refl
-
-module _ {P : Type 0} (proto : Proto P) (pen : Pen) (s : Site P) (c : ℕ) where
-  abbrev halting_by : Bool → Bool → List Turn
-  halting_by stopped then = if stopped then aborting (setup_of s pen) proto c s.rep else turn_halt ∷ (if then then aborting (setup_of s pen) proto c s.rep else [])
-
-  -- one that was stopped
-  pub halts_already : (now : Site P) (outs : List Out) (marks : List Seen) (spent : Bool) → (proto.state s.rep.value).stopped ≡ true
-      → Does proto pen s (aborting (setup_of s pen) proto c s.rep) now outs marks spent → Does proto pen s (halting (setup_of s pen) proto c s.rep) now outs marks spent
-  halts_already now outs marks spent stopped does =
-      subst (λ (b : Bool). Does proto pen s (halting_by b (proto.state (proto.halt s.rep.value)).stopped) now outs marks spent) (sym stopped) does
-
-  halting_is : (then : Bool) → (proto.state s.rep.value).stopped ≡ false → (proto.state (proto.halt s.rep.value)).stopped ≡ then → halting (setup_of s pen) proto c s.rep ≡ halting_by false then
-  halting_is then stopped after =
-      ap (λ b. halting_by b (proto.state (proto.halt s.rep.value)).stopped) stopped ∙ ap (halting_by false) after
-
-  -- one whose kind isn't stopped from outside
-  pub halts_still : (proto.state s.rep.value).stopped ≡ false → (proto.state (proto.halt s.rep.value)).stopped ≡ false → s.rep.used ≤ s.signatures
-      → Does proto pen s (halting (setup_of s pen) proto c s.rep) (site_halted proto s) [] [] false
-  halts_still stopped after fits =
-      subst (λ (ts : List Turn). Does proto pen s ts (site_halted proto s) [] [] false) (sym (halting_is false stopped after))
-      (does_all proto pen s (turn_halt ∷ []) (site_halted proto s) [] [] (omega arith) (ap (λ n. let t : Site P = record (site_halted proto s) { entries = n } in t) (sym (add-zero s.entries))) refl refl)
-
-  pub halts_spent : (now : Site P) (outs : List Out) (marks : List Seen) → (proto.state s.rep.value).stopped ≡ false → (proto.state (proto.halt s.rep.value)).stopped ≡ true
-      → Does proto pen s (aborting (setup_of s pen) proto c s.rep) now outs marks true → Does proto pen s (halting (setup_of s pen) proto c s.rep) now outs marks true
-  halts_spent now outs marks stopped after does =
-      let was = was_spent proto pen s _ now outs marks does in
-      let wants = halt_wants proto (setup_of s pen) s.me c s.rep s.rep.abort in
-      subst (λ (ts : List Turn). Does proto pen s ts now outs marks true) (sym (halting_is true stopped after))
-      (same_effects proto pen s (turn_halt ∷ aborting (setup_of s pen) proto c s.rep) now outs marks true was.stays was.silent was.unseen
-      (does_none proto pen s (turn_halt ∷ aborting (setup_of s pen) proto c s.rep) (omega (arith, was.over, wants))))
-
-  pub halts_taken : (now : Site P) (outs : List Out) (marks : List Seen) → (proto.state s.rep.value).stopped ≡ false → (proto.state (proto.halt s.rep.value)).stopped ≡ true
-      → (proto.state (proto.halt s.rep.value)).log ≡ (proto.state s.rep.value).log
-      → Does proto pen s (aborting (setup_of s pen) proto c s.rep) now outs marks false → Does proto pen s (halting (setup_of s pen) proto c s.rep) (site_halted proto now) outs marks false
-  halts_taken now outs marks stopped after same does =
-      let was = was_taken proto pen s _ now outs marks does in
-      let k = setup_of s pen in
-      let wants = halt_wants proto k s.me c s.rep s.rep.abort in
-      subst (λ (ts : List Turn). Does proto pen s ts (site_halted proto now) outs marks false) (sym (halting_is true stopped after))
-      (does_all proto pen s (turn_halt ∷ aborting k proto c s.rep) (site_halted proto now) outs marks (omega (arith, was.fits, wants))
-      (ap (site_halted proto) was.after
-      ∙ ap (λ q. let t : Site P = record s { rep = q; entries = s.entries + count_by is_entry (aborting k proto c s.rep) } in t) (halt_after proto k s.me c s.rep same s.rep.abort)
-      ∙ ap (λ n. let t : Site P = record s { rep = after_turns k proto s.me s.rep (turn_halt ∷ aborting k proto c s.rep); entries = s.entries + n } in t) (no_entry proto k s.me c s.rep s.rep.abort))
-      (was.sends ∙ halt_sends proto k s.me c s.rep same s.rep.abort)
-      (was.shows ∙ halt_shows proto k s.me c s.rep s.rep.abort))
 
 -- ---- an entry
 
@@ -265,11 +163,38 @@ module _ {P : Type 0} (proto : Proto P) (pen : Pen) (s : Site P) (j : ℕ) (cert
   enters_taken ts now outs marks does =
       let was = was_taken proto pen there ts now outs marks does in
       let k = setup_of s pen in
-      let more : s.entries + 1 + count_by is_entry ts ≡ s.entries + suc (count_by is_entry ts) = omega arith in
+      let more : s.entries + 1 + entries_in ts ≡ s.entries + (1 + entries_in ts) = omega arith in
       does_all proto pen s (turn_enter j cert h ∷ ts) now outs (Cert j (Replica s.me) h ∷ Init (j + 1) s.me h ∷ marks) (omega (arith, was.fits))
       (was.after ∙ ap (λ n. let t : Site P = record s { rep = after_turns k proto s.me there.rep ts; entries = n } in t) more)
       was.sends
       (ap (λ l. Cert j (Replica s.me) h ∷ Init (j + 1) s.me h ∷ l) was.shows)
+
+  -- the same of one that entered by a crossing
+  abbrev pub entered_by : Crossing → Site P
+  entered_by x = record s { rep = record { at = x.instance; value = proto.begin s.cluster x.instance s.me x.entry; entry = x.entry; abort = None; used = s.rep.used }; entries = s.entries + 1 }
+
+  crossing_there : (x : Crossing) (t : Site P) → x ≡ record { instance = j + 1; entry = entry_of h (Some cert) } → t ≡ entered_by x → t ≡ there
+  crossing_there x t leads is = is ∙ ap entered_by leads
+
+  pub crosses_spent : (m : Msg) (x : Crossing) (t now : Site P) (outs : List Out) (marks : List Seen) (spent : Bool) → x ≡ record { instance = j + 1; entry = entry_of h (Some cert) } → t ≡ entered_by x → spent ≡ true
+      → Does proto pen t (taken (setup_of t pen) proto t.rep m) now outs marks spent → Does proto pen s (entering (setup_of s pen) proto s.me s.rep m j cert h) s outs marks spent
+  crosses_spent m x t now outs marks spent leads is over does =
+      subst (λ (b : Bool). Does proto pen s (entering (setup_of s pen) proto s.me s.rep m j cert h) s outs marks b) (sym over)
+      (enters_spent (taken (setup_of s pen) proto there.rep m) now outs marks
+      (subst (λ (b : Bool). Does proto pen there (taken (setup_of s pen) proto there.rep m) now outs marks b) over
+      (subst (λ (u : Site P). Does proto pen u (taken (setup_of u pen) proto u.rep m) now outs marks spent) (crossing_there x t leads is) does)))
+
+  pub crosses_taken : (m : Msg) (x : Crossing) (t now : Site P) (outs : List Out) (marks all : List Seen) (spent : Bool) → x ≡ record { instance = j + 1; entry = entry_of h (Some cert) } → t ≡ entered_by x → spent ≡ false
+      → all ≡ Cert (x.instance - 1) (Replica s.me) x.entry.base ∷ Init x.instance s.me x.entry.base ∷ marks
+      → Does proto pen t (taken (setup_of t pen) proto t.rep m) now outs marks spent → Does proto pen s (entering (setup_of s pen) proto s.me s.rep m j cert h) now outs all spent
+  crosses_taken m x t now outs marks all spent leads is under shows does =
+      let back : j + 1 - 1 ≡ j = omega arith in
+      subst (λ (b : Bool). Does proto pen s (entering (setup_of s pen) proto s.me s.rep m j cert h) now outs all b) (sym under)
+      (subst (λ (l : List Seen). Does proto pen s (entering (setup_of s pen) proto s.me s.rep m j cert h) now outs l false)
+      (sym (shows ∙ ap (λ (y : Crossing). Cert (y.instance - 1) (Replica s.me) y.entry.base ∷ Init y.instance s.me y.entry.base ∷ marks) leads ∙ ap (λ i. Cert i (Replica s.me) h ∷ Init (j + 1) s.me h ∷ marks) back))
+      (enters_taken (taken (setup_of s pen) proto there.rep m) now outs marks
+      (subst (λ (b : Bool). Does proto pen there (taken (setup_of s pen) proto there.rep m) now outs marks b) under
+      (subst (λ (u : Site P). Does proto pen u (taken (setup_of u pen) proto u.rep m) now outs marks spent) (crossing_there x t leads is) does))))
 
 -- ---- whatever the run
 
@@ -290,3 +215,9 @@ module _ {P : Type 0} (proto : Proto P) (pen : Pen) (s : Site P) (k : Setup) (of
       alike call now outs marks spent
       (subst (λ (x : Setup). Hears proto x s call now outs marks spent) setup_is
       (record { after = does.after; sends = does.sends; shows = does.shows; spends = does.spends }))
+
+  pub hears_if : {E : Type 0} (call : Call) (ts : List Turn) (now : Site P) (r : Result Effects E) → due (setup_of s pen) proto s.me s.rep call ≡ ts
+      → IfOk r (λ e. Does proto pen s ts now e.outs e.marks.items e.spent) → IfOk r (λ e. Hears proto k s call now e.outs e.marks.items e.spent)
+  hears_if call ts now (Ok e) asks does =
+      hears_of call now e.outs e.marks.items e.spent (subst (λ (us : List Turn). Does proto pen s us now e.outs e.marks.items e.spent) (sym asks) does)
+  hears_if call ts now (Err e) asks does = tt

@@ -1,5 +1,5 @@
 -- What a replica does in an event.
-use Rattle.std.specs.Prelude.{◌≡◌, ℕ, ◌+◌, nat_lt, if◌then◌else◌, Bool, true, false, List, [], ◌∷◌, count_by}
+use Rattle.std.specs.Prelude.{◌≡◌, ℕ, ◌+◌, nat_lt, if◌then◌else◌, Bool, List, [], ◌∷◌}
 use Rattle.ab_hist.specs.declared.request.Request.{Request}
 use Rattle.ab_msg.specs.declared.signed.Signed.{Signed}
 use Rattle.ab_msg.specs.declared.message.Msg.{Msg}
@@ -13,17 +13,22 @@ use Rattle.ab_run.specs.Replicas.{Rep, Turn, turn_enter, turn_call, turn_halt, t
 use Rattle.ab_run.specs.Local.{after_turns, sent_in_turns, marks_in_turns, rep_after, rep_sends, rep_marks}
 use Rattle.ab_replica.specs.Sites.{Site, setup_of}
 
-abbrev pub is_entry : Turn → Bool
-is_entry (turn_enter j cert h) = true
-is_entry (turn_call call) = false
-is_entry turn_halt = false
-is_entry turn_sign = false
-is_entry (turn_bring c) = false
-is_entry (turn_abort c) = false
+abbrev pub enters : Turn → ℕ
+enters (turn_enter j cert h) = 1
+enters (turn_call call) = 0
+enters turn_halt = 0
+enters turn_sign = 0
+enters (turn_bring c) = 0
+enters (turn_abort c) = 0
+
+-- how often the replica enters an instance in these turns
+abbrev pub entries_in : List Turn → ℕ
+entries_in [] = 0
+entries_in (t ∷ ts) = enters t + entries_in ts
 
 -- the replica takes what comes, by the rules of a run: where it then is, what it sends, what is seen of it, and whether the event is spent
 pub record Hears {P : Type 0} (proto : Proto P) (k : Setup) (s : Site P) (call : Call) (now : Site P) (outs : List Out) (marks : List Seen) (spent : Bool) : Type 0 where
-  pub after : now ≡ record s { rep = rep_after k proto s.me s.rep call; entries = s.entries + count_by is_entry (turns k proto s.me s.rep call) }
+  pub after : now ≡ record s { rep = rep_after k proto s.me s.rep call; entries = s.entries + entries_in (turns k proto s.me s.rep call) }
   pub sends : outs ≡ rep_sends k proto s.me s.rep call
   pub shows : marks ≡ rep_marks k proto s.me s.rep call
   pub spends : spent ≡ is_spent k proto s.me s.rep call
@@ -45,7 +50,7 @@ module _ {P : Type 0} (proto : Proto P) (k : Setup) (s : Site P) (ts : List Turn
 pub record Does {P : Type 0} (proto : Proto P) (pen : Pen) (s : Site P) (ts : List Turn) (now : Site P) (outs : List Out) (marks : List Seen) (spent : Bool) : Type 0 where
   pub after : now ≡ record s {
     rep = after_turns (setup_of s pen) proto s.me s.rep (unless_spent proto (setup_of s pen) s ts);
-    entries = s.entries + count_by is_entry (unless_spent proto (setup_of s pen) s ts);
+    entries = s.entries + entries_in (unless_spent proto (setup_of s pen) s ts);
   }
   pub sends : outs ≡ sent_in_turns (setup_of s pen) proto s.me s.rep (unless_spent proto (setup_of s pen) s ts)
   pub shows : marks ≡ marks_in_turns (setup_of s pen) proto s.me s.rep (unless_spent proto (setup_of s pen) s ts)

@@ -6,10 +6,11 @@ ghost use Rattle.ab_num.specs.declared.party.Party.TheVariants.{Replica};
 ghost use Rattle.ab_abs.specs.declared.seen.Seen.TheVariants.{Init, Cert};
 ghost use Rattle.ab_run.specs.Replicas.{accepted_marks, new_first, same_first};
 
-use ab_abs::{Marks, Seen};
+use ab_abs::{Marks, Protocol, Seen};
 use ab_extract::is_same;
 use ab_hist::History;
 use ab_num::{OutOfMemory, Party};
+use ab_svc::Service;
 use std::alloc::Global;
 
 /// Whether the old one is there and equal.
@@ -23,7 +24,7 @@ fn is_old(old: Option<&History>, h: &History) -> bool
 }
 
 /// The history that is newly accepted in slot 0, if it isn't the base.
-pub(crate) fn newly<'a>(
+fn newly<'a>(
     old: Option<&History>,
     new: Option<&'a History>,
     base: &History,
@@ -44,24 +45,16 @@ pub(crate) fn init_marks(
     alloc: Global,
     i: u32,
     me: u8,
-    h: &History,
+    h: History,
     more: Marks,
 ) -> Result<Marks, OutOfMemory>
     requires instance { 1 ≤ i }
     requires few { length more.items ≤ 2 }
-    ensures { IfOk result (λ marks. marks.items ≡ Cert (i - 1) (Replica me) h.now ∷ Init i me h.now ∷ more.items) }
+    ensures { IfOk result (λ marks. marks.items ≡ Cert (i - 1) (Replica me) h ∷ Init i me h ∷ more.items) }
 {
     let taken = h.copy(alloc)?;
-    let first = h.copy(alloc)?;
     let mut marks = more;
-    marks.insert(
-        0,
-        Seen::Init {
-            i,
-            r: me,
-            h: first,
-        },
-    );
+    marks.insert(0, Seen::Init { i, r: me, h });
     marks.insert(
         0,
         Seen::Cert {
@@ -74,7 +67,7 @@ pub(crate) fn init_marks(
 }
 
 /// What is seen of replica `me` that newly accepts this history in slot 0 of instance `i`.
-pub(crate) fn accepted_marks(
+fn accepted_marks(
     alloc: Global,
     i: u32,
     me: u8,
@@ -85,7 +78,28 @@ pub(crate) fn accepted_marks(
     ensures few { IfOk result (λ marks. length marks.items ≤ 2) }
 {
     match h {
-        Some(h) => init_marks(alloc, i, me, h, Marks::new_in(alloc)),
+        Some(h) => {
+            let h = h.copy(alloc)?;
+            init_marks(alloc, i, me, h, Marks::new_in(alloc))
+        }
         None => Ok(Marks::new_in(alloc)),
     }
+}
+
+/// What is seen of replica `me` in instance `i`, which it entered with this base, as its value goes
+/// from `old` to `new`.
+pub(crate) fn marks_between<S: Service, P: Protocol<S>>(
+    alloc: Global,
+    i: u32,
+    me: u8,
+    old: &P,
+    new: &P,
+    base: &History,
+) -> Result<Marks, OutOfMemory>
+    requires { 1 ≤ i }
+    ensures marks { IfOk result (λ marks. marks.items ≡ reverse (accepted_marks i me (new_first (P.proto.state old.now).first (P.proto.state new.now).first base.now))) }
+    ensures few { IfOk result (λ marks. length marks.items ≤ 2) }
+{
+    let first = newly(old.first(), new.first(), base);
+    accepted_marks(alloc, i, me, first)
 }

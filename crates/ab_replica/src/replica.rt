@@ -15,7 +15,7 @@ ghost use Rattle.ab_run.specs.Replicas.{aborting, halting, here, late, taken, tu
 ghost use Rattle.ab_replica.specs.Sites.{IsPenAfter, IsPenOf, IsSetupOf, Site, setup_of, timer_number};
 ghost use Rattle.ab_replica.specs.Doings.{Does, Hears, entering};
 
-use crate::accepted::{accepted_marks, init_marks, newly};
+use crate::accepted::{init_marks, marks_between};
 use crate::answers::{abort_to, cert_to};
 use crate::crossing::{Crossing, crossing_in};
 use crate::effects::Effects;
@@ -222,13 +222,15 @@ impl<S: Service, P: Protocol<S>> Replica<S, P> {
         ensures pen { IfOk result (λ e. e.spent ≡ false → IsPenAfter (N.pen n.old) (N.pen n.new) (N.remains n.new) self.new) }
         ensures err { OnErr result (self.new ≡ self.old) }
     {
+        let instance = next.instance;
+        let base = next.entry.base.copy(alloc)?;
         let mut there = self.entered(alloc, next)?;
         let effects = there.take(alloc, m, n)?;
         if effects.spent {
             return Ok(effects);
         }
         let Effects { outs, marks, spent } = effects;
-        let marks = init_marks(alloc, there.instance, self.me, &there.entry.base, marks)?;
+        let marks = init_marks(alloc, instance, self.me, base, marks)?;
         *self = there;
         Ok(Effects { outs, marks, spent })
     }
@@ -388,8 +390,15 @@ impl<S: Service, P: Protocol<S>> Replica<S, P> {
         let mut value = self.value.copy(alloc)?;
         match value.on(alloc, m, n) {
             Ok(outs) => {
-                let first = newly(self.value.first(), value.first(), &self.entry.base);
-                let marks = accepted_marks(alloc, self.instance, self.me, first)?;
+                let base = &self.entry.base;
+                let marks = marks_between::<S, P>(
+                    alloc,
+                    self.instance,
+                    self.me,
+                    &self.value,
+                    &value,
+                    base,
+                )?;
                 self.value = value;
                 self.used += left - n.left();
                 Ok(Effects {
