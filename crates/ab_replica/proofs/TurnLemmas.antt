@@ -184,17 +184,18 @@ module _ {P : Type 0} (proto : Proto P) (pen : Pen) (s : Site P) (j : ℕ) (cert
       (subst (λ (b : Bool). Does proto pen there (taken (setup_of s pen) proto there.rep m) now outs marks b) over
       (subst (λ (u : Site P). Does proto pen u (taken (setup_of u pen) proto u.rep m) now outs marks spent) (crossing_there x t leads is) does)))
 
-  pub crosses_taken : (m : Msg) (x : Crossing) (t now : Site P) (outs : List Out) (marks all : List Seen) (spent : Bool) → x ≡ record { instance = j + 1; entry = entry_of h (Some cert) } → t ≡ entered_by x → spent ≡ false
+  pub crosses_taken : (m : Msg) (x : Crossing) (t now last : Site P) (outs : List Out) (marks all : List Seen) (spent : Bool) → x ≡ record { instance = j + 1; entry = entry_of h (Some cert) } → t ≡ entered_by x → spent ≡ false → last ≡ now
       → all ≡ Cert (x.instance - 1) (Replica s.me) x.entry.base ∷ Init x.instance s.me x.entry.base ∷ marks
-      → Does proto pen t (taken (setup_of t pen) proto t.rep m) now outs marks spent → Does proto pen s (entering (setup_of s pen) proto s.me s.rep m j cert h) now outs all spent
-  crosses_taken m x t now outs marks all spent leads is under shows does =
+      → Does proto pen t (taken (setup_of t pen) proto t.rep m) now outs marks spent → Does proto pen s (entering (setup_of s pen) proto s.me s.rep m j cert h) last outs all spent
+  crosses_taken m x t now last outs marks all spent leads is under same shows does =
       let back : j + 1 - 1 ≡ j = omega arith in
-      subst (λ (b : Bool). Does proto pen s (entering (setup_of s pen) proto s.me s.rep m j cert h) now outs all b) (sym under)
+      subst (λ (b : Bool). Does proto pen s (entering (setup_of s pen) proto s.me s.rep m j cert h) last outs all b) (sym under)
+      (subst (λ (u : Site P). Does proto pen s (entering (setup_of s pen) proto s.me s.rep m j cert h) u outs all false) (sym same)
       (subst (λ (l : List Seen). Does proto pen s (entering (setup_of s pen) proto s.me s.rep m j cert h) now outs l false)
       (sym (shows ∙ ap (λ (y : Crossing). Cert (y.instance - 1) (Replica s.me) y.entry.base ∷ Init y.instance s.me y.entry.base ∷ marks) leads ∙ ap (λ i. Cert i (Replica s.me) h ∷ Init (j + 1) s.me h ∷ marks) back))
       (enters_taken (taken (setup_of s pen) proto there.rep m) now outs marks
       (subst (λ (b : Bool). Does proto pen there (taken (setup_of s pen) proto there.rep m) now outs marks b) under
-      (subst (λ (u : Site P). Does proto pen u (taken (setup_of u pen) proto u.rep m) now outs marks spent) (crossing_there x t leads is) does))))
+      (subst (λ (u : Site P). Does proto pen u (taken (setup_of u pen) proto u.rep m) now outs marks spent) (crossing_there x t leads is) does)))))
 
 -- ---- whatever the run
 

@@ -231,8 +231,15 @@ impl<S: Service, P: Protocol<S>> Replica<S, P> {
         }
         let Effects { outs, marks, spent } = effects;
         let marks = init_marks(alloc, instance, self.me, base, marks)?;
-        *self = there;
+        self.settle(there);
         Ok(Effects { outs, marks, spent })
+    }
+
+    /// It is the other one from now on.
+    fn settle(&mut self, other: Self)
+        ensures { self.new ≡ other }
+    {
+        *self = other;
     }
 
     /// Takes a message in the present instance.
