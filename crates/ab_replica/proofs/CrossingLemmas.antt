@@ -1,17 +1,15 @@
 -- Certificates and the entries that they lead to.
-use Rattle.std.proofs.Common.{◌≡◌, ℕ, ◌+◌, ◌<◌, ◌≤◌, Bool, true, false, ◌&&◌, nat_le, nat_lt, if◌then◌else◌, Option, None, Some, List, [], ◌∷◌, length, refl, sym, ap, subst, ◌∙◌, arith}
-use Rattle.std.specs.Prelude.{All, IfSome}
-use Rattle.ab_num.specs.declared.cluster.Cluster.{Cluster}
+use Rattle.std.proofs.Common.{◌≡◌, ℕ, ◌+◌, Bool, true, false, ◌&&◌, nat_le, nat_lt, if◌then◌else◌, Option, None, Some, List, refl}
 use Rattle.ab_hist.specs.declared.request.Request.{Request}
 use Rattle.ab_msg.specs.declared.signed.Signed.{Signed}
 use Rattle.ab_msg.specs.declared.message.Msg.{Msg}
 use Rattle.ab_abs.specs.Certificates.{history_of}
 use Rattle.ab_abs.specs.Ensembles.{Proto, entry_of}
-use Rattle.ab_abs.specs.Messages.{Call, took}
+use Rattle.ab_abs.specs.Messages.{took}
 use Rattle.ab_run.specs.Setups.{Setup, last_instance}
-use Rattle.ab_run.specs.Replicas.{Rep, Turn, turn_enter, after_turn, brought, cert_instance, due, due_by, due_with, taken}
+use Rattle.ab_run.specs.Replicas.{Rep, Turn, brought, cert_instance, due, due_by, due_with, taken}
 use Rattle.ab_replica.specs.declared.crossing.Crossing.{Crossing}
-use Rattle.ab_replica.specs.Crossings.{crossing_with, crossing_by, crossing_in}
+use Rattle.ab_replica.specs.Crossings.{crossing_with, crossing_in}
 use Rattle.ab_replica.specs.Doings.{entering}
 
 module _ {P : Type 0} (k : Setup) (proto : Proto P) (r : ℕ) (s : Rep P) (m : Msg) where

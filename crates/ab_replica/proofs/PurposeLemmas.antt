@@ -1,6 +1,5 @@
 -- The turns that a message asks for, by its purpose.
-use Rattle.std.proofs.Common.{◌≡◌, ℕ, Bool, true, false, Option, None, Some, List, [], ◌∷◌, if◌then◌else◌, refl, sym, ap, subst, ◌∙◌}
-use Rattle.ab_msg.specs.declared.content.Content.{Content}
+use Rattle.std.proofs.Common.{◌≡◌, None, Some, List, [], ◌∷◌, if◌then◌else◌, refl}
 use Rattle.ab_msg.specs.declared.signed.Signed.{Signed}
 use Rattle.ab_msg.specs.declared.message.Msg.{Msg}
 use Rattle.ab_msg.specs.declared.message.Msg.TheVariants as msg

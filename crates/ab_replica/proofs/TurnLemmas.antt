@@ -1,30 +1,25 @@
 -- What turns leave, send and show.
-use Rattle.std.proofs.Common.{◌≡◌, ℕ, zero, suc, ◌+◌, ◌-◌, ◌<◌, ◌≤◌, Bool, true, false, Option, None, Some, Result, Ok, Err, List, [], ◌∷◌, ◌++◌, length, nat_lt, if◌then◌else◌, reverse, refl, sym, ap, subst, ◌∙◌, arith, add-zero, append-nil}
+use Rattle.std.proofs.Common.{◌≡◌, ℕ, ◌+◌, ◌-◌, ◌<◌, ◌≤◌, Bool, true, false, Option, None, Some, Result, Ok, Err, List, [], ◌∷◌, length, nat_lt, if◌then◌else◌, reverse, refl, sym, ap, subst, ◌∙◌, arith, add-zero, append-nil}
 use Rattle.std.specs.Prelude.{IfOk}
 use Rattle.std.proofs.lemmas.Bool.{ltb-true}
 use Rattle.std.proofs.lemmas.Bool.Decides.{nat_tests}
-use Rattle.ab_num.specs.declared.party.Party.TheVariants.{Replica, Client}
-use Rattle.ab_num.specs.declared.cluster.Cluster.{Cluster}
+use Rattle.ab_num.specs.declared.party.Party.TheVariants.{Replica}
 use Rattle.ab_hist.specs.declared.request.Request.{Request}
-use Rattle.ab_msg.specs.declared.content.Content.{Content}
-use Rattle.ab_msg.specs.declared.content.Content.TheVariants.{Abort}
 use Rattle.ab_msg.specs.declared.signed.Signed.{Signed}
 use Rattle.ab_msg.specs.declared.message.Msg.{Msg}
-use Rattle.ab_msg.specs.declared.message.Msg.TheVariants as msg
 use Rattle.ab_msg.specs.declared.message.Out.{Out}
-use Rattle.ab_msg.specs.Pens.{Pen, moved}
+use Rattle.ab_msg.specs.Pens.{Pen}
 use Rattle.ab_abs.specs.declared.seen.Seen.{Seen}
 use Rattle.ab_abs.specs.declared.seen.Seen.TheVariants.{Init, Cert}
-use Rattle.ab_abs.specs.declared.entry.Entry.{Entry}
 use Rattle.ab_abs.specs.Ensembles.{Proto, entry_of}
-use Rattle.ab_abs.specs.Messages.{Call, took, timed, offered}
+use Rattle.ab_abs.specs.Messages.{Call, offered}
 use Rattle.ab_run.specs.Setups.{Setup}
-use Rattle.ab_run.specs.Replicas.{Rep, Turn, turn_enter, turn_call, turn_halt, turn_sign, turn_bring, turn_abort, accepted, accepted_marks, if_offered, new_first, called, abort_content, abort_to, cert_to, aborting, aborting_with, halting, after_turn, state_at, pen_of, wanted, taken, due}
+use Rattle.ab_run.specs.Replicas.{Turn, turn_enter, turn_call, accepted, accepted_marks, if_offered, new_first, after_turn, pen_of, wanted, taken, due}
 use Rattle.ab_run.specs.Local.{after_turns, sent_in_turns, marks_in_turns}
-use Rattle.ab_replica.specs.Sites.{Site, IsSetupOf, IsPenOf, IsPenAfter, setup_of}
+use Rattle.ab_replica.specs.Sites.{Site, IsSetupOf, setup_of}
 use Rattle.ab_replica.specs.declared.crossing.Crossing.{Crossing}
 use Rattle.ab_replica.specs.declared.effects.Effects.{Effects}
-use Rattle.ab_replica.specs.Doings.{Does, Hears, entering, are_spent, unless_spent, entries_in}
+use Rattle.ab_replica.specs.Doings.{Does, Hears, entering, are_spent, entries_in}
 
 not_below : (a b : ℕ) → b ≤ a → nat_lt a b ≡ false
 not_below a b le = grind (arith, nat_tests)

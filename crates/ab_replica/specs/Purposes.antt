@@ -1,5 +1,4 @@
 -- What a message asks of a replica.
-use Rattle.std.specs.Prelude.{ℕ}
 use Rattle.ab_msg.specs.declared.message.Msg.{Msg}
 use Rattle.ab_msg.specs.declared.message.Msg.TheVariants as msg
 use Rattle.ab_msg.specs.declared.message.Offer.{Offer}

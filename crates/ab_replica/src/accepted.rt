@@ -24,11 +24,7 @@ fn is_old(old: Option<&History>, h: &History) -> bool
 }
 
 /// The history that is newly accepted in slot 0, if it isn't the base.
-fn newly<'a>(
-    old: Option<&History>,
-    new: Option<&'a History>,
-    base: &History,
-) -> Option<&'a History>
+fn newly<'a>(old: Option<&History>, new: Option<&'a History>, base: &History) -> Option<&'a History>
     ensures { option_map (λ h. h.now) result ≡ new_first (option_map (λ g. g.now) old.entry) (option_map (λ h. h.now) new.entry) base.now }
 {
     let h = new?;
@@ -67,12 +63,7 @@ pub(crate) fn init_marks(
 }
 
 /// What is seen of replica `me` that newly accepts this history in slot 0 of instance `i`.
-fn accepted_marks(
-    alloc: Global,
-    i: u32,
-    me: u8,
-    h: Option<&History>,
-) -> Result<Marks, OutOfMemory>
+fn accepted_marks(alloc: Global, i: u32, me: u8, h: Option<&History>) -> Result<Marks, OutOfMemory>
     requires { 1 ≤ i }
     ensures marks { IfOk result (λ marks. marks.items ≡ reverse (accepted_marks i me (option_map (λ h. h.now) h.entry))) }
     ensures few { IfOk result (λ marks. length marks.items ≤ 2) }

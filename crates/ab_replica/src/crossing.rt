@@ -57,10 +57,7 @@ fn cert_instance<'a>(cert: &ListRef<'a, SignedRef<'a>>) -> u32
 }
 
 /// The certificate, with parts of its own.
-fn own_cert<'a>(
-    alloc: Global,
-    cert: &ListRef<'a, SignedRef<'a>>,
-) -> Result<AbortCert, OutOfMemory>
+fn own_cert<'a>(alloc: Global, cert: &ListRef<'a, SignedRef<'a>>) -> Result<AbortCert, OutOfMemory>
     ensures { IfOk result (λ c. c ≡ aborts cert.now) }
 {
     let all = own_parts(alloc, cert)?;

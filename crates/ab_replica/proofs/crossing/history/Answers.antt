@@ -1,4 +1,4 @@
-use Rattle.std.proofs.Common.{ℕ, ◌+◌, ◌*◌, Result, Ok, Err, ap}
+use Rattle.std.proofs.Common.{◌+◌, ◌*◌, Err, ap}
 use Rattle.ab_replica.proofs.CertLemmas.{aborts_are, foreign_signer, fault_has_none, members_are}
 use Rattle.ab_replica.proofs.crossing.history.Goals as goal
 

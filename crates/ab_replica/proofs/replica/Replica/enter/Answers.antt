@@ -1,4 +1,4 @@
-use Rattle.std.proofs.Common.{◌-◌, List, ◌∷◌, ap, ◌∙◌}
+use Rattle.std.proofs.Common.{◌-◌, ◌∷◌, ap, ◌∙◌}
 use Rattle.ab_num.specs.declared.party.Party.TheVariants.{Replica}
 use Rattle.ab_wire.specs.Views.{message}
 use Rattle.ab_abs.specs.declared.seen.Seen.TheVariants.{Init, Cert}

@@ -1,8 +1,8 @@
-use Rattle.std.proofs.Common.{◌≡◌, ℕ, ◌+◌, ◌-◌, ◌≤◌, List, [], ◌∷◌, false, length, refl, sym, ap, subst, ◌∙◌, arith}
+use Rattle.std.proofs.Common.{◌≡◌, ℕ, ◌+◌, ◌-◌, [], ◌∷◌, false, length, sym, ap, subst, ◌∙◌, arith}
 use Rattle.ab_msg.specs.Pens.{Pen}
 use Rattle.ab_wire.specs.Views.{message}
 use Rattle.ab_abs.specs.Messages.{took}
-use Rattle.ab_run.specs.Replicas.{Rep, turn_call}
+use Rattle.ab_run.specs.Replicas.{turn_call}
 use Rattle.ab_replica.specs.Sites.{Site}
 use Rattle.ab_replica.specs.Doings.{Does}
 use Rattle.ab_replica.proofs.TurnLemmas.{calls_offer}
