@@ -10,3 +10,6 @@ mod replica;
 
 pub use effects::Effects;
 pub use replica::Replica;
+
+#[cfg(test)]
+mod tests;
