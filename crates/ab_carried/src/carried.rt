@@ -1,18 +1,15 @@
 //! What a message brings that digests are made of.
 
-ghost use Rattle.std.specs.Prelude.{◌≡◌, ◌++◌, [], map, IfOk, IsTrue, OnOk};
+ghost use Rattle.std.specs.Prelude.{◌≡◌, ◌++◌, [], map, OnOk};
 ghost use Rattle.std.specs.List.{flat_map};
-ghost use Rattle.ab_keys.specs.Keys.{is_party};
 ghost use Rattle.ab_msg.specs.Carried.{stated_history, stated_request, value_histories, value_requests, values_in};
 ghost use Rattle.ab_msg.specs.Certs.{AreSlotValues};
 ghost use Rattle.ab_wire.specs.Views.{IsReceived, message, proofs, values};
-ghost use Rattle.ab_carried.specs.Carried.{carried_histories, carried_requests};
 
 use ab_form::{ListRef, own_list};
 use ab_hist::{History, Request};
 use ab_msg::Content;
-use ab_num::{Cluster, OutOfMemory, Party};
-use ab_open::Checked;
+use ab_num::{OutOfMemory, Party};
 use ab_wire::{MsgRef, ProofRef, ValuesRef};
 use std::alloc::Global;
 
@@ -104,17 +101,4 @@ impl Carried {
             _ => Ok(()),
         }
     }
-}
-
-/// The histories and requests that the party which opened a message checks in it, and those among its
-/// values.
-pub fn carried(alloc: Global, k: &Cluster, m: &Checked<'_>) -> Result<Carried, OutOfMemory>
-    requires { IsTrue (is_party k.now.f k.now.clients m.now.me) }
-    ensures histories { IfOk result (λ x. x.histories.items ≡ carried_histories k.now.f m.now.me m.now.msg) }
-    ensures requests { IfOk result (λ x. x.requests.items ≡ carried_requests k.now.f m.now.me m.now.msg) }
-{
-    let mut carried = Carried::none(alloc);
-    carried.add_claims(m.claims(alloc, k)?.into_vec())?;
-    carried.add_message(alloc, m.msg())?;
-    Ok(carried)
 }

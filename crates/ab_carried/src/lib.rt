@@ -3,4 +3,4 @@
 
 mod carried;
 
-pub use carried::{Carried, carried};
+pub use carried::Carried;
