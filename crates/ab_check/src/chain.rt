@@ -116,7 +116,7 @@ fn check_said<'a, C: Checker>(
 }
 
 /// The same list once more.
-pub(crate) fn again<'a, P: Part<'a>>(list: &ListRef<'a, P>) -> ListRef<'a, P>
+pub fn again<'a, P: Part<'a>>(list: &ListRef<'a, P>) -> ListRef<'a, P>
     ensures { result ≡ list.now }
 {
     *list

@@ -10,6 +10,7 @@ ghost use Rattle.ab_msg.specs.Certs.{IsProof, entries_of};
 ghost use Rattle.ab_wire.specs.Changes.{prepares_at, proof_at};
 ghost use Rattle.ab_wire.specs.Views.{Spells, proof};
 
+use crate::chain::again;
 use crate::checker::Checker;
 use crate::signed::check_signed;
 use crate::slots::check_slots;
@@ -23,12 +24,12 @@ fn check_prepared<'a, C: Checker>(
     alloc: Global,
     c: &mut C,
     place: u32,
-    content: ContentRef<'a>,
+    content: &ContentRef<'a>,
     prepares: ListRef<'a, PreparesRef<'a>>,
 ) -> Result<u32, u32>
-    requires lawful { IsChange (shown content) }
-    requires room { place + length (slots_checks (instance_of (shown content)) 0 (entries_of (shown content)) (listed prepares_at prepares.count prepares.bytes.now)) ≤ 4294967295 }
-    ensures checked { result ≡ checked_from (C.judge c.old) place (slots_checks (instance_of (shown content.entry)) 0 (entries_of (shown content.entry)) (listed prepares_at prepares.entry.count prepares.entry.bytes.now)) }
+    requires lawful { IsChange (shown content.now) }
+    requires room { place + length (slots_checks (instance_of (shown content.now)) 0 (entries_of (shown content.now)) (listed prepares_at prepares.count prepares.bytes.now)) ≤ 4294967295 }
+    ensures checked { result ≡ checked_from (C.judge c.old) place (slots_checks (instance_of (shown content.now)) 0 (entries_of (shown content.now)) (listed prepares_at prepares.entry.count prepares.entry.bytes.now)) }
     ensures same { C.judge c.new ≡ C.judge c.old }
 {
     match content {
@@ -36,7 +37,7 @@ fn check_prepared<'a, C: Checker>(
             instance,
             entries,
             ..
-        } => check_slots(alloc, c, place, instance, entries, prepares),
+        } => check_slots(alloc, c, place, *instance, again(entries), prepares),
         _ => Ok(place),
     }
 }
@@ -46,16 +47,16 @@ pub fn check_proof<'a, C: Checker>(
     alloc: Global,
     c: &mut C,
     place: u32,
-    v: ProofRef<'a>,
+    v: &ProofRef<'a>,
 ) -> Result<u32, u32>
-    requires lawful { IsProof (proof v) }
-    requires room { place + length (proof_checks (proof v)) ≤ 4294967295 }
-    requires stated { Spells v.change.bytes.now v.change.content }
-    ensures checked { result ≡ checked_from (C.judge c.old) place (proof_checks (proof v.entry)) }
+    requires lawful { IsProof (proof v.now) }
+    requires room { place + length (proof_checks (proof v.now)) ≤ 4294967295 }
+    requires stated { Spells v.now.change.bytes.now v.now.change.content }
+    ensures checked { result ≡ checked_from (C.judge c.old) place (proof_checks (proof v.now)) }
     ensures same { C.judge c.new ≡ C.judge c.old }
 {
     let next = check_signed(alloc, c, place, &v.change)?;
-    check_prepared(alloc, c, next, v.change.content, v.prepares)
+    check_prepared(alloc, c, next, &v.change.content, again(&v.prepares))
 }
 
 /// Checks the signatures of each view change, in their order.
@@ -71,7 +72,7 @@ pub fn check_changes<'a, C: Checker>(
 {
     let mut place = place;
     'changes: for v in changes {
-        place = check_proof(alloc, c, place, v)?;
+        place = check_proof(alloc, c, place, &v)?;
     }
     Ok(place)
 }

@@ -12,7 +12,7 @@ mod slots;
 mod tags;
 mod text;
 
-pub use chain::{LinkRef, check_before, said_text};
+pub use chain::{LinkRef, again, check_before, said_text};
 pub use chains::{check_client, check_replica};
 pub use changes::{check_changes, check_proof};
 pub use checker::Checker;

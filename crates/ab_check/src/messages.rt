@@ -13,6 +13,7 @@ ghost use Rattle.ab_wire.specs.Views.{IsReceived, Spells, chain_tags, message, o
 ghost use Rattle.ab_check.specs.Checks.{all_checks, checked_from, checks, checks_of, is_refused, lacks_reply, offer_checks, proof_checks, signed_check, tag_of, tagged};
 ghost use Rattle.ab_check.specs.Chains.{IsPlaced, passed_to};
 
+use crate::chain::again;
 use crate::chains::{check_client, check_replica};
 use crate::changes::{check_changes, check_proof};
 use crate::checker::Checker;
@@ -42,32 +43,32 @@ fn check_ordered<C: Checker>(c: &C, content: &ContentRef<'_>, tag: &Tag) -> Resu
 }
 
 /// Checks a content that came by itself with a tag.
-fn check_one<'a, C: Checker>(
+fn check_one<C: Checker>(
     c: &C,
-    content: ContentRef<'a>,
-    bytes: &'a [u8],
-    tag: Option<&'a Tag>,
+    content: &ContentRef<'_>,
+    bytes: &[u8],
+    tag: Option<&Tag>,
 ) -> Result<u32, u32>
-    requires { Spells bytes.now content }
-    ensures { result ≡ checked_from (C.judge c.now) 0 (tagged (shown content.entry) (option_map (λ t. t.now) tag.entry) ∷ []) }
+    requires { Spells bytes.now content.now }
+    ensures { result ≡ checked_from (C.judge c.now) 0 (tagged (shown content.now) (option_map (λ t. t.now) tag.entry) ∷ []) }
 {
-    check_tag(c, 0, &content, bytes, tag)
+    check_tag(c, 0, content, bytes, tag)
 }
 
 /// Checks an ORDER.
-fn check_order<'a, C: Checker>(
+fn check_order<C: Checker>(
     c: &C,
-    content: ContentRef<'a>,
-    bytes: &'a [u8],
-    client_tag: &'a Tag,
-    tag: &'a Tag,
+    content: &ContentRef<'_>,
+    bytes: &[u8],
+    client_tag: &Tag,
+    tag: &Tag,
 ) -> Result<u32, u32>
-    requires lawful { IsOrder (shown content) }
-    requires stated { Spells bytes.now content }
-    ensures { result ≡ checked_from (C.judge c.now) 0 (map (λ x. tagged x (Some client_tag.now)) (ordered (shown content.entry)) ++ tagged (shown content.entry) (Some tag.now) ∷ []) }
+    requires lawful { IsOrder (shown content.now) }
+    requires stated { Spells bytes.now content.now }
+    ensures { result ≡ checked_from (C.judge c.now) 0 (map (λ x. tagged x (Some client_tag.now)) (ordered (shown content.now)) ++ tagged (shown content.now) (Some tag.now) ∷ []) }
 {
-    let place = check_ordered(c, &content, client_tag)?;
-    check_tag(c, place, &content, bytes, Some(tag))
+    let place = check_ordered(c, content, client_tag)?;
+    check_tag(c, place, content, bytes, Some(tag))
 }
 
 /// Checks a CHAIN.
@@ -76,55 +77,55 @@ fn check_chain<'a, C: Checker>(
     k: &Cluster,
     me: Party,
     instance: u32,
-    m: RequestRef<'a>,
+    m: &RequestRef<'_>,
     n: u16,
-    d: &'a [u8; 32],
-    reply: Option<&'a [u8]>,
+    d: &[u8; 32],
+    reply: Option<&[u8]>,
     tags: ListRef<'a, BetweenRef<'a>>,
 ) -> Result<u32, u32>
-    requires lawful { IsMessage (msg.Chain instance (request m) n d.now (option_map reply_of reply) (chain_tags tags)) }
+    requires lawful { IsMessage (msg.Chain instance (request m.now) n d.now (option_map reply_of reply) (chain_tags tags)) }
     requires party { IsPlaced k.now.f me }
-    ensures { result ≡ checked_from (C.judge c.now) 0 (map (passed_to me (chain_tags tags.entry)) (chain_claims k.now.f me instance (request m.entry) n d.now (option_map reply_of reply.entry))) }
+    ensures { result ≡ checked_from (C.judge c.now) 0 (map (passed_to me (chain_tags tags.entry)) (chain_claims k.now.f me instance (request m.now) n d.now (option_map reply_of reply.entry))) }
 {
     match me {
-        Party::Replica(r) => check_replica(c, k, r, instance, &m, n, d, tags),
-        Party::Client(_) => check_client(c, k, me, instance, &m, n, d, reply, tags),
+        Party::Replica(r) => check_replica(c, k, r, instance, m, n, d, tags),
+        Party::Client(_) => check_client(c, k, me, instance, m, n, d, reply, tags),
     }
 }
 
 /// Checks a signed content that came by itself.
-fn check_lone<'a, C: Checker>(alloc: Global, c: &mut C, s: SignedRef<'a>) -> Result<u32, u32>
-    requires stated { Spells s.bytes.now s.content }
-    requires maker { maker_of (shown s.content) ≡ Replica s.maker }
-    ensures checked { result ≡ checked_from (C.judge c.old) 0 (signed_check (signed s.entry) ∷ []) }
+fn check_lone<C: Checker>(alloc: Global, c: &mut C, s: &SignedRef<'_>) -> Result<u32, u32>
+    requires stated { Spells s.now.bytes.now s.now.content }
+    requires maker { maker_of (shown s.now.content) ≡ Replica s.now.maker }
+    ensures checked { result ≡ checked_from (C.judge c.old) 0 (signed_check (signed s.now) ∷ []) }
     ensures same { C.judge c.new ≡ C.judge c.old }
 {
-    check_signed(alloc, c, 0, &s)
+    check_signed(alloc, c, 0, s)
 }
 
 /// Checks a PRE-PREPARE.
 fn check_pre_prepare<'a, C: Checker>(
     alloc: Global,
     c: &mut C,
-    content: ContentRef<'a>,
-    bytes: &'a [u8],
-    tag: &'a Tag,
-    offer: OfferRef<'a>,
+    content: &ContentRef<'_>,
+    bytes: &[u8],
+    tag: &Tag,
+    offer: &OfferRef<'a>,
 ) -> Result<u32, u32>
-    requires lawful { IsOffer (slot_in (shown content)) (offered offer) }
-    requires stated { Spells bytes.now content }
-    ensures checked { result ≡ checked_from (C.judge c.old) 0 (tagged (shown content.entry) (Some tag.now) ∷ offer_checks (instance_of (shown content.entry)) (offered offer.entry)) }
+    requires lawful { IsOffer (slot_in (shown content.now)) (offered offer.now) }
+    requires stated { Spells bytes.now content.now }
+    ensures checked { result ≡ checked_from (C.judge c.old) 0 (tagged (shown content.now) (Some tag.now) ∷ offer_checks (instance_of (shown content.now)) (offered offer.now)) }
     ensures same { C.judge c.new ≡ C.judge c.old }
 {
-    let place = check_tag(c, 0, &content, bytes, Some(tag))?;
+    let place = check_tag(c, 0, content, bytes, Some(tag))?;
     check_offer(alloc, c, place, content.instance(), offer)
 }
 
 /// Checks a view change that came by itself.
-fn check_change<'a, C: Checker>(alloc: Global, c: &mut C, change: ProofRef<'a>) -> Result<u32, u32>
-    requires lawful { IsProof (proof change) }
-    requires stated { Spells change.change.bytes.now change.change.content }
-    ensures checked { result ≡ checked_from (C.judge c.old) 0 (proof_checks (proof change.entry)) }
+fn check_change<'a, C: Checker>(alloc: Global, c: &mut C, change: &ProofRef<'a>) -> Result<u32, u32>
+    requires lawful { IsProof (proof change.now) }
+    requires stated { Spells change.now.change.bytes.now change.now.change.content }
+    ensures checked { result ≡ checked_from (C.judge c.old) 0 (proof_checks (proof change.now)) }
     ensures same { C.judge c.new ≡ C.judge c.old }
 {
     check_proof(alloc, c, 0, change)
@@ -134,17 +135,17 @@ fn check_change<'a, C: Checker>(alloc: Global, c: &mut C, change: ProofRef<'a>) 
 fn check_new_view<'a, C: Checker>(
     alloc: Global,
     c: &mut C,
-    content: ContentRef<'a>,
-    bytes: &'a [u8],
-    tag: &'a Tag,
+    content: &ContentRef<'_>,
+    bytes: &[u8],
+    tag: &Tag,
     changes: ListRef<'a, ProofRef<'a>>,
 ) -> Result<u32, u32>
-    requires lawful { IsMessage (msg.NewView (shown content) tag.now (proofs changes)) }
-    requires stated { Spells bytes.now content }
-    ensures checked { result ≡ checked_from (C.judge c.old) 0 (tagged (shown content.entry) (Some tag.now) ∷ all_checks (proofs changes.entry)) }
+    requires lawful { IsMessage (msg.NewView (shown content.now) tag.now (proofs changes)) }
+    requires stated { Spells bytes.now content.now }
+    ensures checked { result ≡ checked_from (C.judge c.old) 0 (tagged (shown content.now) (Some tag.now) ∷ all_checks (proofs changes.entry)) }
     ensures same { C.judge c.new ≡ C.judge c.old }
 {
-    let place = check_tag(c, 0, &content, bytes, Some(tag))?;
+    let place = check_tag(c, 0, content, bytes, Some(tag))?;
     check_changes(alloc, c, place, changes)
 }
 
@@ -186,11 +187,11 @@ fn check_claims<'a, C: Checker>(
     c: &mut C,
     k: &Cluster,
     me: Party,
-    m: MsgRef<'a>,
+    m: &MsgRef<'a>,
 ) -> Result<u32, u32>
-    requires received { IsReceived m }
+    requires received { IsReceived m.now }
     requires party { IsPlaced k.now.f me }
-    ensures checked { result ≡ checked_from (C.judge c.old) 0 (checks_of k.now.f me (message m.entry)) }
+    ensures checked { result ≡ checked_from (C.judge c.old) 0 (checks_of k.now.f me (message m.now)) }
     ensures same { C.judge c.new ≡ C.judge c.old }
 {
     match m {
@@ -198,7 +199,7 @@ fn check_claims<'a, C: Checker>(
             content,
             bytes,
             tags,
-        } => check_one(c, content, bytes, tag_of(me, tags)),
+        } => check_one(c, content, bytes, tag_of(me, again(tags))),
         MsgRef::Order {
             content,
             bytes,
@@ -209,7 +210,7 @@ fn check_claims<'a, C: Checker>(
             content,
             bytes,
             tag,
-        } => check_one(c, content, bytes, Some(tag)),
+        } => check_one(c, content, bytes, Some(*tag)),
         MsgRef::Chain {
             instance,
             request,
@@ -217,14 +218,14 @@ fn check_claims<'a, C: Checker>(
             d,
             reply,
             tags,
-        } => check_chain(c, k, me, instance, request, n, d, reply, tags),
+        } => check_chain(c, k, me, *instance, request, *n, d, *reply, again(tags)),
         MsgRef::Panic {
             content,
             bytes,
             tag,
-        } => check_one(c, content, bytes, Some(tag)),
+        } => check_one(c, content, bytes, Some(*tag)),
         MsgRef::Abort { abort } => check_lone(alloc, c, abort),
-        MsgRef::Init { cert } => check_aborts(alloc, c, 0, cert),
+        MsgRef::Init { cert } => check_aborts(alloc, c, 0, again(cert)),
         MsgRef::PrePrepare {
             content,
             bytes,
@@ -236,14 +237,14 @@ fn check_claims<'a, C: Checker>(
             content,
             bytes,
             tag,
-        } => check_one(c, content, bytes, Some(tag)),
+        } => check_one(c, content, bytes, Some(*tag)),
         MsgRef::ViewChange { change } => check_change(alloc, c, change),
         MsgRef::NewView {
             content,
             bytes,
             tag,
             changes,
-        } => check_new_view(alloc, c, content, bytes, tag, changes),
+        } => check_new_view(alloc, c, content, bytes, tag, again(changes)),
     }
 }
 
@@ -254,14 +255,14 @@ pub fn check<'a, C: Checker>(
     c: &mut C,
     k: &Cluster,
     me: Party,
-    m: MsgRef<'a>,
+    m: &MsgRef<'a>,
 ) -> Result<(), u32>
-    requires received { IsReceived m }
+    requires received { IsReceived m.now }
     requires party { IsPlaced k.now.f me }
-    ensures checked { result ≡ checks (C.judge c.old) k.now.f me (message m.entry) }
+    ensures checked { result ≡ checks (C.judge c.old) k.now.f me (message m.now) }
     ensures same { C.judge c.new ≡ C.judge c.old }
 {
-    if is_refused(me, &m) {
+    if is_refused(me, m) {
         return Err(0);
     }
     match check_claims(alloc, c, k, me, m) {

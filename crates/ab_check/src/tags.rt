@@ -8,6 +8,7 @@ ghost use Rattle.ab_content.specs.Views.{content as shown, request};
 ghost use Rattle.ab_check.specs.Checks.{checked_from, offer_checks, tagged};
 ghost use Rattle.ab_wire.specs.Views.{Spells, offered};
 
+use crate::chain::again;
 use crate::checker::Checker;
 use crate::signed::check_aborts;
 use crate::text::request_text;
@@ -63,15 +64,15 @@ pub fn check_offer<'a, C: Checker>(
     c: &mut C,
     place: u32,
     instance: u32,
-    offer: OfferRef<'a>,
+    offer: &OfferRef<'a>,
 ) -> Result<u32, u32>
-    requires room { place + length (offer_checks instance (offered offer)) ≤ 4294967295 }
-    requires lawful { (slot : ℕ) × IsOffer slot (offered offer) }
-    ensures checked { result ≡ checked_from (C.judge c.old) place (offer_checks instance (offered offer.entry)) }
+    requires room { place + length (offer_checks instance (offered offer.now)) ≤ 4294967295 }
+    requires lawful { (slot : ℕ) × IsOffer slot (offered offer.now) }
+    ensures checked { result ≡ checked_from (C.judge c.old) place (offer_checks instance (offered offer.now)) }
     ensures same { C.judge c.new ≡ C.judge c.old }
 {
     match offer {
-        OfferRef::Base(aborts) => check_aborts(alloc, c, place, aborts),
-        OfferRef::Request { request, tag } => check_asked(c, place, instance, &request, Some(tag)),
+        OfferRef::Base(aborts) => check_aborts(alloc, c, place, again(aborts)),
+        OfferRef::Request { request, tag } => check_asked(c, place, instance, request, Some(*tag)),
     }
 }

@@ -1,0 +1,145 @@
+-- The claims of a message are contents of the grammar.
+use Rattle.std.proofs.Common.{◌≡◌, ◌≤◌, ◌<◌, ◌+◌, ◌-◌, ◌*◌, ℕ, zero, suc, Bool, true, false, cond, leb, List, [], ◌∷◌, ◌++◌, map, length, Option, Some, None, refl, arith, All}
+use Rattle.std.specs.List.{Contains, flat_map}
+use Rattle.std.proofs.lemmas.List.Elements.{All-nil, All-cons, All-head, All-tail, All-append, All-map, All-weaker, All-contains}
+use Rattle.std.proofs.Math.Nat.{mod-lt}
+use Rattle.arrayvec.specs.ArrayVec.{ArrayVec}
+use Rattle.ab_num.specs.Bounds.{IsInBounds}
+use Rattle.ab_num.specs.declared.party.Party.{Party}
+use Rattle.ab_num.specs.declared.party.Party.TheVariants.{Replica, Client}
+use Rattle.ab_num.specs.Places.{at_position_of, position_in}
+use Rattle.ab_hist.specs.declared.request.Request.{Request}
+use Rattle.ab_hist.specs.Histories.{IsHistory}
+use Rattle.ab_form.specs.Formats.{IsWithin}
+use Rattle.ab_form.specs.Lists.{FitsInside}
+use Rattle.ab_msg.specs.declared.content.Content.{Content}
+use Rattle.ab_msg.specs.declared.content.Content.TheVariants.{Order, Abort, PrePrepare, Prepare, ViewChange}
+use Rattle.ab_msg.specs.declared.signed.Signed.{Signed}
+use Rattle.ab_msg.specs.declared.change.Proof.{Proof}
+use Rattle.ab_msg.specs.declared.message.Msg.{Msg}
+use Rattle.ab_msg.specs.declared.message.Msg.TheVariants as msg
+use Rattle.ab_msg.specs.declared.message.Offer.{Offer}
+use Rattle.ab_msg.specs.declared.message.Offer.TheVariants as offer
+use Rattle.ab_msg.specs.Claims.{instance_of, asked, ordered, each_before, tag_of_position, chain_claims, signed_contents, offer_claims, slot_claims, prepared_claims, change_claims, claims}
+use Rattle.ab_msg.specs.Carried.{stated_history}
+use Rattle.ab_msg.specs.Fields.{IsInstance, IsReply, IsRequest, IsSigner}
+use Rattle.ab_msg.specs.Contents.{IsContent, IsOrder, IsAbort, IsPrePrepare, IsChange, IsEntry}
+use Rattle.ab_msg.specs.Certs.{ArePrepares, IsProof, IsSigned}
+use Rattle.ab_msg.specs.Messages.{IsMessage, IsOffer, slot_in}
+use Rattle.ab_wire.proofs.KindLemmas.{req_content, resp_content, panic_content, abort_content, pre_prepare_content, prepare_content, commit_content, change_content, new_view_content}
+
+one : (c : Content) → IsContent c → All IsContent (c ∷ [])
+one c h = All-cons IsContent c [] h (All-nil IsContent)
+
+request-content : (i : ℕ) (m : Request) → IsInstance i → IsRequest 0 15 m → IsContent (asked i m)
+request-content i m hi hm = (refl, (hi, hm))
+
+order-claims : (c : Content) → IsOrder c → All IsContent (ordered c ++ c ∷ [])
+order-claims (Order maker i n m) h = All-cons IsContent (asked i m) (Order maker i n m ∷ []) (request-content i m h.1.0 h.1.1.1) (one (Order maker i n m) h)
+order-claims c h = absurd h
+
+signed-claims : (ss : List Signed) → All (IsSigned IsAbort) ss → All IsContent (signed_contents ss)
+signed-claims ss h = All-map IsContent (λ (s : Signed). s.content) ss (All-weaker (IsSigned IsAbort) (λ (s : Signed). IsContent s.content) (λ s g. abort_content s.content g.1.0) ss h)
+
+-- ---- along a chain
+
+each-content-if : (says : ℕ → Content) (k p : ℕ) (b : Bool) → ((q : ℕ) → IsContent (says q)) → All IsContent (each_before k says p)
+    → All IsContent (cond b (says (p - (k + 1)) ∷ each_before k says p) (each_before k says p))
+each-content-if says k p true h more = All-cons IsContent (says (p - (k + 1))) (each_before k says p) (h (p - (k + 1))) more
+each-content-if says k p false h more = more
+
+each-content : (says : ℕ → Content) (k p : ℕ) → ((q : ℕ) → IsContent (says q)) → All IsContent (each_before k says p)
+each-content says zero p h = All-nil IsContent
+each-content says (suc k) p h = each-content-if says k p (leb (k + 2) p) h (each-content says k p h)
+
+front-content : (i : ℕ) (m : Request) (b : Bool) (xs : List Content) → IsContent (asked i m) → All IsContent xs → All IsContent (cond b (asked i m ∷ xs) xs)
+front-content i m true xs h more = All-cons IsContent (asked i m) xs h more
+front-content i m false xs h more = more
+
+position-few : (f i q : ℕ) → f ≤ 2 → IsWithin 0 6 (at_position_of f i q)
+position-few f i q few =
+    let some : 0 < 3 * f + 1 = omega arith in
+    let lt = mod-lt (i - 1 + q - 1) some in
+    (omega arith, omega (arith, lt))
+
+chain-content : (f : ℕ) (me : Party) (i : ℕ) (m : Request) (n : ℕ) (d : List ℕ) (reply : Option (ArrayVec ℕ)) → f ≤ 2 → IsInstance i → IsRequest 0 15 m → IsWithin 1 1024 n → length d ≡ 32
+    → FitsInside IsReply reply → All IsContent (chain_claims f me i m n d reply)
+chain-content f (Replica r) i m n d reply few hi hm hn hd hr =
+    front-content i m (leb (position_in f i r) (f + 1)) (each_before (f + 1) (tag_of_position f i m n d) (position_in f i r)) (request-content i m hi hm)
+    (each-content (tag_of_position f i m n d) (f + 1) (position_in f i r) (λ q. (position-few f i q few, (hi, (hm.0, (hm.1.0, (hn, hd)))))))
+chain-content f (Client c) i m n d None few hi hm hn hd hr = All-nil IsContent
+chain-content f (Client c) i m n d (Some reply) few hi hm hn hd hr =
+    each-content _ (f + 1) (3 * f + 2) (λ q. (position-few f i q few, (hi, (hm.0, (hm.1.0, (hn, (hd, hr)))))))
+
+-- ---- view changes
+
+slot-content : (i slot : ℕ) (e : ℕ × List ℕ) (by : List (ℕ × List ℕ)) → IsInstance i → slot ≤ 16 → IsEntry e → All IsSigner by
+    → All IsContent (map (λ (s : ℕ × List ℕ). Prepare (Replica s.0) i e.0 slot e.1) by)
+slot-content i slot e by hi le he hs =
+    let at : IsWithin 0 16 slot = (omega arith, le) in
+    All-map IsContent (λ (s : ℕ × List ℕ). Prepare (Replica s.0) i e.0 slot e.1) by
+    (All-weaker IsSigner (λ (s : ℕ × List ℕ). IsContent (Prepare (Replica s.0) i e.0 slot e.1)) (λ s g. (g.0, (hi, (he.0, (at, he.1))))) by hs)
+
+slots-content : (i slot : ℕ) (es : List (ℕ × List ℕ)) (ps : List (List (ℕ × List ℕ))) → IsInstance i → slot + length es ≤ 17 → All IsEntry es → All ArePrepares ps → All IsContent (slot_claims i slot es ps)
+slots-content i slot [] ps hi le he hp = All-nil IsContent
+slots-content i slot (e ∷ es) [] hi le he hp = All-nil IsContent
+slots-content i slot (e ∷ es) (by ∷ ps) hi le he hp =
+    All-append IsContent (map (λ (s : ℕ × List ℕ). Prepare (Replica s.0) i e.0 slot e.1) by) (slot_claims i (suc slot) es ps)
+    (slot-content i slot e by hi (omega arith) (All-head IsEntry e es he) (All-head ArePrepares by ps hp).1)
+    (slots-content i (suc slot) es ps hi (omega arith) (All-tail IsEntry e es he) (All-tail ArePrepares by ps hp))
+
+prepared-content : (c : Content) (ps : List (List (ℕ × List ℕ))) → IsChange c → All ArePrepares ps → All IsContent (prepared_claims c ps)
+prepared-content (ViewChange maker i view entries) ps h hp = slots-content i 0 entries ps h.1.0 (omega (arith, h.1.1.1.0.1)) h.1.1.1.1 hp
+prepared-content c ps h hp = absurd h
+
+change-content : (v : Proof) → IsProof v → All IsContent (change_claims v)
+change-content v h =
+    All-cons IsContent v.change.content (prepared_claims v.change.content v.prepares) (change_content v.change.content h.0.1.0) (prepared-content v.change.content v.prepares h.0.1.0 h.1.1.1)
+
+changes-content : (vs : List Proof) → All IsProof vs → All IsContent (flat_map change_claims vs)
+changes-content [] h = All-nil IsContent
+changes-content (v ∷ vs) h =
+    All-append IsContent (change_claims v) (flat_map change_claims vs) (change-content v (All-head IsProof v vs h)) (changes-content vs (All-tail IsProof v vs h))
+
+-- ---- offers
+
+value-instance : (c : Content) → IsPrePrepare c → IsInstance (instance_of c)
+value-instance (PrePrepare maker i view slot x) h = h.1.0
+value-instance c h = absurd h
+
+offer-content : (i slot : ℕ) (o : Offer) → IsInstance i → IsOffer slot o → All IsContent (offer_claims i o)
+offer-content i slot (offer.Base ss) hi h = signed-claims ss h.1.1
+offer-content i slot (offer.Request m tag) hi h = one (asked i m) (request-content i m hi h.1.0)
+
+-- ---- all of a message
+
+pub claims-content : (f clients : ℕ) (me : Party) (m : Msg) → IsInBounds f clients → IsMessage m → All IsContent (claims f me m)
+claims-content f clients me (msg.Req content tags) b h = one content (req_content content h.0)
+claims-content f clients me (msg.Order content client_tag tag) b h = order-claims content h.0
+claims-content f clients me (msg.Resp content tag) b h = one content (resp_content content h.0)
+claims-content f clients me (msg.Chain i m n d reply tags) b h = chain-content f me i m n d reply b.few_faulty h.0 h.1.0 h.1.1.0 h.1.1.1.0 h.1.1.1.1.0
+claims-content f clients me (msg.Panic content tag) b h = one content (panic_content content h.0)
+claims-content f clients me (msg.Abort abort) b h = one abort.content (abort_content abort.content h.1.0)
+claims-content f clients me (msg.Init cert) b h = signed-claims cert h.1
+claims-content f clients me (msg.PrePrepare content tag offer) b h =
+    All-cons IsContent content (offer_claims (instance_of content) offer) (pre_prepare_content content h.0.0) (offer-content (instance_of content) (slot_in content) offer (value-instance content h.0.0) h.1)
+claims-content f clients me (msg.Prepare prepare) b h = one prepare.content (prepare_content prepare.content h.1.0)
+claims-content f clients me (msg.Commit content tag) b h = one content (commit_content content h.0)
+claims-content f clients me (msg.ViewChange change) b h = change-content change h
+claims-content f clients me (msg.NewView content tag changes) b h =
+    All-cons IsContent content (flat_map change_claims changes) (new_view_content content h.0) (changes-content changes h.1.1.1)
+
+-- ---- histories
+
+history-rises : (c : Content) → IsContent c → All IsHistory (stated_history c)
+history-rises (Abort maker i h) g = All-cons IsHistory h [] g.1.1.1.1 (All-nil IsHistory)
+history-rises c g = All-nil IsHistory
+
+histories-rise : (cs : List Content) → All IsContent cs → All IsHistory (flat_map stated_history cs)
+histories-rise [] h = All-nil IsHistory
+histories-rise (c ∷ cs) h =
+    All-append IsHistory (stated_history c) (flat_map stated_history cs) (history-rises c (All-head IsContent c cs h)) (histories-rise cs (All-tail IsContent c cs h))
+
+pub claims-rise : (f clients : ℕ) (me : Party) (m : Msg) → IsInBounds f clients → IsMessage m → (h : List Request) → Contains (flat_map stated_history (claims f me m)) h → IsHistory h
+claims-rise f clients me m b g h here =
+    All-contains IsHistory (flat_map stated_history (claims f me m)) h (histories-rise (claims f me m) (claims-content f clients me m b g)) here

@@ -1,0 +1,49 @@
+//! Contents that were checked, each a content of its own.
+
+ghost use Rattle.std.specs.Prelude.{◌≡◌, IfOk, map};
+ghost use Rattle.ab_open.specs.Claimed.{by_maker};
+
+use crate::claim_refs::ClaimRefs;
+use ab_msg::Content;
+use ab_num::{OutOfMemory, Party};
+use std::alloc::Global;
+use std::marker::Model;
+
+/// Contents that were checked, each with its maker.
+#[derive(Drop)]
+pub struct Claims {
+    claims: Vec<(Party, Content)>,
+}
+
+/// It is seen as the list of what it holds.
+impl Model for Claims {
+    ghost use Rattle.std.specs.Prelude.{List};
+    ghost use Rattle.ab_num.specs.declared.party.Party.{Party as TheParty};
+    ghost use Rattle.ab_msg.specs.declared.content.Content.{Content as TheContent};
+
+    ghost Value = { List (TheParty × TheContent) };
+
+    ghost view = { λ c. c.claims.items };
+}
+
+impl Claims {
+    /// Each maker with its content, in the order of checking.
+    pub fn as_slice(&self) -> &[(Party, Content)]
+        ensures { result.now ≡ self.now }
+    {
+        self.claims.as_slice()
+    }
+
+    /// A copy of each of these.
+    pub(crate) fn of(alloc: Global, given: ClaimRefs<'_>) -> Result<Claims, OutOfMemory>
+        ensures { IfOk result (λ c. c ≡ map by_maker given.entry) }
+    {
+        let mut claims = Vec::new(alloc);
+        'claims: for claim in given {
+            let maker = claim.maker();
+            let content = claim.own(alloc)?;
+            claims.push((maker, content))?;
+        }
+        Ok(Claims { claims })
+    }
+}

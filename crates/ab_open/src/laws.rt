@@ -1,0 +1,41 @@
+//! What is known of what opens.
+
+ghost use Rattle.std.specs.Prelude.{◌≡◌, ◌≢◌, ℕ, List, Bool, false, true, Ok, Option, IsTrue, All, Contains, flat_map};
+ghost use Rattle.ab_num.specs.declared.party.Party.{Party};
+ghost use Rattle.ab_num.specs.Bounds.{IsInBounds};
+ghost use Rattle.ab_form.specs.Formats.{IsBytes};
+ghost use Rattle.ab_hist.specs.declared.request.Request.{Request as Entry};
+ghost use Rattle.ab_hist.specs.Histories.{IsHistory};
+ghost use Rattle.ab_msg.specs.declared.message.Msg.{Msg as Message};
+ghost use Rattle.ab_msg.specs.declared.message.Msg.TheVariants as msg;
+ghost use Rattle.ab_msg.specs.declared.signed.Signed.{Signed};
+ghost use Rattle.ab_msg.specs.Carried.{stated_history};
+ghost use Rattle.ab_msg.specs.Claims.{claims, maker_of};
+ghost use Rattle.ab_msg.specs.Contents.{IsContent};
+ghost use Rattle.ab_msg.specs.Messages.{IsMessage, spell_message};
+ghost use Rattle.ab_check.specs.Checks.{Check, Judge, by_tag, checks_of, is_refused, is_right};
+ghost use Rattle.ab_open.specs.Opening.{opening, takes};
+
+/// A message opens only where what stands for each of its claims is right, and there is something that
+/// can stand for the first.
+pub fn opened_messages_are_checked()
+    ensures right { (judge : Judge) (f clients : ℕ) (me : Party) (bytes : List ℕ) (m : Message) → opening judge f clients me bytes ≡ Ok m → All (λ k. IsTrue (is_right judge k)) (checks_of f me m) }
+    ensures refused { (judge : Judge) (f clients : ℕ) (me : Party) (bytes : List ℕ) (m : Message) → opening judge f clients me bytes ≡ Ok m → is_refused me m ≡ false }
+{}
+
+/// A message that opens is of the grammar and its bytes spell it, its receiver takes it, and each of
+/// its claims is a content of the grammar. The stamps of the histories in them rise.
+pub fn opened_messages_are_of_the_grammar()
+    ensures grammar { (judge : Judge) (f clients : ℕ) (me : Party) (bytes : List ℕ) (m : Message) → IsBytes bytes → opening judge f clients me bytes ≡ Ok m
+        → IsMessage m × (bytes ≡ spell_message m) × IsTrue (takes f clients me m) }
+    ensures claims { (f clients : ℕ) (me : Party) (m : Message) → IsInBounds f clients → IsMessage m → All IsContent (claims f me m) }
+    ensures histories { (f clients : ℕ) (me : Party) (m : Message) → IsInBounds f clients → IsMessage m → (h : List Entry) → Contains (flat_map stated_history (claims f me m)) h → IsHistory h }
+{}
+
+/// Where no tag of oneself is right, a message opens only where no claim that stands by a tag is one's
+/// own; nor is a PREPARE that comes by itself.
+pub fn own_statements_are_refused()
+    ensures tags { (judge : Judge) (f clients : ℕ) (me : Party) (bytes : List ℕ) (m : Message) → ((text : List ℕ) (tag : Option (List ℕ)) → judge me text (by_tag tag) ≡ false)
+        → opening judge f clients me bytes ≡ Ok m → (k : Check) (tag : Option (List ℕ)) → Contains (checks_of f me m) k → k.token ≡ by_tag tag → maker_of k.content ≢ me }
+    ensures prepares { (judge : Judge) (f clients : ℕ) (me : Party) (bytes : List ℕ) (s : Signed) → opening judge f clients me bytes ≡ Ok (msg.Prepare s) → maker_of s.content ≢ me }
+{}

@@ -1,0 +1,133 @@
+//! The PREPAREs behind a view change, one after the other.
+
+ghost use Rattle.std.specs.Prelude.{◌≡◌, ◌+◌, ◌≤◌, ◌<◌, ◌∷◌, [], length, IfSome, MatchBool, MatchOption};
+ghost use Rattle.ab_form.specs.Readers.{listed};
+ghost use Rattle.ab_msg.specs.Claims.{prepared_claims, slot_claims};
+ghost use Rattle.ab_msg.specs.Contents.{IsChange};
+ghost use Rattle.ab_content.specs.Views.{content as shown};
+ghost use Rattle.ab_content.specs.Rows.{entry_at};
+ghost use Rattle.ab_content.specs.Parts.{signer_at};
+ghost use Rattle.ab_wire.specs.Changes.{prepares_at};
+ghost use Rattle.ab_open.specs.Stating.{IsClaim, IsPrepared, claimed, prepared_left};
+
+use crate::claim_ref::ClaimRef;
+use crate::copied::none;
+use ab_check::again;
+use ab_content::{ContentRef, EntryRef, SignerRef};
+use ab_form::ListRef;
+use ab_wire::PreparesRef;
+
+/// Zeros, where there is no slot yet.
+const NOTHING: &[u8; 32] = &[0; 32];
+
+/// Those who signed the PREPARE of one slot that are left to be told, and the slots behind it.
+#[derive(Clone, Copy, Debug)]
+pub(crate) struct PreparedRef<'a> {
+    pub(crate) instance: u32,
+    pub(crate) view: u32,
+    pub(crate) slot: u8,
+    pub(crate) x: &'a [u8; 32],
+    pub(crate) by: ListRef<'a, SignerRef<'a>>,
+    pub(crate) next: u8,
+    pub(crate) entries: ListRef<'a, EntryRef<'a>>,
+    pub(crate) prepares: ListRef<'a, PreparesRef<'a>>,
+}
+
+/// The PREPAREs of all slots.
+pub(crate) fn prepared_in<'a>(
+    instance: u32,
+    entries: ListRef<'a, EntryRef<'a>>,
+    prepares: ListRef<'a, PreparesRef<'a>>,
+) -> PreparedRef<'a>
+    requires { length (listed entry_at entries.count entries.bytes.now) ≤ 255 }
+    ensures claimed { prepared_left result ≡ slot_claims instance 0 (listed entry_at entries.entry.count entries.entry.bytes.now) (listed prepares_at prepares.entry.count prepares.entry.bytes.now) }
+    ensures lawful { IsPrepared result }
+{
+    PreparedRef {
+        instance,
+        view: 0,
+        slot: 0,
+        x: NOTHING,
+        by: none(),
+        next: 0,
+        entries,
+        prepares,
+    }
+}
+
+/// No PREPAREs.
+pub(crate) fn none_prepared<'a>() -> PreparedRef<'a>
+    ensures none { prepared_left result ≡ [] }
+    ensures lawful { IsPrepared result }
+{
+    prepared_in(1, none(), none())
+}
+
+/// The PREPAREs that stand behind a content.
+pub(crate) fn prepared_of<'a>(
+    content: &ContentRef<'a>,
+    prepares: ListRef<'a, PreparesRef<'a>>,
+) -> PreparedRef<'a>
+    requires { IsChange (shown content.now) }
+    ensures claimed { prepared_left result ≡ prepared_claims (shown content.now) (listed prepares_at prepares.entry.count prepares.entry.bytes.now) }
+    ensures lawful { IsPrepared result }
+{
+    match content {
+        ContentRef::ViewChange {
+            instance,
+            entries,
+            ..
+        } => prepared_in(*instance, again(entries), prepares),
+        _ => none_prepared(),
+    }
+}
+
+/// Goes on to the next slot, if there is one.
+fn to_next_slot<'a>(p: &mut PreparedRef<'a>) -> bool
+    requires lawful { IsPrepared p.old }
+    requires none { listed signer_at p.old.by.count p.old.by.bytes.now ≡ [] }
+    ensures next { MatchBool result ((prepared_left p.new ≡ prepared_left p.old) × (length (listed entry_at p.new.entries.count p.new.entries.bytes.now) < length (listed entry_at p.old.entries.count p.old.entries.bytes.now))) ((prepared_left p.old ≡ []) × (prepared_left p.new ≡ [])) }
+    ensures lawful { IsPrepared p.new }
+{
+    match p.entries.next() {
+        Some(e) => match p.prepares.next() {
+            Some(s) => {
+                p.view = e.view;
+                p.slot = p.next;
+                p.x = e.x;
+                p.by = s.by;
+                p.next += 1;
+                true
+            }
+            None => false,
+        },
+        None => false,
+    }
+}
+
+/// The next PREPARE.
+pub(crate) fn next_prepared<'a>(p: &mut PreparedRef<'a>) -> Option<ClaimRef<'a>>
+    requires { IsPrepared p.old }
+    ensures next { MatchOption result ((prepared_left p.old ≡ []) × (prepared_left p.new ≡ [])) (λ s. prepared_left p.old ≡ claimed s ∷ prepared_left p.new) }
+    ensures claim { IfSome result IsClaim }
+    ensures lawful { IsPrepared p.new }
+{
+    match p.by.next() {
+        Some(s) => {
+            Some(ClaimRef::Prepared {
+                replica: s.replica,
+                instance: p.instance,
+                view: p.view,
+                slot: p.slot,
+                x: p.x,
+            })
+        }
+        None => {
+            if to_next_slot(p) {
+                next_prepared(p)
+            } else {
+                None
+            }
+        }
+    }
+}
