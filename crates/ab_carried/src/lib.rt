@@ -1,6 +1,8 @@
 //! The histories and requests that a message brings.
 #![tactic(auto)]
 
-mod carried;
+mod collected;
+mod message;
 
-pub use carried::Carried;
+pub use collected::Carried;
+pub use message::carried;

@@ -34,6 +34,13 @@ impl Claims {
         self.claims.as_slice()
     }
 
+    /// Each maker with its content, in the order of checking, to keep.
+    pub fn into_vec(self) -> Vec<(Party, Content)>
+        ensures { result.items ≡ self }
+    {
+        self.claims
+    }
+
     /// A copy of each of these.
     pub(crate) fn of(alloc: Global, given: ClaimRefs<'_>) -> Result<Claims, OutOfMemory>
         ensures { IfOk result (λ c. c ≡ map by_maker given.entry) }

@@ -4,7 +4,7 @@ use Rattle.ab_form.specs.Readers.{listed}
 use Rattle.ab_msg.specs.Carried.{value_histories, value_requests}
 use Rattle.ab_wire.specs.Changes.{proof_at}
 use Rattle.ab_wire.specs.Views.{proofs}
-use Rattle.ab_carried.proofs.carried.Carried.add_changes.Given as goal
+use Rattle.ab_carried.proofs.collected.Carried.add_changes.Given as goal
 
 abbrev pub invariant-changes : goal.invariant-changes
 invariant-changes l =

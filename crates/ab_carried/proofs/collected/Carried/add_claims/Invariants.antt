@@ -1,7 +1,7 @@
 use Rattle.std.proofs.Common.{◌≡◌, ◌++◌}
 use Rattle.std.specs.List.{flat_map}
 use Rattle.ab_msg.specs.Carried.{stated_history, stated_request}
-use Rattle.ab_carried.proofs.carried.Carried.add_claims.Given as goal
+use Rattle.ab_carried.proofs.collected.Carried.add_claims.Given as goal
 
 abbrev pub invariant-claims : goal.invariant-claims
 invariant-claims l =
