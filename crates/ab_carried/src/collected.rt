@@ -26,7 +26,7 @@ pub struct Carried {
 
 impl Carried {
     /// Nothing.
-    pub fn none(alloc: Global) -> Carried
+    pub(crate) fn none(alloc: Global) -> Carried
         ensures histories { result.histories.items ≡ [] }
         ensures requests { result.requests.items ≡ [] }
     {
