@@ -1,7 +1,8 @@
 -- What a contract sees of a replica.
-use Rattle.std.specs.Prelude.{◌≡◌, ℕ, ◌+◌, ◌%◌, ◌^◌, []}
+use Rattle.std.specs.Prelude.{◌≡◌, ℕ, ◌+◌, ◌%◌, ◌^◌, None, []}
 use Rattle.ab_num.specs.declared.cluster.Cluster.{Cluster}
 use Rattle.ab_msg.specs.Pens.{Pen}
+use Rattle.ab_abs.specs.Ensembles.{Proto, entry_of}
 use Rattle.ab_run.specs.Setups.{Setup}
 use Rattle.ab_run.specs.Replicas.{Rep}
 
@@ -12,6 +13,16 @@ pub record Site (P : Type 0) : Type 0 where
   pub signatures : ℕ
   pub rep : Rep P
   pub entries : ℕ
+
+-- replica r of a cluster before the first event
+abbrev pub first_site : {P : Type 0} → Proto P → Cluster → ℕ → ℕ → Site P
+first_site proto c r signatures = record {
+  cluster = c;
+  me = r;
+  signatures = signatures;
+  rep = record { at = 1; value = proto.begin c 1 r (entry_of [] None); entry = entry_of [] None; abort = None; used = 0 };
+  entries = 0;
+}
 
 -- a run in which the replica stands: of its cluster, with as many signatures and with those of its pen
 pub record IsSetupOf {P : Type 0} (k : Setup) (s : Site P) (pen : Pen) : Type 0 where

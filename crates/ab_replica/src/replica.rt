@@ -12,7 +12,7 @@ ghost use Rattle.ab_abs.specs.Messages.{took, timed, offered};
 ghost use Rattle.ab_run.specs.Setups.{Setup};
 ghost use Rattle.ab_run.specs.Runs.{first_rep};
 ghost use Rattle.ab_run.specs.Replicas.{aborting, halting, here, late, taken, turn_call};
-ghost use Rattle.ab_replica.specs.Sites.{IsPenAfter, IsPenOf, IsSetupOf, Site, setup_of, timer_number};
+ghost use Rattle.ab_replica.specs.Sites.{IsPenAfter, IsPenOf, IsSetupOf, Site, first_site, setup_of, timer_number};
 ghost use Rattle.ab_replica.specs.Doings.{Does, Hears, entering};
 
 use crate::accepted::{init_marks, marks_between};
@@ -74,7 +74,8 @@ impl<S: Service, P: Protocol<S>> Replica<S, P> {
     ) -> Result<Self, OutOfMemory>
         requires served { ServesAll P.serves cluster.now }
         requires replica { me < 3 * cluster.now.f + 1 }
-        ensures { (k : Setup) → k.cluster ≡ cluster.now → IfOk result (λ q. q ≡ record { cluster = cluster.now; me = me; signatures = signatures; rep = first_rep k P.proto me; entries = 0 }) }
+        ensures site { IfOk result (λ q. q ≡ first_site P.proto cluster.now me signatures) }
+        ensures first { (k : Setup) → k.cluster ≡ cluster.now → IfOk result (λ q. q.rep ≡ first_rep k P.proto me) }
     {
         let entry = Entry {
             base: History::new(alloc),
