@@ -26,7 +26,7 @@ pub struct Carried {
 
 impl Carried {
     /// Nothing.
-    pub(crate) fn none(alloc: Global) -> Carried
+    pub fn none(alloc: Global) -> Carried
         ensures histories { result.histories.items ≡ [] }
         ensures requests { result.requests.items ≡ [] }
     {
