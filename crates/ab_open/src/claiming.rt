@@ -2,7 +2,6 @@
 
 ghost use Rattle.std.specs.Prelude.{◌≡◌, ◌≤◌, ◌<◌, ◌+◌, ◌*◌, ◌++◌, ◌∷◌, [], length, flat_map, IfSome};
 ghost use Rattle.std.specs.Option.{option_map};
-ghost use Rattle.ab_form.specs.Readers.{listed};
 ghost use Rattle.ab_num.specs.Places.{position_in};
 ghost use Rattle.ab_msg.specs.declared.message.Msg.TheVariants as msg;
 ghost use Rattle.ab_msg.specs.Certs.{IsProof};

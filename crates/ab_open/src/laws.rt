@@ -1,6 +1,6 @@
 //! What is known of what opens.
 
-ghost use Rattle.std.specs.Prelude.{◌≡◌, ◌≢◌, ℕ, List, Bool, false, true, Ok, Option, IsTrue, All, Contains, flat_map};
+ghost use Rattle.std.specs.Prelude.{◌≡◌, ◌≢◌, ℕ, List, false, Ok, Option, IsTrue, All, Contains, flat_map};
 ghost use Rattle.ab_num.specs.declared.party.Party.{Party};
 ghost use Rattle.ab_num.specs.Bounds.{IsInBounds};
 ghost use Rattle.ab_form.specs.Formats.{IsBytes};
