@@ -6,3 +6,6 @@ mod message;
 
 pub use collected::Carried;
 pub use message::carried;
+
+#[cfg(test)]
+mod tests;

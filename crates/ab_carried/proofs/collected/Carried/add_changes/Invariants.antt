@@ -1,8 +1,6 @@
 use Rattle.std.proofs.Common.{◌≡◌, ◌++◌, map}
 use Rattle.std.specs.List.{flat_map}
-use Rattle.ab_form.specs.Readers.{listed}
 use Rattle.ab_msg.specs.Carried.{value_histories, value_requests}
-use Rattle.ab_wire.specs.Changes.{proof_at}
 use Rattle.ab_wire.specs.Views.{proofs}
 use Rattle.ab_carried.proofs.collected.Carried.add_changes.Given as goal
 
