@@ -1,6 +1,6 @@
 -- A replica in its cluster, as it takes what comes.
-use Rattle.std.proofs.Common.{◌≡◌, ℕ, ◌+◌, ◌*◌, ◌^◌, ◌<◌, ◌≤◌, Bool, Result, Ok, Err, true, false, List, [], length, refl, sym, ap, ◌∙◌, subst, inl, inr, arith}
-use Rattle.std.specs.Prelude.{All, Contains, IfOk, IsTrue, OnErr, replicate}
+use Rattle.std.proofs.Common.{◌≡◌, ℕ, ◌+◌, ◌-◌, ◌*◌, ◌^◌, ◌<◌, ◌≤◌, Bool, Result, Ok, Err, true, false, List, [], length, refl, sym, ap, ◌∙◌, subst, inl, inr, arith}
+use Rattle.std.specs.Prelude.{All, Contains, IfOk, IsTrue, OnErr, replicate, count_by, slice_set, if◌then◌else◌}
 use Rattle.ab_num.specs.declared.plan.Height.{Height}
 use Rattle.ab_num.specs.declared.plan.Height.TheVariants.{Five, Ten}
 use Rattle.ab_num.specs.declared.plan.Kind.{Kind}
@@ -8,12 +8,13 @@ use Rattle.ab_num.specs.declared.party.Party.TheVariants.{Replica}
 use Rattle.ab_lms.specs.Nodes.{levels}
 use Rattle.ab_lms.proofs.Signed.{length-lms_signature}
 use Rattle.ab_keys.specs.Secrets.{tree_name, tree_seed}
-use Rattle.ab_sign.specs.Signers.{signature_at}
-use Rattle.ab_sign.proofs.KeyLemmas.{derived-at}
+use Rattle.ab_sign.specs.Signers.{signature_at, leaves_of, pen_of}
+use Rattle.ab_sign.proofs.KeyLemmas.{derived-at, derived-leaves}
 use Rattle.ab_msg.specs.declared.content.Content.{Content}
 use Rattle.ab_msg.specs.declared.message.Out.{Out}
 use Rattle.ab_msg.specs.Contents.{spell_content}
 use Rattle.ab_msg.specs.Fields.{IsSig}
+use Rattle.ab_msg.specs.Pens.{Pen}
 use Rattle.ab_abs.specs.declared.seen.Seen.{Seen}
 use Rattle.ab_abs.specs.Ensembles.{Proto}
 use Rattle.ab_abs.specs.Messages.{Call, IsFormed}
@@ -21,12 +22,12 @@ use Rattle.ab_abs.specs.Places.{KeepsForm}
 use Rattle.ab_abs.specs.Promises.{ServesAll}
 use Rattle.ab_abs.proofs.Certified.{all_of}
 use Rattle.ab_run.specs.Forms.{IsDraftOf, IsWrittenRep, IsWrittenSetup}
-use Rattle.ab_run.specs.Replicas.{is_spent}
-use Rattle.ab_run.specs.Local.{rep_marks, rep_sends}
+use Rattle.ab_run.specs.Replicas.{is_spent, due}
+use Rattle.ab_run.specs.Local.{after_turns, rep_marks, rep_sends}
 use Rattle.ab_run.proofs.Written.{first_written, call_goes}
 use Rattle.ab_replica.specs.declared.effects.Effects.{Effects}
-use Rattle.ab_replica.specs.Sites.{Site}
-use Rattle.ab_replica.specs.Doings.{Hears}
+use Rattle.ab_replica.specs.Sites.{IsPenAfter, IsPenOf, IsSetupOf, Site}
+use Rattle.ab_replica.specs.Doings.{Hears, is_entry}
 use Rattle.ab_cast.specs.declared.given.Given.{Given}
 use Rattle.ab_cast.specs.declared.given.Given.TheVariants as given
 use Rattle.ab_cast.specs.Setups.{Setup, run_setup, keys_of}
@@ -72,6 +73,38 @@ module _ {P : Type 0} (x : Setup) (proto : Proto P) (r : ℕ) (s : Site P) where
   pub spends_given : (g : Given) → core_spends x proto (Replica r) (replica s) (taken_of g) ≡ is_spent (run_setup x) proto r s.rep (call_of g)
   spends_given (given.Message m) = refl
   spends_given given.Time = refl
+
+-- ---- its pen
+
+module _ {P : Type 0} (proto : Proto P) (serves : Kind → Bool) (x : Setup) (r : ℕ) (lt : r < 3 * x.cluster.f + 1) (s : Site P) (is : IsSite proto serves x r s) where
+  pub pen_is : IsPenOf (pen_of (keys_of x) r s.rep.used) (leaves_of (keys_of x) r - s.rep.used) s
+  pen_is = record {
+    used = refl;
+    rest =
+        let most : leaves_of (keys_of x) r ≡ s.signatures = derived-leaves x.cluster.f x.lms (replicate 32 0) r lt ∙ sym is.signatures in
+        ap (λ n. n - s.rep.used + s.rep.used) most ∙ omega (arith, is.used);
+  }
+
+  pub setup_is : IsSetupOf (run_setup x) s (pen_of (keys_of x) r s.rep.used)
+  setup_is = record { cluster = sym is.placed; signatures = sym is.signatures; sig = ap (run_setup x).sig is.own }
+
+  -- it has made no more signatures than it can, since a spent event changes nothing
+  used_by : (call : Call) (now : Site P) (outs : List Out) (marks : List Seen) (spent : Bool) (pen new : Pen) (left : ℕ) → Hears proto (run_setup x) s call now outs marks spent
+      → (spent ≡ false → IsPenAfter pen new left now) → now.rep.used ≤ now.signatures
+  used_by call now outs marks false pen new left hears after = omega (arith, (after refl).own.rest)
+  used_by call now outs marks true pen new left hears after =
+      let k = run_setup x in
+      let at : Bool → Site P = λ b. record s {
+        rep = after_turns k proto s.me s.rep (if b then [] else due k proto s.me s.rep call);
+        entries = s.entries + count_by is_entry (if b then [] else due k proto s.me s.rep call);
+      } in
+      let same : now ≡ at true = hears.after ∙ ap at (sym hears.spends) in
+      subst (λ (q : Site P). q.rep.used ≤ q.signatures) (sym same) is.used
+
+  pub heard : (at : ℕ) (call : Call) (now : Site P) (old new : List (Site P)) (outs : List Out) (marks : List Seen) (spent : Bool) (pen after : Pen) (left : ℕ) → new ≡ slice_set old at now
+      → Hears proto (run_setup x) s call now outs marks spent → (spent ≡ false → IsPenAfter pen after left now) → RepHears proto x at s call old new outs marks spent
+  heard at call now old new outs marks spent pen after left set hears next =
+      record { now = now; set = set; hears = hears; used = used_by call now outs marks spent pen after left hears next }
 
 -- ---- one replica
 

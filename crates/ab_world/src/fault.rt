@@ -11,7 +11,7 @@ pub enum WorldFault {
     EventLimit,
     /// The bytes of its packets would pass 268,435,456, and it takes no more events.
     PacketLimit,
-    /// Its form is not taken yet.
+    /// It has no form that is taken: a command has 1 to 128 bytes.
     NotBuilt,
     /// No packet has this number.
     NoPacket,
