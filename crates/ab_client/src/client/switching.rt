@@ -198,13 +198,20 @@ impl Client {
         }
     }
 
+    /// Waits no longer for replies.
+    fn give_up(&mut self)
+        ensures { self.new ≡ record self.old { cli = after_move self.old.cli move_panic } }
+    {
+        self.phase = Phase::Panicking;
+    }
+
     /// Asks the replicas to stop.
     fn panic(&mut self, alloc: Global) -> Result<(Outs, Marks), OutOfMemory>
         ensures ok { IfOk result (λ r. IsMoved self.old (move_panic ∷ []) self.new r.0 r.1.items) }
         ensures err { OnErr result (self.new ≡ self.old) }
     {
         let outs = panicking(alloc, &self.cluster, self.instance, self.me, &self.cert)?;
-        self.phase = Phase::Panicking;
+        self.give_up();
         Ok((outs, Marks::new_in(alloc)))
     }
 
@@ -218,7 +225,7 @@ impl Client {
         ensures ok { IfOk result (λ r. IsMoved self.old (if is_waiting self.old.cli.phase then move_again request.now ∷ [] else []) self.new r.0 r.1.items) }
         ensures err { OnErr result (self.new ≡ self.old) }
     {
-        if self.phase != Phase::Waiting {
+        if !self.is_waiting() {
             return Ok(nothing(alloc));
         }
         let outs = asking_again(alloc, &self.cluster, self.instance, &self.cert, request)?;
