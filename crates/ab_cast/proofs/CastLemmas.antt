@@ -63,6 +63,15 @@ get_there [] i lt = absurd (omega arith)
 get_there (x ∷ xs) zero lt = (x, refl)
 get_there (x ∷ xs) (suc i) lt = get_there xs i (omega arith)
 
+pub read_there : {A : Type 0} (xs : List A) (i : ℕ) (t : A) → i < length xs → t ≡ get_or xs i t → slice_get xs i ≡ Some t
+read_there xs i t lt read = slice_get_read xs (length xs) i t refl lt read
+
+-- what is put where it stands changes nothing
+pub put_back : {A : Type 0} (xs : List A) (i : ℕ) (t u : A) → slice_get xs i ≡ Some t → u ≡ t → slice_set xs i u ≡ xs
+put_back [] i t u there same = absurd (cc (there))
+put_back (x ∷ xs) zero t u there same = let e : x ≡ t = cc (there) in ap (λ y. y ∷ xs) (same ∙ sym e)
+put_back (x ∷ xs) (suc i) t u there same = ap (λ ys. x ∷ ys) (put_back xs i t u there same)
+
 -- what stands at a place is what was read there
 pub the_same : {A : Type 0} (xs : List A) (i : ℕ) (s t : A) → slice_get xs i ≡ Some s → i < length xs → t ≡ get_or xs i t → s ≡ t
 the_same xs i s t at lt read = some_injective s t (sym at ∙ slice_get_read xs (length xs) i t refl lt read)
@@ -134,8 +143,8 @@ module _ {P : Type 0} (proto : Proto P) (serves : Kind → Bool) (x : Cast P) (i
       all_clients = is.all_clients;
       all_replica_twins = ap length set ∙ (set_length x.replica_twins at now ∙ is.all_replica_twins);
       all_client_twins = is.all_client_twins;
-    serves_all = is.serves_all;
-    own_replicas = is.own_replicas;
+      serves_all = is.serves_all;
+      own_replicas = is.own_replicas;
       twin_replicas = subst (AreTwins proto serves x.setup (replica_twins x.setup.faulty)) (sym set)
           (λ i k t number at_i. Each-set (λ j t. (k : ℕ × ℕ) → slice_get (replica_twins x.setup.faulty) j ≡ Some k → IsSite proto serves x.setup k.0 t) x.replica_twins at s now there
           here (λ j t at_j k number. is.twin_replicas j k t number at_j) i t at_i k number);
@@ -151,8 +160,8 @@ module _ {P : Type 0} (proto : Proto P) (serves : Kind → Bool) (x : Cast P) (i
       all_clients = ap length set ∙ (set_length x.clients at now ∙ is.all_clients);
       all_replica_twins = is.all_replica_twins;
       all_client_twins = is.all_client_twins;
-    serves_all = is.serves_all;
-    own_replicas = is.own_replicas;
+      serves_all = is.serves_all;
+      own_replicas = is.own_replicas;
       twin_replicas = is.twin_replicas;
       seats = subst (AreSeats c (x.events + 1)) (sym set) (Each-set (IsSeat c (x.events + 1)) x.clients at s now there (moved_seat at s now goes (is.seats at s there)) later_seats);
       twin_seats = later_twins;
@@ -166,8 +175,8 @@ module _ {P : Type 0} (proto : Proto P) (serves : Kind → Bool) (x : Cast P) (i
       all_clients = is.all_clients;
       all_replica_twins = is.all_replica_twins;
       all_client_twins = ap length set ∙ (set_length x.client_twins at now ∙ is.all_client_twins);
-    serves_all = is.serves_all;
-    own_replicas = is.own_replicas;
+      serves_all = is.serves_all;
+      own_replicas = is.own_replicas;
       twin_replicas = is.twin_replicas;
       seats = later_seats;
       twin_seats = subst (AreTwinSeats c (x.events + 1) (client_twins x.setup.faulty)) (sym set)
@@ -189,6 +198,9 @@ module _ {P : Type 0} (proto : Proto P) (serves : Kind → Bool) (x : Cast P) (i
 
   client_twin_at : (n at : ℕ) → IsThere x.setup (place.ClientTwin n at) → (s : Seat) × (slice_get x.client_twins at ≡ Some s)
   client_twin_at n at there = get_there x.client_twins at (omega (arith, slice_get_within (client_twins x.setup.faulty) at there.1.0 there.1.1.0, is.all_client_twins))
+
+  pub client_twin_within : (n at : ℕ) → IsThere x.setup (place.ClientTwin n at) → at < length x.client_twins
+  client_twin_within n at there = omega (arith, slice_get_within (client_twins x.setup.faulty) at there.1.0 there.1.1.0, is.all_client_twins)
 
   pub seat_at : (n at : ℕ) (s : Seat) → IsThere x.setup (place.ClientTwin n at) → slice_get x.client_twins at ≡ Some s → IsSeat c x.events n s
   seat_at n at s there here = subst (λ (d : ℕ). IsSeat c x.events d s) there.1.1.1 (is.twin_seats at there.1.0 s there.1.1.0 here)

@@ -1,9 +1,10 @@
 -- A replica in its cluster, as it takes what comes.
 use Rattle.std.proofs.Common.{◌≡◌, ℕ, ◌+◌, ◌-◌, ◌*◌, ◌^◌, ◌<◌, ◌≤◌, Bool, Result, Ok, Err, true, false, List, [], length, refl, sym, ap, ◌∙◌, subst, inl, inr, arith}
-use Rattle.std.specs.Prelude.{All, Contains, IfOk, IsTrue, OnErr, replicate, count_by, slice_set, if◌then◌else◌}
+use Rattle.std.specs.Prelude.{All, Contains, IfOk, IsTrue, OnErr, replicate, slice_set, if◌then◌else◌}
 use Rattle.ab_num.specs.declared.plan.Height.{Height}
 use Rattle.ab_num.specs.declared.plan.Height.TheVariants.{Five, Ten}
 use Rattle.ab_num.specs.declared.plan.Kind.{Kind}
+use Rattle.ab_num.specs.declared.memory.OutOfMemory.{OutOfMemory}
 use Rattle.ab_num.specs.declared.party.Party.TheVariants.{Replica}
 use Rattle.ab_lms.specs.Nodes.{levels}
 use Rattle.ab_lms.proofs.Signed.{length-lms_signature}
@@ -27,7 +28,7 @@ use Rattle.ab_run.specs.Local.{after_turns, rep_marks, rep_sends}
 use Rattle.ab_run.proofs.Written.{first_written, call_goes}
 use Rattle.ab_replica.specs.declared.effects.Effects.{Effects}
 use Rattle.ab_replica.specs.Sites.{IsPenAfter, IsPenOf, IsSetupOf, Site}
-use Rattle.ab_replica.specs.Doings.{Hears, is_entry}
+use Rattle.ab_replica.specs.Doings.{Hears, entries_in}
 use Rattle.ab_cast.specs.declared.given.Given.{Given}
 use Rattle.ab_cast.specs.declared.given.Given.TheVariants as given
 use Rattle.ab_cast.specs.Setups.{Setup, run_setup, keys_of}
@@ -38,8 +39,8 @@ use Rattle.ab_cast.specs.Casts.{IsSite, first_site}
 -- ---- signatures
 
 sig_fits : (lms : Height) (sig : List ℕ) → length sig ≡ 2188 + 32 * levels lms → IsSig sig
-sig_fits Five sig long = let e : length sig ≡ 2348 = long in rw e tt
-sig_fits Ten sig long = let e : length sig ≡ 2508 = long in rw e tt
+sig_fits Five sig long = let e : length sig ≡ 2348 = long in rw e refl
+sig_fits Ten sig long = let e : length sig ≡ 2508 = long in rw e refl
 
 sig_long : (x : Setup) (r : ℕ) (s : Content) (n : ℕ) → r < 3 * x.cluster.f + 1 → IsSig ((run_setup x).sig r s n)
 sig_long x r s n lt =
@@ -96,7 +97,7 @@ module _ {P : Type 0} (proto : Proto P) (serves : Kind → Bool) (x : Setup) (r 
       let k = run_setup x in
       let at : Bool → Site P = λ b. record s {
         rep = after_turns k proto s.me s.rep (if b then [] else due k proto s.me s.rep call);
-        entries = s.entries + count_by is_entry (if b then [] else due k proto s.me s.rep call);
+        entries = s.entries + entries_in (if b then [] else due k proto s.me s.rep call);
       } in
       let same : now ≡ at true = hears.after ∙ ap at (sym hears.spends) in
       subst (λ (q : Site P). q.rep.used ≤ q.signatures) (sym same) is.used
@@ -105,6 +106,12 @@ module _ {P : Type 0} (proto : Proto P) (serves : Kind → Bool) (x : Setup) (r 
       → Hears proto (run_setup x) s call now outs marks spent → (spent ≡ false → IsPenAfter pen after left now) → RepHears proto x at s call old new outs marks spent
   heard at call now old new outs marks spent pen after left set hears next =
       record { now = now; set = set; hears = hears; used = used_by call now outs marks spent pen after left hears next }
+
+  pub heard_ok : (at : ℕ) (call : Call) (now : Site P) (old : List (Site P)) (result : Result Effects OutOfMemory) (pen after : Pen) (left : ℕ)
+      → IfOk result (λ e. Hears proto (run_setup x) s call now e.outs e.marks.items e.spent) → IfOk result (λ e. e.spent ≡ false → IsPenAfter pen after left now)
+      → IfOk result (λ e. RepHears proto x at s call old (slice_set old at now) e.outs e.marks.items e.spent)
+  heard_ok at call now old (Ok e) pen after left hears next = heard at call now old (slice_set old at now) e.outs e.marks.items e.spent pen after left refl hears next
+  heard_ok at call now old (Err fault) pen after left hears next = hears
 
 -- ---- one replica
 

@@ -1,5 +1,5 @@
 -- A core of a party, and what it does with what comes to it.
-use Rattle.std.specs.Prelude.{ℕ, ◌+◌, Bool, false, List, [], count_by}
+use Rattle.std.specs.Prelude.{ℕ, ◌+◌, Bool, false, List, []}
 use Rattle.arrayvec.specs.ArrayVec.{ArrayVec}
 use Rattle.ab_num.specs.declared.party.Party.{Party}
 use Rattle.ab_num.specs.declared.party.Party.TheVariants.{Replica, Client}
@@ -13,7 +13,7 @@ use Rattle.ab_abs.specs.Ensembles.{Proto}
 use Rattle.ab_run.specs.Setups.{Setup as RunSetup}
 use Rattle.ab_run.specs.Replicas.{is_spent, turns}
 use Rattle.ab_replica.specs.Sites.{Site}
-use Rattle.ab_replica.specs.Doings.{is_entry}
+use Rattle.ab_replica.specs.Doings.{entries_in}
 use Rattle.ab_run.specs.Local.{Cue, cue_command, cue_message, cue_time, rep_after, rep_sends, rep_marks, cli_after, cli_sends, cli_marks}
 use Rattle.ab_client.specs.Clients.{Seat}
 use Rattle.ab_cast.specs.Setups.{Setup, run_setup}
@@ -46,7 +46,7 @@ taken_claims f p time = []
 
 -- where a replica is after a call
 abbrev pub site_after : {P : Type 0} → RunSetup → Proto P → ℕ → Site P → Call → Site P
-site_after k proto r s call = record s { rep = rep_after k proto r s.rep call; entries = s.entries + count_by is_entry (turns k proto r s.rep call) }
+site_after k proto r s call = record s { rep = rep_after k proto r s.rep call; entries = s.entries + entries_in (turns k proto r s.rep call) }
 
 module _ {P : Type 0} (x : Setup) (proto : Proto P) where
   -- where a core of party p is after what comes to it, what it sends, what is seen of it, and whether the event is spent for want of

@@ -223,8 +223,7 @@ impl Setup {
     /// Who tells for a party of the cluster whether a tag or a signature is right.
     pub fn verifier(&self, party: Party) -> Verifier<'_>
         requires { IsTrue (is_party self.now.cluster.f self.now.cluster.clients party) }
-        ensures ring { result.ring.now ≡ ring_at self.now party }
-        ensures signers { result.signers.now ≡ keys_of self.now }
+        ensures { result ≡ record { ring = ring_at self.now party; keys = keys_of self.now } }
     {
         Verifier::new(self.ring(party), &self.signers)
     }

@@ -2,9 +2,8 @@ use Rattle.std.proofs.Common.{◌≡◌, ◌<◌, ◌&&◌, ℕ, true, nat_lt, L
 use Rattle.std.specs.Prelude.{if◌then◌else◌}
 use Rattle.std.specs.List.{list_all}
 use Rattle.ab_num.specs.declared.party.Party.{Party}
-use Rattle.ab_num.specs.declared.cluster.Cluster.{Cluster}
 use Rattle.ab_form.specs.Formats.{IsBytes}
-use Rattle.ab_check.specs.Checks.{Judge}
+use Rattle.ab_sign.specs.Judges.{judge_of}
 use Rattle.ab_open.specs.declared.fault.OpenFault.TheVariants.{NotMine}
 use Rattle.ab_open.specs.Opening.{opening}
 use Rattle.ab_cast.specs.Setups.{Setup, judge_at}
@@ -25,6 +24,5 @@ pub returns-clause-opening : goal.returns-clause-opening
 returns-clause-opening c =
     let bytes = c.args.bytes.now in
     let p = c.args.party in
-    let at : Judge → Cluster → Type 0 = λ judge k. opening judge k.f k.clients p bytes ≡ opening judge k.f k.clients p bytes in
-    let same = (λ j. opening (c.verifier.ensures j) (c.cluster.ensures j).f (c.cluster.ensures j).clients p bytes) ∙ sym (opening_is c.args.setup.now p bytes (λ i. omega (arith, c.type_inv.bytes i))) in
+    let same = (λ j. opening (judge_of (c.verifier-verifier.ensures j).ring (c.verifier-verifier.ensures j).keys) (c.cluster.ensures j).f (c.cluster.ensures j).clients p bytes) ∙ sym (opening_is c.args.setup.now p bytes (λ i. omega (arith, c.type_inv.bytes i))) in
     subst (λ o. MatchResult c.open.result (λ m. o ≡ Ok m.msg) (λ e. o ≡ Err e)) same c.open.ensures.opening

@@ -1,9 +1,9 @@
-use Rattle.std.proofs.Common.{◌≡◌, ◌<◌, ◌+◌, arith, refl, sym, ap}
+use Rattle.std.proofs.Common.{◌≡◌, ◌<◌, ◌+◌, arith, sym, ap}
 use Rattle.ab_cast.specs.declared.place.Place.TheVariants as place
 use Rattle.ab_cast.specs.Cores.{client, replica}
 use Rattle.ab_cast.specs.Hearing.{taken_of}
 use Rattle.ab_cast.specs.Casts.{Cast, IsTaken}
-use Rattle.ab_cast.proofs.CastLemmas.{at_core, at_there, replica_core, client_core, replica_stays, replica_taken, replica_twin_stays, replica_twin_taken, twin_of, DoesAt, client_stays, client_taken, client_twin_stays, client_twin_taken, spends_nothing}
+use Rattle.ab_cast.proofs.CastLemmas.{at_core, at_there, replica_core, client_core, replica_stays, replica_taken, replica_twin_stays, replica_twin_taken, twin_of, DoesAt, client_stays, client_taken, client_twin_stays, client_twin_taken, client_twin_within, spends_nothing}
 use Rattle.ab_cast.proofs.cast.Cast.give.Goals as goal
 
 pub invariant_of-self-in-Replica : goal.invariant_of-self-in-Replica
@@ -13,7 +13,7 @@ invariant_of-self-in-Replica g c =
     let x : Cast g.row.P.Denot = record { setup = c.self.inside.setup; replicas = c.self.inside.replicas.items; clients = c.self.inside.clients.items; replica_twins = c.self.inside.replica_twins.items; client_twins = c.self.inside.client_twins.items; events = c.self.inside.events } in
     let few : x.events < 100000 = omega (arith, c.requires.few, ap (λ y. y.events) c.self.view_is) in
     let there = at_there x c.args.self.now c.self.view_is c.args.place (place.Replica c.in-Replica.r) c.in-Replica.is c.requires.there.0 c.requires.there.1 in
-    replica_stays proto serves x c.self.invariant g.P.Protocol.formed few c.in-Replica.r c.args.given c.requires.given c.hear_replica.new.cores.items c.in_ok-effects-in-Replica.effects.outs c.in_ok-effects-in-Replica.effects.marks.items c.in_ok-effects-in-Replica.effects.spent there c.in_ok-effects-in-Replica.ensures.heard
+    replica_stays proto serves x c.self.invariant g.met.P.Protocol.formed few c.in-Replica.r c.args.given c.requires.given c.hear_replica.new.cores.items c.in_ok-effects-in-Replica.effects.outs c.in_ok-effects-in-Replica.effects.marks.items c.in_ok-effects-in-Replica.effects.spent there c.in_ok-effects-in-Replica.ensures.heard
 
 pub returns-in_ok-effects-in-Replica-clause-taken : goal.returns-in_ok-effects-in-Replica-clause-taken
 returns-in_ok-effects-in-Replica-clause-taken g c =
@@ -25,7 +25,7 @@ returns-in_ok-effects-in-Replica-clause-taken g c =
     let new : Cast g.row.P.Denot = record x { replicas = c.hear_replica.new.cores.items; events = x.events + 1 } in
     at_core x c.args.self.now c.self.view_is c.args.place (place.Replica c.in-Replica.r) c.in-Replica.is (λ y q s. IsTaken proto y q s (taken_of c.args.given) new c.in_ok-effects-in-Replica.effects.outs c.in_ok-effects-in-Replica.effects.marks.items c.in_ok-effects-in-Replica.effects.spent)
     (replica_core x.replicas (c.in-Replica.r) (λ s. IsTaken proto x (place.Replica c.in-Replica.r) s (taken_of c.args.given) new c.in_ok-effects-in-Replica.effects.outs c.in_ok-effects-in-Replica.effects.marks.items c.in_ok-effects-in-Replica.effects.spent)
-    (replica_taken proto serves x c.self.invariant g.P.Protocol.formed few c.in-Replica.r c.args.given c.requires.given c.hear_replica.new.cores.items c.in_ok-effects-in-Replica.effects.outs c.in_ok-effects-in-Replica.effects.marks.items c.in_ok-effects-in-Replica.effects.spent there c.in_ok-effects-in-Replica.ensures.heard))
+    (replica_taken proto serves x c.self.invariant g.met.P.Protocol.formed few c.in-Replica.r c.args.given c.requires.given c.hear_replica.new.cores.items c.in_ok-effects-in-Replica.effects.outs c.in_ok-effects-in-Replica.effects.marks.items c.in_ok-effects-in-Replica.effects.spent there c.in_ok-effects-in-Replica.ensures.heard))
 
 pub invariant_of-self-in-ReplicaTwin : goal.invariant_of-self-in-ReplicaTwin
 invariant_of-self-in-ReplicaTwin g c =
@@ -34,7 +34,7 @@ invariant_of-self-in-ReplicaTwin g c =
     let x : Cast g.row.P.Denot = record { setup = c.self.inside.setup; replicas = c.self.inside.replicas.items; clients = c.self.inside.clients.items; replica_twins = c.self.inside.replica_twins.items; client_twins = c.self.inside.client_twins.items; events = c.self.inside.events } in
     let few : x.events < 100000 = omega (arith, c.requires.few, ap (λ y. y.events) c.self.view_is) in
     let there = at_there x c.args.self.now c.self.view_is c.args.place (place.ReplicaTwin c.in-ReplicaTwin.r c.in-ReplicaTwin.at) c.in-ReplicaTwin.is c.requires.there.0 c.requires.there.1 in
-    replica_twin_stays proto serves x c.self.invariant g.P.Protocol.formed few c.in-ReplicaTwin.r c.in-ReplicaTwin.at c.args.given c.requires.given c.hear_replica-in-ReplicaTwin.new.cores.items c.in_ok-effects-in-ReplicaTwin.effects.outs c.in_ok-effects-in-ReplicaTwin.effects.marks.items c.in_ok-effects-in-ReplicaTwin.effects.spent there c.in_ok-effects-in-ReplicaTwin.ensures.heard
+    replica_twin_stays proto serves x c.self.invariant g.met.P.Protocol.formed few c.in-ReplicaTwin.r c.in-ReplicaTwin.at c.args.given c.requires.given c.hear_replica-in-ReplicaTwin.new.cores.items c.in_ok-effects-in-ReplicaTwin.effects.outs c.in_ok-effects-in-ReplicaTwin.effects.marks.items c.in_ok-effects-in-ReplicaTwin.effects.spent there c.in_ok-effects-in-ReplicaTwin.ensures.heard
 
 pub returns-in_ok-effects-in-ReplicaTwin-clause-taken : goal.returns-in_ok-effects-in-ReplicaTwin-clause-taken
 returns-in_ok-effects-in-ReplicaTwin-clause-taken g c =
@@ -46,7 +46,7 @@ returns-in_ok-effects-in-ReplicaTwin-clause-taken g c =
     let new : Cast g.row.P.Denot = record x { replica_twins = c.hear_replica-in-ReplicaTwin.new.cores.items; events = x.events + 1 } in
     at_core x c.args.self.now c.self.view_is c.args.place (place.ReplicaTwin c.in-ReplicaTwin.r c.in-ReplicaTwin.at) c.in-ReplicaTwin.is (λ y q s. IsTaken proto y q s (taken_of c.args.given) new c.in_ok-effects-in-ReplicaTwin.effects.outs c.in_ok-effects-in-ReplicaTwin.effects.marks.items c.in_ok-effects-in-ReplicaTwin.effects.spent)
     (replica_core x.replica_twins (c.in-ReplicaTwin.at) (λ s. IsTaken proto x (place.ReplicaTwin c.in-ReplicaTwin.r c.in-ReplicaTwin.at) s (taken_of c.args.given) new c.in_ok-effects-in-ReplicaTwin.effects.outs c.in_ok-effects-in-ReplicaTwin.effects.marks.items c.in_ok-effects-in-ReplicaTwin.effects.spent)
-    (replica_twin_taken proto serves x c.self.invariant g.P.Protocol.formed few c.in-ReplicaTwin.r c.in-ReplicaTwin.at c.args.given c.requires.given c.hear_replica-in-ReplicaTwin.new.cores.items c.in_ok-effects-in-ReplicaTwin.effects.outs c.in_ok-effects-in-ReplicaTwin.effects.marks.items c.in_ok-effects-in-ReplicaTwin.effects.spent there c.in_ok-effects-in-ReplicaTwin.ensures.heard))
+    (replica_twin_taken proto serves x c.self.invariant g.met.P.Protocol.formed few c.in-ReplicaTwin.r c.in-ReplicaTwin.at c.args.given c.requires.given c.hear_replica-in-ReplicaTwin.new.cores.items c.in_ok-effects-in-ReplicaTwin.effects.outs c.in_ok-effects-in-ReplicaTwin.effects.marks.items c.in_ok-effects-in-ReplicaTwin.effects.spent there c.in_ok-effects-in-ReplicaTwin.ensures.heard))
 
 pub invariant_of-self-in-Client : goal.invariant_of-self-in-Client
 invariant_of-self-in-Client g c =
@@ -98,3 +98,19 @@ returns-in_ok-effects-in-ClientTwin-clause-taken g c =
     (client_core x.client_twins (c.in-ClientTwin.at) (λ s. IsTaken proto x (place.ClientTwin c.in-ClientTwin.field-0 c.in-ClientTwin.at) s (taken_of c.args.given) new c.in_ok-effects-in-ClientTwin.effects.outs c.in_ok-effects-in-ClientTwin.effects.marks.items c.in_ok-effects-in-ClientTwin.effects.spent)
     (λ s here. spends_nothing proto x (place.ClientTwin c.in-ClientTwin.field-0 c.in-ClientTwin.at) (client s) (taken_of c.args.given) new c.in_ok-effects-in-ClientTwin.effects.outs c.in_ok-effects-in-ClientTwin.effects.marks.items c.in_ok-effects-in-ClientTwin.effects.spent e.spent (client_twin_taken proto serves x c.self.invariant few c.in-ClientTwin.field-0 c.in-ClientTwin.at (taken_of c.args.given) c.hear_client-in-ClientTwin.new.cores.items c.in_ok-effects-in-ClientTwin.effects.outs c.in_ok-effects-in-ClientTwin.effects.marks.items there does s here)))
 
+
+pub hear_replica-requires-clause-own : goal.hear_replica-requires-clause-own
+hear_replica-requires-clause-own g c = λ s at. c.self.invariant.own_replicas c.in-Replica.r s at
+
+pub hear_replica-requires-in-ReplicaTwin-clause-own : goal.hear_replica-requires-in-ReplicaTwin-clause-own
+hear_replica-requires-in-ReplicaTwin-clause-own g c = λ s at.
+    let x : Cast g.row.P.Denot = record { setup = c.self.inside.setup; replicas = c.self.inside.replicas.items; clients = c.self.inside.clients.items; replica_twins = c.self.inside.replica_twins.items; client_twins = c.self.inside.client_twins.items; events = c.self.inside.events } in
+    let there = at_there x c.args.self.now c.self.view_is c.args.place (place.ReplicaTwin c.in-ReplicaTwin.r c.in-ReplicaTwin.at) c.in-ReplicaTwin.is c.requires.there.0 c.requires.there.1 in
+    twin_of g.P.Protocol.proto g.P.Protocol.serves x c.self.invariant c.in-ReplicaTwin.r c.in-ReplicaTwin.at s there at
+
+pub hear_client-requires-in-ClientTwin-clause-there : goal.hear_client-requires-in-ClientTwin-clause-there
+hear_client-requires-in-ClientTwin-clause-there g c =
+    let x : Cast g.row.P.Denot = record { setup = c.self.inside.setup; replicas = c.self.inside.replicas.items; clients = c.self.inside.clients.items; replica_twins = c.self.inside.replica_twins.items; client_twins = c.self.inside.client_twins.items; events = c.self.inside.events } in
+    let there = at_there x c.args.self.now c.self.view_is c.args.place (place.ClientTwin c.in-ClientTwin.field-0 c.in-ClientTwin.at) c.in-ClientTwin.is c.requires.there.0 c.requires.there.1 in
+    let within = client_twin_within g.P.Protocol.proto g.P.Protocol.serves x c.self.invariant c.in-ClientTwin.field-0 c.in-ClientTwin.at there in
+    omega (arith, within, c.self.inside.client_twins.ok.0)
