@@ -1,2 +1,5 @@
 -- Lemmas of this crate.
+pub mod AnswerLemmas
+pub mod CertLemmas
+pub mod MovedLemmas
 pub mod Targets

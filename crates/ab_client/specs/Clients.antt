@@ -1,10 +1,10 @@
 -- What a contract sees of a client.
-use Rattle.std.specs.Prelude.{◌≡◌, ◌≢◌, ℕ, ◌<◌, ◌≤◌, Bool, true, false, List, []}
+use Rattle.std.specs.Prelude.{◌≡◌, ◌≢◌, ℕ, ◌<◌, ◌≤◌, Bool, true, false, List, [], replicate}
 use Rattle.ab_num.specs.declared.cluster.Cluster.{Cluster}
 use Rattle.ab_num.specs.declared.party.Party.TheVariants.{Client}
 use Rattle.ab_hist.specs.declared.request.Request.{Request}
 use Rattle.ab_msg.specs.declared.content.Content.{Content}
-use Rattle.ab_msg.specs.declared.content.Content.TheVariants.{Req}
+use Rattle.ab_msg.specs.declared.content.Content.TheVariants.{Req, Panic}
 use Rattle.ab_msg.specs.declared.message.Msg.{Msg}
 use Rattle.ab_msg.specs.declared.message.Msg.TheVariants as msg
 use Rattle.ab_msg.specs.declared.message.Out.{Out}
@@ -12,8 +12,8 @@ use Rattle.ab_abs.specs.declared.seen.Seen.{Seen}
 use Rattle.ab_run.specs.declared.phase.Phase.{Phase}
 use Rattle.ab_run.specs.declared.phase.Phase.TheVariants.{Idle, Waiting, Panicking}
 use Rattle.ab_run.specs.Setups.{Setup}
-use Rattle.ab_run.specs.Clients.{Cli}
-use Rattle.ab_run.specs.Local.{Cue, cue_command, cli_after, cli_sends, cli_marks}
+use Rattle.ab_run.specs.Clients.{Cli, Move}
+use Rattle.ab_run.specs.Local.{Cue, cue_command, moves_at, cli_after, cli_sends, cli_marks}
 use Rattle.ab_client.specs.declared.client.InvokeFault.{InvokeFault}
 use Rattle.ab_client.specs.declared.client.InvokeFault.TheVariants.{Busy, TooLong, Empty, OutOfMemory}
 
@@ -46,9 +46,17 @@ sends s cue = cli_sends (alone s.cluster) s.me s.cli cue
 abbrev pub marks : Seat → Cue → List Seen
 marks s cue = cli_marks (alone s.cluster) s.me s.cli cue
 
+-- what it does as something comes to it
+abbrev pub moves_on : Seat → Cue → List Move
+moves_on s cue = moves_at (alone s.cluster) s.me s.cli cue
+
 -- a client's request in an instance, before it has tags
 abbrev pub request_msg : ℕ → Request → Msg
 request_msg i m = msg.Req (Req (Client m.client) i m) (record { items = [] })
+
+-- what asks the replicas to stop an instance, before it has a tag
+unfoldable pub panic_msg : ℕ → ℕ → Msg
+panic_msg i c = msg.Panic (Panic (Client c) i) (replicate 32 0)
 
 -- when a command is refused: a request is open, or the command is too long or empty
 abbrev pub InvokeCause : InvokeFault → Phase → ℕ → Type 0

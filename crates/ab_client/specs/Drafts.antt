@@ -5,7 +5,7 @@ use Rattle.ab_num.specs.declared.party.Party.{Party}
 use Rattle.ab_msg.specs.declared.content.Content.{Content}
 use Rattle.ab_msg.specs.declared.message.Out.{Out}
 use Rattle.ab_msg.specs.Claims.{fresh, maker_of}
-use Rattle.ab_msg.specs.Grammar.{IsDraft}
+use Rattle.ab_msg.specs.Messages.{IsDraft}
 
 -- it is of the grammar but for the tags that sealing makes, and whatever in it needs those of party p, where f replicas may be faulty, p
 -- states

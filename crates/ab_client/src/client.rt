@@ -1,23 +1,27 @@
 //! One client.
 
-ghost use Rattle.std.specs.Prelude.{◌≡◌, ◌≢◌, ℕ, ◌+◌, ◌^◌, ◌<◌, ◌≤◌, ◌∷◌, ◌&&◌, ◌==◌, [], List, All, length, IsTrue, IfOk, IfErr, OnOk, OnErr, None, Some, ◌↔◌, ◌⊎◌};
+ghost use Rattle.std.specs.Prelude.{◌≡◌, ◌≢◌, ℕ, ◌+◌, ◌^◌, ◌<◌, ◌≤◌, ◌∷◌, [], All, length, IsTrue, IsOk, IfOk, IfErr, OnOk, OnErr, IsNone, IfSome, Some, None, ◌↔◌, ◌⊎◌};
 ghost use Rattle.ab_num.specs.Places.{kind_of};
 ghost use Rattle.ab_hist.specs.declared.request.Request.{Request as TheRequest};
-ghost use Rattle.ab_msg.specs.Views.{IsReceived, message};
+ghost use Rattle.ab_wire.specs.Views.{IsReceived, message};
 ghost use Rattle.ab_abs.specs.declared.ballot.Ballot.{Ballot as TheBallot};
-ghost use Rattle.ab_run.specs.Clients.{counting, counts_responses};
 ghost use Rattle.ab_run.specs.Runs.{first_cli};
-ghost use Rattle.ab_run.specs.Local.{cue_message, after_moves, marks_in_moves, sent_in_moves};
-ghost use Rattle.ab_client.specs.Clients.{is_waiting, Seat, alone, told, after, sends, marks, InvokeCause};
+ghost use Rattle.ab_run.specs.Local.{cue_message, cue_time};
+ghost use Rattle.ab_client.specs.Clients.{Seat, told, after, sends, marks, InvokeCause};
 ghost use Rattle.ab_client.specs.Drafts.{IsDraftOf};
+ghost use Rattle.ab_client.specs.Moved.{IsLastVote, IsMoved, is_answer, open_request};
 
-use crate::rules::{counts_responses, reply_rule};
+mod answers;
+mod switching;
+
+use crate::rules::reply_rule;
 use crate::sending::requests;
-use ab_abs::{Ballot, Marks, Seen, Votes};
-use ab_hist::{Request, array_of, copy_reply};
-use ab_msg::{ContentRef, MsgRef, Outs};
-use ab_num::{Cluster, OutOfMemory, Party};
+use ab_abs::{Marks, Seen, Votes};
+use ab_hist::Request;
+use ab_msg::{AbortCert, Outs, Signed};
+use ab_num::{Cluster, Kind, OutOfMemory, Party};
 use ab_run::Phase;
+use ab_wire::MsgRef;
 use arrayvec::ArrayVec;
 use std::alloc::Global;
 use std::marker::Model;
@@ -45,33 +49,39 @@ impl From<OutOfMemory> for InvokeFault {
     }
 }
 
-/// A client in its present instance, with its last request and the votes for it.
+/// A client in its present instance: the certificate by which it entered, its last request with the
+/// votes for it, and the ABORTs of the instance by ascending replica.
 #[derive(Drop)]
 pub struct Client {
     cluster: Cluster,
     me: u16,
     instance: u32,
+    cert: Option<AbortCert>,
     phase: Phase,
     stamp: u64,
     last: Option<Request>,
     votes: Votes,
+    kept: Vec<Signed>,
 }
 
 impl Model for Client {
-    ghost use Rattle.std.specs.Prelude.{◌≡◌, ◌≤◌, ◌+◌, ◌*◌, None, []};
+    ghost use Rattle.std.specs.Prelude.{◌≡◌, ◌+◌, ◌*◌};
     ghost use Rattle.ab_num.specs.Places.{kind_of};
     ghost use Rattle.ab_abs.specs.Kinds.{rule_of};
     ghost use Rattle.ab_client.specs.Clients.{Seat};
+    ghost use Rattle.ab_client.specs.Moved.{IsPlaced};
 
     ghost Value = { Seat };
 
     ghost view = { λ c. record {
       me = c.me;
       cluster = c.cluster;
-      cli = record { at = c.instance; cert = None; phase = c.phase; stamp = c.stamp; last = c.last; votes = c.votes.ballots; kept = [] };
+      cli = record { at = c.instance; cert = c.cert; phase = c.phase; stamp = c.stamp; last = c.last; votes = c.votes.ballots; kept = c.kept.items };
     } };
 
-    ghost invariant = { λ c. (1 ≤ c.instance) × (c.votes.rule ≡ rule_of (kind_of c.cluster.plan c.instance) c.cluster.f) × (c.votes.replicas ≡ 3 * c.cluster.f + 1) };
+    ghost invariant = { λ c.
+      IsPlaced c.me (record { at = c.instance; cert = c.cert; phase = c.phase; stamp = c.stamp; last = c.last; votes = c.votes.ballots; kept = c.kept.items })
+      × (c.votes.rule ≡ rule_of (kind_of c.cluster.plan c.instance) c.cluster.f) × (c.votes.replicas ≡ 3 * c.cluster.f + 1) };
 }
 
 /// A command of 1 to 128 bytes.
@@ -91,17 +101,19 @@ fn command_of(command: &[u8]) -> Result<ArrayVec<u8, 128>, InvokeFault>
 
 impl Client {
     /// Client `me` before its first request, in instance 1.
-    pub fn new(cluster: &Cluster, me: u16) -> Client
+    pub fn new(alloc: Global, cluster: &Cluster, me: u16) -> Client
         ensures { result ≡ record { me = me; cluster = cluster.now; cli = first_cli } }
     {
         Client {
             cluster: *cluster,
             me,
             instance: 1,
+            cert: None,
             phase: Phase::Idle,
             stamp: 0,
             last: None,
             votes: Votes::new(reply_rule(cluster, 1), cluster.replicas()),
+            kept: Vec::new(alloc),
         }
     }
 
@@ -161,97 +173,94 @@ impl Client {
         Ok((outs, marks))
     }
 
-    /// Whether a response in this instance to this client and stamp counts.
-    fn awaits(&self, instance: u32, client: u16, stamp: u64) -> bool
-        ensures { result ≡ ((is_waiting self.now.cli.phase && counts_responses (kind_of self.now.cluster.plan self.now.cli.at))
-            && ((instance == self.now.cli.at) && ((client == self.now.me) && (stamp == self.now.cli.stamp)))) }
+    /// A number that rises with each invocation and each entry, the last stamp and the instance added.
+    /// None exactly where no request is open.
+    pub fn timer(&self) -> Option<u64>
+        ensures idle { IsNone result ↔ (self.now.cli.phase ≡ Phase.Idle) }
+        ensures number { IfSome result (λ n. n ≡ self.now.cli.stamp + self.now.cli.at) }
     {
-        self.phase == Phase::Waiting
-            && counts_responses(self.cluster.kind(self.instance))
-            && instance == self.instance
-            && client == self.me
-            && stamp == self.stamp
-    }
-
-    /// What is observed where the newest vote for the open request commits it.
-    fn committed(&self, alloc: Global) -> Marks
-        ensures { (m : TheRequest) (b : TheBallot) (bs : List TheBallot) → self.now.cli.last ≡ Some m → self.now.cli.votes ≡ b ∷ bs
-            → result.items ≡ Seen.Committed self.now.cli.at self.now.me m b.n b.d b.reply ∷ [] }
-    {
-        let mut marks = Marks::new_in(alloc);
-        let Some(m) = &self.last else {
-            return marks;
-        };
-        let Some(vote) = self.votes.newest() else {
-            return marks;
-        };
-        marks.push(Seen::Committed {
-            i: self.instance,
-            c: self.me,
-            m: m.copy(),
-            n: vote.n,
-            d: vote.d,
-            reply: copy_reply(&vote.reply),
-        });
-        marks
-    }
-
-    /// Counts the vote of a replica for the open request `m`, and commits where the votes are then
-    /// enough for what it says.
-    fn count(&mut self, alloc: Global, ballot: Ballot) -> Marks
-        requires open { self.old.cli.phase ≡ Phase.Waiting }
-        ensures client { (m : TheRequest) → self.old.cli.last ≡ Some m → self.new ≡ record self.old { cli = after_moves self.old.cli (counting (alone self.old.cluster) self.old.me self.old.cli m ballot) } }
-        ensures marks { (m : TheRequest) → self.old.cli.last ≡ Some m → result.items ≡ marks_in_moves self.old.me self.old.cli (counting (alone self.old.cluster) self.old.me self.old.cli m ballot) }
-        ensures outs { (m : TheRequest) → self.old.cli.last ≡ Some m → sent_in_moves (alone self.old.cluster) self.old.me self.old.cli (counting (alone self.old.cluster) self.old.me self.old.cli m ballot) ≡ [] }
-        ensures stamp { self.new.cli.stamp ≡ self.old.cli.stamp }
-        ensures none { self.old.cli.last ≡ None → (self.new ≡ self.old) × (result.items ≡ []) }
-    {
-        if self.last.is_none() || ballot.by >= self.cluster.replicas() {
-            return Marks::new_in(alloc);
+        if self.phase == Phase::Idle {
+            return None;
         }
-        if !self.votes.add(ballot) {
-            return Marks::new_in(alloc);
-        }
-        let marks = self.committed(alloc);
-        self.phase = Phase::Idle;
-        marks
+        Some(self.stamp + u64::from(self.instance))
     }
 
-    /// Takes a message that was read from bytes. In a kind whose clients commit by responses a
-    /// response to the open request is counted, and the one that makes the votes enough commits at
-    /// once. Nothing is allocated, and nothing else changes it.
-    pub fn on(&mut self, alloc: Global, msg: &MsgRef<'_>) -> Marks
-        requires received { IsReceived msg.now }
-        ensures client { self.new ≡ after self.old (cue_message (message msg.now)) }
-        ensures marks { result.items ≡ marks self.old (cue_message (message msg.now)) }
-        ensures outs { sends self.old (cue_message (message msg.now)) ≡ [] }
-        ensures stamp { self.new.cli.stamp ≡ self.old.cli.stamp }
+    /// The open request.
+    fn request(&self) -> Option<Request>
+        ensures { result ≡ open_request self.now.cli.phase self.now.cli.last }
+    {
+        match self.phase {
+            Phase::Idle => None,
+            Phase::Waiting | Phase::Panicking => match &self.last {
+                Some(m) => Some(m.copy()),
+                None => None,
+            },
+        }
+    }
+
+    /// Takes a message. A response or a CHAIN that makes the votes for the open request enough commits
+    /// at once. An ABORT of the present instance is kept, and a certificate of this or of a later
+    /// instance brings the client to the one behind it. Nothing else changes the client.
+    pub fn on(&mut self, alloc: Global, msg: MsgRef<'_>) -> Result<(Outs, Marks), OutOfMemory>
+        requires received { IsReceived msg }
+        ensures client { OnOk result (self.new ≡ after self.old (cue_message (message msg.entry))) }
+        ensures outs { IfOk result (λ r. r.0 ≡ sends self.old (cue_message (message msg.entry))) }
+        ensures marks { IfOk result (λ r. r.1.items ≡ marks self.old (cue_message (message msg.entry))) }
+        ensures drafts { self.old.me ≤ 15 → IfOk result (λ r. All (IsDraftOf self.old.cluster.f (Party.Client self.old.me)) r.0) }
+        ensures stamp { OnOk result (self.new.cli.stamp ≡ self.old.cli.stamp) }
+
+        // An answer takes no memory. The last of equal answers of all replicas commits in Quorum and ZLight.
+        ensures answered { IsTrue (is_answer (message msg.entry)) → IsOk result }
+        ensures at_once { (m : TheRequest) (b : TheBallot) → IsLastVote self.old (message msg.entry) m b
+            → IfOk result (λ r. r.1.items ≡ Seen.Committed self.old.cli.at self.old.me m b.n b.d b.reply ∷ []) }
+        ensures err { OnErr result (self.new ≡ self.old) }
     {
         match msg {
-            MsgRef::Resp {
-                content: ContentRef::Resp {
-                    maker: Party::Replica(by),
-                    instance,
-                    client,
-                    stamp,
-                    n,
-                    d,
-                    reply,
-                },
+            MsgRef::Resp { content, .. } => {
+                let marks = self.on_response(alloc, content);
+                Ok((Outs::new(alloc), marks))
+            }
+            MsgRef::Chain {
+                instance,
+                request,
+                n,
+                d,
+                reply,
                 ..
             } => {
-                if !self.awaits(*instance, *client, *stamp) {
-                    return Marks::new_in(alloc);
-                }
-                let ballot = Ballot {
-                    by: *by,
-                    n: *n,
-                    d: **d,
-                    reply: array_of(reply),
-                };
-                self.count(alloc, ballot)
+                let marks = self.on_chain(alloc, instance, request, n, d, reply);
+                Ok((Outs::new(alloc), marks))
             }
-            _ => Marks::new_in(alloc),
+            MsgRef::Abort { abort } => self.on_abort(alloc, abort),
+            MsgRef::Init { cert } => self.on_init(alloc, cert),
+            _ => Ok(nothing(alloc)),
         }
     }
+
+    /// Its timer runs out. With a request open in a Backup it asks once more, and in an instance of
+    /// another kind it asks the replicas to stop.
+    pub fn timeout(&mut self, alloc: Global) -> Result<(Outs, Marks), OutOfMemory>
+        ensures client { OnOk result (self.new ≡ after self.old cue_time) }
+        ensures outs { IfOk result (λ r. r.0 ≡ sends self.old cue_time) }
+        ensures marks { IfOk result (λ r. r.1.items ≡ marks self.old cue_time) }
+        ensures drafts { self.old.me ≤ 15 → IfOk result (λ r. All (IsDraftOf self.old.cluster.f (Party.Client self.old.me)) r.0) }
+        ensures stamp { OnOk result (self.new.cli.stamp ≡ self.old.cli.stamp) }
+        ensures err { OnErr result (self.new ≡ self.old) }
+    {
+        let Some(request) = self.request() else {
+            return Ok(nothing(alloc));
+        };
+        match self.cluster.kind(self.instance) {
+            Kind::Quorum | Kind::ZLight | Kind::Chain => self.panic(alloc),
+            Kind::Backup => self.ask_again(alloc, &request),
+        }
+    }
+}
+
+/// Nothing to send, and nothing to see.
+fn nothing(alloc: Global) -> (Outs, Marks)
+    ensures outs { result.0 ≡ [] }
+    ensures marks { result.1.items ≡ [] }
+{
+    (Outs::new(alloc), Marks::new_in(alloc))
 }

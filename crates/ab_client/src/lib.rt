@@ -1,6 +1,7 @@
 //! A client of a cluster: it sends its requests to replicas and commits what enough of them answer.
 #![tactic(auto)]
 
+mod certs;
 mod client;
 mod laws;
 mod rules;

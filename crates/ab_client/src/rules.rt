@@ -3,7 +3,7 @@
 ghost use Rattle.std.specs.Prelude.{◌≡◌, ◌≤◌};
 ghost use Rattle.ab_num.specs.Places.{kind_of};
 ghost use Rattle.ab_abs.specs.Kinds.{rule_of};
-ghost use Rattle.ab_run.specs.Clients.{counts_responses};
+ghost use Rattle.ab_run.specs.Clients.{counts_responses, is_chain};
 
 use ab_abs::ReplyRule;
 use ab_num::{Cluster, Kind};
@@ -27,5 +27,15 @@ pub(crate) fn counts_responses(kind: Kind) -> bool
     match kind {
         Kind::Quorum | Kind::ZLight | Kind::Backup => true,
         Kind::Chain => false,
+    }
+}
+
+/// Whether a client commits by a CHAIN in instances of this kind.
+pub(crate) fn is_chain(kind: Kind) -> bool
+    ensures { result ≡ is_chain kind }
+{
+    match kind {
+        Kind::Chain => true,
+        Kind::Quorum | Kind::ZLight | Kind::Backup => false,
     }
 }

@@ -1,51 +1,130 @@
-//! The requests of a client.
+//! What a client sends.
 
-ghost use Rattle.std.specs.Prelude.{◌≡◌, ◌≤◌, IfOk};
-ghost use Rattle.ab_num.specs.declared.party.Party.TheVariants.{Replica};
-ghost use Rattle.ab_run.specs.Clients.{request_out, to_all};
-ghost use Rattle.ab_client.specs.Clients.{alone, request_msg};
+ghost use Rattle.std.specs.Prelude.{◌≡◌, ◌≤◌, ◌+◌, ◌*◌, ◌++◌, Some, IfOk, OnOk};
+ghost use Rattle.ab_run.specs.Clients.{cert_out, request_out, to_all};
+ghost use Rattle.ab_client.specs.Clients.{alone, panic_msg, request_msg};
 
 use ab_hist::Request;
-use ab_msg::{Content, Msg, Out, Outs, Tags};
+use ab_msg::{AbortCert, Content, Msg, NO_TAG, Out, Outs, Tags};
 use ab_num::{Cluster, Kind, OutOfMemory, Party};
 use std::alloc::Global;
 
-/// A request in an instance, to a replica.
-fn request_to(replica: u8, instance: u32, request: &Request) -> Out
-    ensures { result ≡ record { to = Replica replica; msg = request_msg instance request.now } }
+/// A request in an instance.
+fn request_msg(instance: u32, request: &Request) -> Msg
+    ensures { result ≡ request_msg instance request.now }
 {
     let content = Content::Req {
         maker: Party::Client(request.client),
         instance,
         request: request.copy(),
     };
-    let msg = Msg::Req {
+    Msg::Req {
         content,
         tags: Tags::new(),
-    };
-    Out {
-        to: Party::Replica(replica),
-        msg,
     }
 }
 
-/// A request in an instance, to the first replicas.
-fn to_all(
+/// What asks the replicas to stop an instance.
+#[tactic(auto, unfolding(crate::specs::Clients::panic_msg))]
+fn panic_msg(instance: u32, me: u16) -> Msg
+    ensures { result ≡ panic_msg instance me }
+{
+    let content = Content::Panic {
+        maker: Party::Client(me),
+        instance,
+    };
+    Msg::Panic {
+        content,
+        tag: NO_TAG,
+    }
+}
+
+/// Sends a message to the first replicas.
+fn send_to_all(
     alloc: Global,
+    outs: &mut Outs,
     replicas: u8,
+    msg: &Msg,
+) -> Result<(), OutOfMemory>
+    ensures { OnOk result (outs.new ≡ outs.old ++ to_all replicas msg.now) }
+{
+    for r in 0..replicas {
+        let msg = msg.copy(alloc)?;
+        let to = Party::Replica(r);
+        outs.push(alloc, Out { to, msg })?;
+    }
+    Ok(())
+}
+
+/// Sends a request in an instance to those replicas that take it from a client.
+fn send_request(
+    alloc: Global,
+    outs: &mut Outs,
+    cluster: &Cluster,
     instance: u32,
     request: &Request,
-) -> Result<Outs, OutOfMemory>
-    ensures { IfOk result (λ outs. outs ≡ to_all replicas (request_msg instance request.now)) }
+) -> Result<(), OutOfMemory>
+    requires { 1 ≤ instance }
+    ensures { OnOk result (outs.new ≡ outs.old ++ request_out (alone cluster.now) instance request.now.client request.now) }
 {
-    let mut outs = Outs::new(alloc);
-    for r in 0..replicas {
-        outs.push(alloc, request_to(r, instance, request))?;
+    let msg = request_msg(instance, request);
+    match cluster.kind(instance) {
+        Kind::Quorum | Kind::Backup => send_to_all(alloc, outs, cluster.replicas(), &msg),
+        Kind::ZLight => {
+            let to = Party::Replica(cluster.primary(instance));
+            outs.push(alloc, Out { to, msg })
+        }
+        Kind::Chain => {
+            let to = Party::Replica(cluster.at_position(instance, 1));
+            outs.push(alloc, Out { to, msg })
+        }
     }
-    Ok(outs)
 }
 
-/// A request in an instance, to those replicas that take it from a client.
+/// Sends a certificate to all replicas.
+fn send_cert(
+    alloc: Global,
+    outs: &mut Outs,
+    cluster: &Cluster,
+    cert: &AbortCert,
+) -> Result<(), OutOfMemory>
+    ensures { OnOk result (outs.new ≡ outs.old ++ cert_out (alone cluster.now) (Some cert.now)) }
+{
+    let cert = cert.copy(alloc)?;
+    let msg = Msg::Init { cert };
+    send_to_all(alloc, outs, cluster.replicas(), &msg)
+}
+
+/// Sends the certificate by which a client entered its instance, if there is one, to all replicas.
+fn send_entry(
+    alloc: Global,
+    outs: &mut Outs,
+    cluster: &Cluster,
+    cert: &Option<AbortCert>,
+) -> Result<(), OutOfMemory>
+    ensures { OnOk result (outs.new ≡ outs.old ++ cert_out (alone cluster.now) cert.now) }
+{
+    match cert {
+        Some(cert) => send_cert(alloc, outs, cluster, cert),
+        None => Ok(()),
+    }
+}
+
+/// Asks all replicas to stop an instance.
+fn send_panic(
+    alloc: Global,
+    outs: &mut Outs,
+    cluster: &Cluster,
+    instance: u32,
+    me: u16,
+) -> Result<(), OutOfMemory>
+    ensures { OnOk result (outs.new ≡ outs.old ++ to_all (3 * cluster.now.f + 1) (panic_msg instance me)) }
+{
+    let msg = panic_msg(instance, me);
+    send_to_all(alloc, outs, cluster.replicas(), &msg)
+}
+
+/// What a client sends with a new request.
 pub(crate) fn requests(
     alloc: Global,
     cluster: &Cluster,
@@ -55,15 +134,57 @@ pub(crate) fn requests(
     requires { 1 ≤ instance }
     ensures { IfOk result (λ outs. outs ≡ request_out (alone cluster.now) instance request.now.client request.now) }
 {
-    match cluster.kind(instance) {
-        Kind::Quorum | Kind::Backup => to_all(alloc, cluster.replicas(), instance, request),
-        Kind::ZLight => Outs::one(
-            alloc,
-            request_to(cluster.primary(instance), instance, request),
-        ),
-        Kind::Chain => Outs::one(
-            alloc,
-            request_to(cluster.at_position(instance, 1), instance, request),
-        ),
-    }
+    let mut outs = Outs::new(alloc);
+    send_request(alloc, &mut outs, cluster, instance, request)?;
+    Ok(outs)
+}
+
+/// What a client sends as it enters an instance by a certificate.
+pub(crate) fn entering(
+    alloc: Global,
+    cluster: &Cluster,
+    instance: u32,
+    cert: &AbortCert,
+    request: &Request,
+) -> Result<Outs, OutOfMemory>
+    requires { 1 ≤ instance }
+    ensures { IfOk result (λ outs. outs ≡ cert_out (alone cluster.now) (Some cert.now) ++ request_out (alone cluster.now) instance request.now.client request.now) }
+{
+    let mut outs = Outs::new(alloc);
+    send_cert(alloc, &mut outs, cluster, cert)?;
+    send_request(alloc, &mut outs, cluster, instance, request)?;
+    Ok(outs)
+}
+
+/// What a client sends that asks for its request once more.
+pub(crate) fn asking_again(
+    alloc: Global,
+    cluster: &Cluster,
+    instance: u32,
+    cert: &Option<AbortCert>,
+    request: &Request,
+) -> Result<Outs, OutOfMemory>
+    requires { 1 ≤ instance }
+    ensures { IfOk result (λ outs. outs ≡ cert_out (alone cluster.now) cert.now ++ request_out (alone cluster.now) instance request.now.client request.now) }
+{
+    let mut outs = Outs::new(alloc);
+    send_entry(alloc, &mut outs, cluster, cert)?;
+    send_request(alloc, &mut outs, cluster, instance, request)?;
+    Ok(outs)
+}
+
+/// What a client sends that asks the replicas to stop.
+pub(crate) fn panicking(
+    alloc: Global,
+    cluster: &Cluster,
+    instance: u32,
+    me: u16,
+    cert: &Option<AbortCert>,
+) -> Result<Outs, OutOfMemory>
+    ensures { IfOk result (λ outs. outs ≡ cert_out (alone cluster.now) cert.now ++ to_all (3 * cluster.now.f + 1) (panic_msg instance me)) }
+{
+    let mut all = Outs::new(alloc);
+    send_entry(alloc, &mut all, cluster, cert)?;
+    send_panic(alloc, &mut all, cluster, instance, me)?;
+    Ok(all)
 }

@@ -28,7 +28,8 @@ fn own_tags<'a>(given: ListRef<'a, TagRef<'a>>) -> Tags
     all
 }
 
-fn own_aborts<'a>(
+/// Each ABORT of a list, with parts of its own.
+pub fn own_aborts<'a>(
     alloc: Global,
     given: ListRef<'a, SignedRef<'a>>,
 ) -> Result<AbortCert, OutOfMemory>

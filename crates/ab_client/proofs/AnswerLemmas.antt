@@ -1,0 +1,168 @@
+-- What answers come to.
+use Rattle.std.proofs.Common.{◌≡◌, ℕ, zero, suc, ◌+◌, ◌*◌, ◌<◌, ◌≤◌, Bool, true, false, Option, Some, None, List, [], ◌∷◌, ◌++◌, length, map, arith, refl, sym, ap, ◌∙◌, subst, inl, inr}
+use Rattle.std.specs.Prelude.{◌==◌, ◌&&◌, ◌||◌, nat_lt, nat_eq, if◌then◌else◌, All, IsTrue, ◌≢◌, ◌⊎◌}
+use Rattle.std.proofs.lemmas.Bool.{cases_Bool, cases_order}
+use Rattle.std.proofs.lemmas.Bool.Decides.{nat_tests}
+use Rattle.std.proofs.lemmas.Slice.Eq.{bytes_eq-Decides}
+use Rattle.std.specs.Str.{bytes_eq}
+use Rattle.ab_num.specs.declared.cluster.Cluster.{Cluster}
+use Rattle.ab_num.specs.declared.plan.Kind.{Kind}
+use Rattle.ab_num.specs.declared.plan.Kind.TheVariants as kind
+use Rattle.ab_num.specs.declared.party.Party.TheVariants.{Replica, Client}
+use Rattle.ab_num.specs.Places.{kind_of}
+use Rattle.ab_hist.specs.declared.request.Request.{Request}
+use Rattle.ab_msg.specs.declared.content.Content.{Content}
+use Rattle.ab_msg.specs.declared.content.Content.TheVariants.{Resp}
+use Rattle.ab_msg.specs.declared.message.Msg.{Msg}
+use Rattle.ab_msg.specs.declared.message.Msg.TheVariants as msg
+use Rattle.ab_abs.specs.declared.ballot.Ballot.{Ballot}
+use Rattle.ab_abs.specs.declared.rule.ReplyRule.TheVariants as rules
+use Rattle.ab_abs.specs.declared.seen.Seen.{Seen}
+use Rattle.ab_abs.specs.declared.seen.Seen.TheVariants.{Committed}
+use Rattle.ab_abs.specs.Votes.{has_voted, voted, same_vote, all_voted, is_full_by}
+use Rattle.ab_abs.specs.Kinds.{rule_of}
+use Rattle.ab_run.specs.declared.phase.Phase.{Phase}
+use Rattle.ab_run.specs.declared.phase.Phase.TheVariants.{Idle, Waiting, Panicking}
+use Rattle.ab_run.specs.Clients.{Cli, Move, move_vote, move_commit, vote_claim, if_open, counting, counts_responses, hears_response}
+use Rattle.ab_run.specs.Local.{cue_message, marks_in_moves}
+use Rattle.ab_client.specs.Clients.{Seat, alone, is_waiting, moves_on, marks}
+use Rattle.ab_client.specs.Moved.{IsLastVote}
+
+-- ---- answers that are awaited
+
+-- one that isn't awaited moves nothing
+pub heard_not : (p : Phase) (last : Option Request) (x y : Bool) (moves : Request → List Move) → ((is_waiting p && x) && y) ≡ false
+    → if_open p last (λ waits m. if (waits && x) && y then moves m else []) ≡ []
+heard_not Idle last x y moves e = refl
+heard_not Waiting None x y moves e = refl
+heard_not Waiting (Some m) x y moves e = ap (λ b. if b then moves m else []) e
+heard_not Panicking None x y moves e = refl
+heard_not Panicking (Some m) x y moves e = refl
+
+pub heard_so : (p : Phase) (last : Option Request) (x y : Bool) (moves : Request → List Move) (m : Request) → ((is_waiting p && x) && y) ≡ true → last ≡ Some m
+    → if_open p last (λ waits m. if (waits && x) && y then moves m else []) ≡ moves m
+heard_so Idle last x y moves m e is = absurd (cc (e))
+heard_so Waiting None x y moves m e is = absurd (cc (is))
+heard_so Waiting (Some q) x y moves m e is = let same : q ≡ m = cc (is) in ap (λ b. if b then moves q else []) e ∙ ap moves same
+heard_so Panicking last x y moves m e is = absurd (cc (e))
+
+-- where there was no request nothing moves
+pub heard_none : (p : Phase) (last : Option Request) (moves : Bool → Request → List Move) → last ≡ None → if_open p last moves ≡ []
+heard_none Idle last moves e = refl
+heard_none Waiting None moves e = refl
+heard_none Waiting (Some m) moves e = absurd (cc (e))
+heard_none Panicking None moves e = refl
+heard_none Panicking (Some m) moves e = absurd (cc (e))
+
+-- ---- messages that no client takes
+
+unfoldable pub is_heard : Msg → Bool
+is_heard (msg.Resp content tag) = true
+is_heard (msg.Chain i q n d reply tags) = true
+is_heard (msg.Abort abort) = true
+is_heard (msg.Init cert) = true
+is_heard _ = false
+
+still : (p : Phase) (last : Option Request) → if_open p last (λ waits m. []) ≡ []
+still Idle last = refl
+still Waiting None = refl
+still Waiting (Some m) = refl
+still Panicking None = refl
+still Panicking (Some m) = refl
+
+pub unheard : (s : Seat) (m : Msg) → is_heard m ≡ false → moves_on s (cue_message m) ≡ []
+unfolding is_heard
+unheard s (msg.Resp content tag) e = absurd (cc (e))
+unheard s (msg.Chain i q n d reply tags) e = absurd (cc (e))
+unheard s (msg.Abort abort) e = absurd (cc (e))
+unheard s (msg.Init cert) e = absurd (cc (e))
+unheard s (msg.Req content tags) e = still s.cli.phase s.cli.last
+unheard s (msg.Order content client_tag tag) e = still s.cli.phase s.cli.last
+unheard s (msg.Panic content tag) e = still s.cli.phase s.cli.last
+unheard s (msg.PrePrepare content tag offer) e = still s.cli.phase s.cli.last
+unheard s (msg.Prepare prepare) e = still s.cli.phase s.cli.last
+unheard s (msg.Commit content tag) e = still s.cli.phase s.cli.last
+unheard s (msg.ViewChange change) e = still s.cli.phase s.cli.last
+unheard s (msg.NewView content tag changes) e = still s.cli.phase s.cli.last
+
+-- ---- the last of equal answers
+
+same_itself : (b : Ballot) → same_vote b b ≡ true
+same_itself b = all_true (b.n == b.n) (bytes_eq b.d b.d) (bytes_eq b.reply.items b.reply.items) (same b.n) ((bytes_eq-Decides b.d b.d).1 refl) ((bytes_eq-Decides b.reply.items b.reply.items).1 refl)
+  where
+    same : (n : ℕ) → (n == n) ≡ true
+    same n = grind (arith, nat_tests)
+    all_true : (x y z : Bool) → x ≡ true → y ≡ true → z ≡ true → (x && (y && z)) ≡ true
+    all_true x y z e f g = λ i. e i && (f i && g i)
+
+module _ (votes : List Ballot) (b : Ballot) (n : ℕ) (equal : (r : ℕ) → r < n → r ≢ b.by → IsTrue (voted votes b r)) where
+  voted_so : (r : ℕ) → r < n → voted (b ∷ votes) b r ≡ true
+  voted_so r lt =
+      elim (cases_order r b.by) [
+        | inl same ↦ own ((b.by == r)) (same_vote b b) (voted votes b r) (is_same b.by r (sym same)) (same_itself b)
+        | inr (inl below) ↦ other ((b.by == r) && same_vote b b) (voted votes b r) (equal r lt (λ e. omega (arith, below, e)))
+        | inr (inr above) ↦ other ((b.by == r) && same_vote b b) (voted votes b r) (equal r lt (λ e. omega (arith, above, e)))
+      ]
+    where
+      is_same : (x y : ℕ) → x ≡ y → (x == y) ≡ true
+      is_same x y e = grind (arith, nat_tests)
+      own : (x y z : Bool) → x ≡ true → y ≡ true → ((x && y) || z) ≡ true
+      own x y z e f = λ i. (e i && f i) || z
+      other : (x y : Bool) → IsTrue y → (x || y) ≡ true
+      other true y is = refl
+      other false true is = refl
+      other false false is = absurd is
+
+  all_so : (k : ℕ) → k ≤ n → all_voted (b ∷ votes) b k ≡ true
+  all_so zero le = refl
+  all_so (suc k) le = λ i. voted_so k (omega (arith, le)) i && all_so k (omega (arith, le)) i
+
+-- such kinds commit on the votes of all, by responses
+unanimous_kind : (k : Kind) (f : ℕ) → (k ≡ kind.Quorum) ⊎ (k ≡ kind.ZLight) → (rule_of k f ≡ rules.All) × (counts_responses k ≡ true)
+unanimous_kind k f (inl is) = (ap (λ k. rule_of k f) is, ap counts_responses is)
+unanimous_kind k f (inr is) = (ap (λ k. rule_of k f) is, ap counts_responses is)
+
+module _ (s : Seat) (m : Request) (b : Ballot) (kinds : (kind_of s.cluster.plan s.cli.at ≡ kind.Quorum) ⊎ (kind_of s.cluster.plan s.cli.at ≡ kind.ZLight))
+    (waits : s.cli.phase ≡ Waiting) (asked : s.cli.last ≡ Some m) (replica : b.by < 3 * s.cluster.f + 1) (new : has_voted s.cli.votes b.by ≡ false)
+    (equal : (r : ℕ) → r < 3 * s.cluster.f + 1 → r ≢ b.by → IsTrue (voted s.cli.votes b r)) where
+  last_claims : List Content
+  last_claims = map (vote_claim s.cli.at s.me m.stamp) (b ∷ s.cli.votes)
+
+  full : is_full_by (rule_of (kind_of s.cluster.plan s.cli.at) s.cluster.f) (3 * s.cluster.f + 1) (b ∷ s.cli.votes) b ≡ true
+  full = ap (λ r. is_full_by r (3 * s.cluster.f + 1) (b ∷ s.cli.votes) b) (unanimous_kind _ s.cluster.f kinds).0 ∙ all_so s.cli.votes b (3 * s.cluster.f + 1) equal (3 * s.cluster.f + 1) (omega arith)
+
+  commits : List Move
+  commits = move_vote b ∷ move_commit m b.n b.d b.reply (map (vote_claim s.cli.at s.me m.stamp) (b ∷ s.cli.votes)) ∷ []
+
+  counted : counting (alone s.cluster) s.me s.cli m b ≡ move_vote b ∷ move_commit m b.n b.d b.reply (map (vote_claim s.cli.at s.me m.stamp) (b ∷ s.cli.votes)) ∷ []
+  counted =
+      chosen (nat_lt b.by (3 * s.cluster.f + 1)) (has_voted s.cli.votes b.by) (is_full_by (rule_of (kind_of s.cluster.plan s.cli.at) s.cluster.f) (3 * s.cluster.f + 1) (b ∷ s.cli.votes) b)
+      (is_lt b.by (3 * s.cluster.f + 1) replica) new full
+    where
+      is_lt : (x y : ℕ) → x < y → nat_lt x y ≡ true
+      is_lt x y lt = grind (arith, nat_tests)
+      chosen : (x y z : Bool) {t u : Move} → x ≡ true → y ≡ false → z ≡ true → (if x then (if y then [] else t ∷ (if z then u ∷ [] else [])) else []) ≡ t ∷ u ∷ []
+      chosen x y z {t} {u} e f g = λ i. if e i then (if f i then [] else t ∷ (if g i then u ∷ [] else [])) else []
+
+  heard : hears_response (alone s.cluster) s.me s.cli true m (Resp (Replica b.by) s.cli.at s.me s.cli.stamp b.n b.d b.reply) ≡ counting (alone s.cluster) s.me s.cli m b
+  heard = answered (counts_responses (kind_of s.cluster.plan s.cli.at)) (s.cli.at == s.cli.at) (s.me == s.me) (s.cli.stamp == s.cli.stamp)
+      (unanimous_kind (kind_of s.cluster.plan s.cli.at) s.cluster.f kinds).1 (same s.cli.at) (same s.me) (same s.cli.stamp)
+    where
+      same : (n : ℕ) → (n == n) ≡ true
+      same n = grind (arith, nat_tests)
+      answered : (w x y z : Bool) {ts : List Move} → w ≡ true → x ≡ true → y ≡ true → z ≡ true → (if (true && w) && (x && (y && z)) then ts else []) ≡ ts
+      answered w x y z {ts} e f g h = λ i. if (true && e i) && (f i && (g i && h i)) then ts else []
+
+  last_moves : (tag : List ℕ) → moves_on s (cue_message (msg.Resp (Resp (Replica b.by) s.cli.at s.me s.cli.stamp b.n b.d b.reply) tag))
+      ≡ move_vote b ∷ move_commit m b.n b.d b.reply (map (vote_claim s.cli.at s.me m.stamp) (b ∷ s.cli.votes)) ∷ []
+  last_moves tag =
+      (λ i. if_open (waits i) (asked i) (λ w q. hears_response (alone s.cluster) s.me s.cli w q (Resp (Replica b.by) s.cli.at s.me s.cli.stamp b.n b.d b.reply)))
+      ∙ heard ∙ counted
+
+  last_marks : (tag : List ℕ) → marks s (cue_message (msg.Resp (Resp (Replica b.by) s.cli.at s.me s.cli.stamp b.n b.d b.reply) tag)) ≡ Committed s.cli.at s.me m b.n b.d b.reply ∷ []
+  last_marks tag = ap (marks_in_moves s.me s.cli) (last_moves tag)
+
+-- the last of equal answers of all replicas commits
+pub last_vote_commits : (s : Seat) (given : Msg) (m : Request) (b : Ballot) → IsLastVote s given m b → marks s (cue_message given) ≡ Committed s.cli.at s.me m b.n b.d b.reply ∷ []
+last_vote_commits s given m b is =
+    ap (λ t. marks s (cue_message t)) is.answer.1 ∙ last_marks s m b is.kind is.waits is.asked is.replica is.first is.equal is.answer.0

@@ -1,0 +1,225 @@
+-- What a client comes to, move by move.
+use Rattle.std.proofs.Common.{◌≡◌, ℕ, ◌+◌, ◌*◌, ◌^◌, ◌<◌, ◌≤◌, Bool, true, false, Option, Some, None, List, [], ◌∷◌, ◌++◌, length, arith, refl, sym, ap, ◌∙◌, subst}
+use Rattle.std.specs.Prelude.{◌==◌, ◌&&◌, nat_lt, nat_le, if◌then◌else◌, All, ◌⊎◌}
+use Rattle.std.proofs.Common.{inl, inr}
+use Rattle.std.specs.List.{list_any}
+use Rattle.std.proofs.lemmas.Bool.Decides.{nat_tests}
+use Rattle.std.proofs.lemmas.List.{append-nil}
+use Rattle.std.proofs.lemmas.List.Elements.{All-nil}
+use Rattle.ab_num.specs.declared.cluster.Cluster.{Cluster}
+use Rattle.ab_num.specs.declared.plan.Kind.{Kind}
+use Rattle.ab_num.specs.declared.plan.Kind.TheVariants as kind
+use Rattle.ab_num.specs.declared.party.Party.TheVariants.{Replica, Client}
+use Rattle.ab_num.specs.Places.{kind_of}
+use Rattle.ab_form.specs.Lists.{FitsInside}
+use Rattle.ab_hist.specs.declared.request.Request.{Request}
+use Rattle.ab_msg.specs.declared.signed.Signed.{Signed}
+use Rattle.ab_msg.specs.declared.message.Msg.{Msg}
+use Rattle.ab_msg.specs.declared.message.Msg.TheVariants as msg
+use Rattle.ab_msg.specs.declared.message.Out.{Out}
+use Rattle.ab_msg.specs.Claims.{instance_of}
+use Rattle.ab_msg.specs.Fields.{IsInstance}
+use Rattle.ab_msg.specs.Messages.{IsDraft}
+use Rattle.ab_msg.specs.Contents.{IsAbort}
+use Rattle.ab_msg.specs.Certs.{IsSigned, AreAborts}
+use Rattle.ab_abs.specs.declared.seen.Seen.{Seen}
+use Rattle.ab_abs.specs.declared.seen.Seen.TheVariants.{Invoked, Cert}
+use Rattle.ab_abs.specs.Certificates.{history_of}
+use Rattle.ab_run.specs.declared.phase.Phase.{Phase}
+use Rattle.ab_run.specs.declared.phase.Phase.TheVariants.{Idle, Waiting, Panicking}
+use Rattle.ab_run.specs.Setups.{last_instance}
+use Rattle.ab_run.specs.Replicas.{cert_instance}
+use Rattle.ab_run.specs.Clients.{Cli, Move, move_again, move_keep, move_panic, move_take, after_move, if_open, cert_out, request_out, to_all, own_cert, taking, taking_with, keeping, is_abort_of, panics_in}
+use Rattle.ab_run.specs.Local.{Cue, cue_message, cue_time}
+use Rattle.ab_client.specs.Clients.{Seat, alone, is_waiting, moves_on, request_msg, panic_msg}
+use Rattle.ab_client.specs.Drafts.{IsDraftOf}
+use Rattle.ab_client.specs.Moved.{IsMoved, IsPlaced, IsRequestOf, open_request}
+use Rattle.ab_client.proofs.CertLemmas.{is_abort_of-instance}
+use Rattle.ab_client.proofs.Targets.{requests_are_drafts, certs_are_drafts, panics_are_drafts, both_are_drafts}
+
+-- ---- the open request
+
+pub if_open-none : (p : Phase) (last : Option Request) (moves : Bool → Request → List Move) → open_request p last ≡ None → if_open p last moves ≡ []
+if_open-none Idle last moves e = refl
+if_open-none Waiting None moves e = refl
+if_open-none Waiting (Some m) moves e = absurd (cc (e))
+if_open-none Panicking None moves e = refl
+if_open-none Panicking (Some m) moves e = absurd (cc (e))
+
+pub if_open-some : (p : Phase) (last : Option Request) (moves : Bool → Request → List Move) (m : Request) → open_request p last ≡ Some m → if_open p last moves ≡ moves (is_waiting p) m
+if_open-some Idle last moves m e = absurd (cc (e))
+if_open-some Waiting None moves m e = absurd (cc (e))
+if_open-some Waiting (Some q) moves m e = let e' : q ≡ m = cc (e) in ap (moves true) e'
+if_open-some Panicking None moves m e = absurd (cc (e))
+if_open-some Panicking (Some q) moves m e = let e' : q ≡ m = cc (e) in ap (moves false) e'
+
+if_open-still : (p : Phase) (last : Option Request) (moves : Bool → Request → List Move) → ((waits : Bool) (m : Request) → moves waits m ≡ []) → if_open p last moves ≡ []
+if_open-still Idle last moves each = refl
+if_open-still Waiting None moves each = refl
+if_open-still Waiting (Some m) moves each = each true m
+if_open-still Panicking None moves each = refl
+if_open-still Panicking (Some m) moves each = each false m
+
+-- the last request is the one that is open
+pub open_last : (p : Phase) (last : Option Request) (m : Request) → open_request p last ≡ Some m → last ≡ Some m
+open_last Idle last m e = absurd (cc (e))
+open_last Waiting last m e = e
+open_last Panicking last m e = e
+
+-- ---- no move, and other ones
+
+pub moved_not : (s : Seat) (moves : List Move) → moves ≡ [] → IsMoved s moves s [] []
+moved_not s moves none =
+    subst (λ (ms : List Move). IsMoved s ms s [] []) (sym none)
+    (record { client = refl; outs = refl; marks = refl; drafts = λ few. All-nil (IsDraftOf s.cluster.f (Client s.me)) })
+
+pub moved_so : (s : Seat) (moves other : List Move) (now : Seat) (sent : List Out) (shown : List Seen) → moves ≡ other → IsMoved s other now sent shown → IsMoved s moves now sent shown
+moved_so s moves other now sent shown e is = subst (λ (ms : List Move). IsMoved s ms now sent shown) (sym e) is
+
+-- ---- what it sends gets bytes
+
+module _ (s : Seat) (placed : IsPlaced s.me s.cli) (m : Request) (last : s.cli.last ≡ Some m) where
+  pub open_fits : IsRequestOf s.me m
+  open_fits = subst (FitsInside (IsRequestOf s.me)) last placed.last
+
+  request_fits : (i : ℕ) → IsInstance i → s.me ≤ 15 → IsDraft (request_msg i m)
+  request_fits i at few = let fits = open_fits in (refl, (at, ((omega arith, omega (arith, fits.0, few)), fits.1)))
+
+  pub sends_request : (i : ℕ) → IsInstance i → s.me ≤ 15 → All (IsDraftOf s.cluster.f (Client s.me)) (request_out (alone s.cluster) i s.me m)
+  sends_request i at few =
+      subst (λ (c : ℕ). All (IsDraftOf s.cluster.f (Client c)) (request_out (alone s.cluster) i c m)) open_fits.0
+      (requests_are_drafts s.cluster i m (request_fits i at few))
+
+  -- ---- entries
+
+  module _ (j : ℕ) (cert : List Signed) (h : List Request) (aborts : AreAborts 1 7 cert) (below : j < 4294967295) (now : Seat) (sent : List Out) (shown : List Seen)
+      (is : now ≡ record s { cli = after_move s.cli (move_take j cert h m) })
+      (sends : sent ≡ cert_out (alone s.cluster) (Some cert) ++ request_out (alone s.cluster) (j + 1) m.client m)
+      (shows : shown ≡ Cert j (Client s.me) h ∷ Invoked (j + 1) s.me m ∷ []) where
+    taken : List Out
+    taken = cert_out (alone s.cluster) (Some cert) ++ request_out (alone s.cluster) (j + 1) s.me m
+
+    sent_is : sent ≡ cert_out (alone s.cluster) (Some cert) ++ request_out (alone s.cluster) (j + 1) s.me m
+    sent_is = sends ∙ ap (λ c. cert_out (alone s.cluster) (Some cert) ++ request_out (alone s.cluster) (j + 1) c m) open_fits.0
+
+    pub moved_take : IsMoved s (move_take j cert h m ∷ []) now sent shown
+    moved_take = record {
+      client = is;
+      outs = sent_is ∙ sym (append-nil _);
+      marks = shows;
+      drafts = λ few. subst (All (IsDraftOf s.cluster.f (Client s.me))) (sym sent_is)
+          (both_are_drafts s.cluster.f (Client s.me) _ _ (certs_are_drafts s.cluster (Client s.me) (Some cert) aborts) (sends_request (j + 1) (omega arith, omega (arith, below)) few));
+    }
+
+  -- the same request once more
+  pub moved_again : (at : s.cli.at ≤ 4294967295) (sent : List Out) → sent ≡ cert_out (alone s.cluster) s.cli.cert ++ request_out (alone s.cluster) s.cli.at m.client m
+      → IsMoved s (move_again m ∷ []) s sent []
+  moved_again at sent sends =
+      let is : sent ≡ cert_out (alone s.cluster) s.cli.cert ++ request_out (alone s.cluster) s.cli.at s.me m =
+          sends ∙ ap (λ c. cert_out (alone s.cluster) s.cli.cert ++ request_out (alone s.cluster) s.cli.at c m) open_fits.0 in
+      record {
+        client = refl;
+        outs = is ∙ sym (append-nil _);
+        marks = refl;
+        drafts = λ few. subst (All (IsDraftOf s.cluster.f (Client s.me))) (sym is)
+            (both_are_drafts s.cluster.f (Client s.me) _ _ (certs_are_drafts s.cluster (Client s.me) s.cli.cert placed.cert) (sends_request s.cli.at (placed.instance, at) few));
+      }
+
+pub moved_panic : (s : Seat) (placed : IsPlaced s.me s.cli) (at : s.cli.at ≤ 4294967295) (now : Seat) (sent : List Out)
+    → now ≡ record s { cli = after_move s.cli move_panic }
+    → sent ≡ cert_out (alone s.cluster) s.cli.cert ++ to_all (3 * s.cluster.f + 1) (panic_msg s.cli.at s.me)
+    → IsMoved s (move_panic ∷ []) now sent []
+unfolding panic_msg
+moved_panic s placed at now sent is sends = record {
+  client = is;
+  outs = sends ∙ sym (append-nil _);
+  marks = refl;
+  drafts = λ few. subst (All (IsDraftOf s.cluster.f (Client s.me))) (sym sends)
+      (both_are_drafts s.cluster.f (Client s.me) _ _ (certs_are_drafts s.cluster (Client s.me) s.cli.cert placed.cert) (panics_are_drafts s.cluster s.cli.at s.me (placed.instance, at) few));
+}
+
+-- ---- kept ABORTs
+
+-- an ABORT that is kept just before an entry is gone after it
+pub moved_keep_take : (s : Seat) (v : Signed) (j : ℕ) (cert : List Signed) (h : List Request) (m : Request) (now : Seat) (sent : List Out) (shown : List Seen)
+    → IsMoved s (move_take j cert h m ∷ []) now sent shown → IsMoved s (move_keep v ∷ move_take j cert h m ∷ []) now sent shown
+moved_keep_take s v j cert h m now sent shown is = record { client = is.client; outs = is.outs; marks = is.marks; drafts = is.drafts }
+
+pub moved_keep : (s now : Seat) (v : Signed) → now ≡ record s { cli = after_move s.cli (move_keep v) } → IsMoved s (move_keep v ∷ []) now [] []
+moved_keep s now v is = record { client = is; outs = refl; marks = refl; drafts = λ few. All-nil (IsDraftOf s.cluster.f (Client s.me)) }
+
+-- ---- certificates
+
+module _ (c : Cluster) (s : Cli) (m : Request) (j : ℕ) (cert : List Signed) where
+  in_time : Bool
+  in_time = nat_le s.at j && nat_lt j 4294967295
+
+  pub taking-some : (h : List Request) → history_of c j cert ≡ Some h → s.at ≤ j → j < 4294967295 → taking (alone c) s m j cert ≡ move_take j cert h m ∷ []
+  taking-some h is late below =
+      ap (taking_with (alone c) s m j cert) is ∙ ap (λ b. if b then move_take j cert h m ∷ [] else []) (both s.at late below)
+    where
+      both : (a : ℕ) → a ≤ j → j < 4294967295 → (nat_le a j && nat_lt j 4294967295) ≡ true
+      both a le lt = grind (arith, nat_tests)
+
+  pub taking-none : history_of c j cert ≡ None → taking (alone c) s m j cert ≡ []
+  taking-none is = ap (taking_with (alone c) s m j cert) is
+
+  out_of_time : (o : Option (List Request)) → (nat_le s.at j && nat_lt j 4294967295) ≡ false → taking_with (alone c) s m j cert o ≡ []
+  out_of_time None out = refl
+  out_of_time (Some h) out = ap (λ b. if b then move_take j cert h m ∷ [] else []) out
+
+  pub taking-early : j < s.at → taking (alone c) s m j cert ≡ []
+  taking-early lt = out_of_time (history_of c j cert) (out s.at lt)
+    where
+      out : (a : ℕ) → j < a → (nat_le a j && nat_lt j 4294967295) ≡ false
+      out a lt = grind (arith, nat_tests)
+
+  pub taking-last : 4294967295 ≤ j → taking (alone c) s m j cert ≡ []
+  taking-last le = out_of_time (history_of c j cert) (out s.at le)
+    where
+      out : (a : ℕ) → 4294967295 ≤ j → (nat_le a j && nat_lt j 4294967295) ≡ false
+      out a le = grind (arith, nat_tests)
+
+-- ---- ABORTs that come
+
+module _ (s : Seat) (v : Signed) (is : IsSigned IsAbort v) where
+  on_abort : Bool → Request → List Move
+  on_abort waits m = if is_abort_of s.cli.at v.content then keeping (alone s.cluster) s.cli m v else []
+
+  pub abort_elsewhere : (instance_of v.content == s.cli.at) ≡ false → moves_on s (cue_message (msg.Abort v)) ≡ []
+  abort_elsewhere out = if_open-still s.cli.phase s.cli.last _ (λ waits m. ap (λ b. if b then keeping (alone s.cluster) s.cli m v else []) (is_abort_of-instance s.cli.at v is ∙ out))
+
+  again : (a b : Bool) (moves : List Move) → b ≡ true → (if a then (if b then [] else moves) else []) ≡ []
+  again true b moves e = ap (λ t. if t then [] else moves) e
+  again false b moves e = refl
+
+  pub abort_again : list_any (λ w. w.maker == v.maker) s.cli.kept ≡ true → moves_on s (cue_message (msg.Abort v)) ≡ []
+  abort_again out = if_open-still s.cli.phase s.cli.last _ (λ waits m. again (is_abort_of s.cli.at v.content) (list_any (λ w. w.maker == v.maker) s.cli.kept) _ out)
+
+  first : (a b : Bool) (moves : List Move) → a ≡ true → b ≡ false → (if a then (if b then [] else moves) else []) ≡ moves
+  first a b moves e f = ap (λ t. if t then (if b then [] else moves) else []) e ∙ ap (λ t. if t then [] else moves) f
+
+  pub abort_first : (m : Request) → open_request s.cli.phase s.cli.last ≡ Some m → (instance_of v.content == s.cli.at) ≡ true → list_any (λ w. w.maker == v.maker) s.cli.kept ≡ false
+      → moves_on s (cue_message (msg.Abort v)) ≡ move_keep v ∷ taking (alone s.cluster) s.cli m s.cli.at (own_cert (kind_of s.cluster.plan s.cli.at) v s.cli.kept)
+  abort_first m asked here new =
+      if_open-some s.cli.phase s.cli.last _ m asked
+      ∙ first (is_abort_of s.cli.at v.content) (list_any (λ w. w.maker == v.maker) s.cli.kept) _ (is_abort_of-instance s.cli.at v is ∙ here) new
+
+-- ---- certificates that come
+
+pub init_taken : (s : Seat) (cert : List Signed) (m : Request) → open_request s.cli.phase s.cli.last ≡ Some m
+    → moves_on s (cue_message (msg.Init cert)) ≡ taking (alone s.cluster) s.cli m (cert_instance cert) cert
+init_taken s cert m asked = if_open-some s.cli.phase s.cli.last _ m asked
+
+-- ---- time
+
+pub time_spent : (s : Seat) (m : Request) → open_request s.cli.phase s.cli.last ≡ Some m
+    → moves_on s cue_time ≡ panics_in (kind_of s.cluster.plan s.cli.at) (is_waiting s.cli.phase) m
+time_spent s m asked = if_open-some s.cli.phase s.cli.last _ m asked
+
+-- without an open request nothing moves it
+pub idle_moves : (s : Seat) (m : Msg) → open_request s.cli.phase s.cli.last ≡ None → moves_on s (cue_message m) ≡ []
+idle_moves s m none = if_open-none s.cli.phase s.cli.last _ none
+
+pub idle_time : (s : Seat) → open_request s.cli.phase s.cli.last ≡ None → moves_on s cue_time ≡ []
+idle_time s none = if_open-none s.cli.phase s.cli.last _ none

@@ -1,0 +1,167 @@
+//! Certificates, as a client keeps and finds them.
+
+ghost use Rattle.std.specs.Prelude.{◌≡◌, ◌+◌, ◌*◌, ◌<◌, ◌≤◌, All, length, nat_lt, ◌==◌, ◌↔◌, IsTrue, IfOk, OnOk, OnErr};
+ghost use Rattle.std.specs.List.{filter, insert, list_all, list_any};
+ghost use Rattle.ab_msg.specs.declared.signed.Signed.{Signed as SignedContent};
+ghost use Rattle.ab_msg.specs.Contents.{IsAbort};
+ghost use Rattle.ab_msg.specs.Certs.{IsSigned};
+ghost use Rattle.ab_abs.specs.Certificates.{history_of};
+ghost use Rattle.ab_wire.specs.Views.{aborts};
+ghost use Rattle.ab_run.specs.Replicas.{cert_instance};
+ghost use Rattle.ab_run.specs.Clients.{keep, own_cert, same_list};
+
+use ab_extract::{CertFault, certificates_with_histories_are_sound, check, is_same};
+use ab_form::ListRef;
+use ab_hist::History;
+use ab_msg::{AbortCert, Content, Copied, Signed};
+use ab_num::{Cluster, Kind, OutOfMemory};
+use ab_wire::SignedRef;
+use std::alloc::Global;
+
+/// The instance that the first of these ABORTs names, 0 where there is none.
+pub(crate) fn cert_instance<'a>(cert: ListRef<'a, SignedRef<'a>>) -> u32
+    ensures { result ≡ cert_instance (aborts cert.entry) }
+{
+    let mut cert = cert;
+    match cert.next() {
+        Some(first) => first.content.instance(),
+        None => 0,
+    }
+}
+
+/// Whether one of these is of replica `maker`.
+pub(crate) fn is_kept(kept: &[Signed], maker: u8) -> bool
+    ensures { result ≡ list_any (λ w. w.maker == maker) kept.now }
+{
+    kept.iter().any(|w| w.maker == maker)
+}
+
+/// Whether all are of the first replicas.
+fn are_within(aborts: &[Signed], replicas: u8) -> bool
+    ensures { result ≡ list_all (λ s. nat_lt s.maker replicas) aborts.now }
+{
+    aborts.iter().all(|s| s.maker < replicas)
+}
+
+/// Whether a certificate was not checked for want of memory.
+fn is_memory(fault: CertFault) -> bool
+    ensures { IsTrue result ↔ (fault ≡ CertFault.OutOfMemory) }
+{
+    match fault {
+        CertFault::OutOfMemory => true,
+        CertFault::Count => false,
+        CertFault::SameSigner(_) => false,
+        CertFault::WrongInstance(_) => false,
+        CertFault::Unequal => false,
+    }
+}
+
+/// The history of a certificate of instance `i`. None exactly where it is not valid.
+pub(crate) fn history_of(
+    alloc: Global,
+    cluster: &Cluster,
+    i: u32,
+    cert: &AbortCert,
+) -> Result<Option<History>, OutOfMemory>
+    requires instance { 1 ≤ i }
+    requires aborts { All (IsSigned IsAbort) cert.now }
+    ensures { IfOk result (λ h. h ≡ history_of cluster.now i cert.now) }
+{
+    if !are_within(cert.as_slice(), cluster.replicas()) {
+        return Ok(None);
+    }
+    certificates_with_histories_are_sound();
+    match check(alloc, cluster, i, cert) {
+        Ok(h) => Ok(Some(h)),
+        Err(fault) => {
+            if is_memory(fault) {
+                Err(OutOfMemory)
+            } else {
+                Ok(None)
+            }
+        }
+    }
+}
+
+/// The place of the ABORT of replica `maker` among the kept ones.
+fn place_for(kept: &[Signed], maker: u8) -> usize
+    ensures within { result ≤ length kept.now }
+    ensures place { (v : SignedContent) → v.maker ≡ maker → keep v kept.now ≡ insert kept.now result v }
+{
+    for (i, w) in kept.iter().enumerate() {
+        if maker <= w.maker {
+            return i;
+        }
+    }
+    kept.len()
+}
+
+/// Whether the two ABORTs have one list.
+fn is_alike(a: &Content, b: &Content) -> bool
+    ensures { result ≡ same_list a.now b.now }
+{
+    match a {
+        Content::Abort { history: h, .. } => match b {
+            Content::Abort { history: g, .. } => is_same(g, h),
+            _ => false,
+        },
+        _ => false,
+    }
+}
+
+/// The kept ABORTs and one more.
+fn with_kept(alloc: Global, v: &Signed, kept: &[Signed]) -> Result<Vec<Signed>, OutOfMemory>
+    ensures { IfOk result (λ all. all.items ≡ keep v.now kept.now) }
+{
+    let mut all = Vec::with_capacity(alloc, 8)?;
+    for w in kept {
+        let w = w.copy(alloc)?;
+        all.push(w)?;
+    }
+    let v = v.copy(alloc)?;
+    all.insert(place_for(kept, v.maker), v)?;
+    Ok(all)
+}
+
+/// Those that have the list of `v`.
+fn alike(alloc: Global, v: &Signed, all: &[Signed]) -> Result<Vec<Signed>, OutOfMemory>
+    ensures { IfOk result (λ some. some.items ≡ filter (λ w. same_list v.now.content w.content) all.now) }
+{
+    let mut some = Vec::new(alloc);
+    for w in all {
+        if is_alike(&v.content, &w.content) {
+            let w = w.copy(alloc)?;
+            some.push(w)?;
+        }
+    }
+    Ok(some)
+}
+
+/// The certificate that the kept ABORTs may make with `v` in an instance of this kind.
+pub(crate) fn own_cert(
+    alloc: Global,
+    kind: Kind,
+    v: &Signed,
+    kept: &[Signed],
+) -> Result<AbortCert, OutOfMemory>
+    ensures { IfOk result (λ cert. cert ≡ own_cert kind v.now kept.now) }
+{
+    let all = with_kept(alloc, v, kept)?;
+    match kind {
+        Kind::Quorum | Kind::ZLight | Kind::Chain => Ok(AbortCert::of(all)),
+        Kind::Backup => {
+            let some = alike(alloc, v, &all)?;
+            Ok(AbortCert::of(some))
+        }
+    }
+}
+
+/// Keeps an ABORT among those of other replicas.
+pub(crate) fn keep(kept: &mut Vec<Signed>, v: Signed) -> Result<(), OutOfMemory>
+    ensures ok { OnOk result (kept.new.items ≡ keep v kept.old.items) }
+    ensures err { OnErr result (kept.new.items ≡ kept.old.items) }
+{
+    let place = place_for(kept, v.maker);
+    kept.insert(place, v)?;
+    Ok(())
+}

@@ -1,0 +1,223 @@
+//! How a client stops its instance, and how it enters another.
+
+ghost use Rattle.std.specs.Prelude.{◌≡◌, ◌+◌, ◌<◌, ◌≤◌, ◌∷◌, [], if◌then◌else◌, List, None, Some, IfOk, IfSome, OnOk, OnErr};
+ghost use Rattle.std.specs.Option.{option_map};
+ghost use Rattle.ab_num.specs.Places.{kind_of};
+ghost use Rattle.ab_hist.specs.declared.request.Request.{Request as TheRequest};
+ghost use Rattle.ab_msg.specs.declared.message.Msg.TheVariants as msg;
+ghost use Rattle.ab_msg.specs.Contents.{IsAbort};
+ghost use Rattle.ab_msg.specs.Certs.{AreAborts, IsSigned};
+ghost use Rattle.ab_abs.specs.Certificates.{history_of};
+ghost use Rattle.ab_wire.specs.Views.{aborts, signed};
+ghost use Rattle.ab_run.specs.Clients.{after_move, move_again, move_keep, move_panic, move_take, own_cert, taking};
+ghost use Rattle.ab_run.specs.Local.{cue_message};
+ghost use Rattle.ab_client.specs.Clients.{alone, is_waiting, moves_on};
+ghost use Rattle.ab_client.specs.Moved.{IsMoved};
+
+use super::{Client, nothing};
+use crate::certs::{cert_instance, history_of, is_kept, keep, own_cert};
+use crate::rules::reply_rule;
+use crate::sending::{asking_again, entering, panicking};
+use ab_abs::{Marks, Seen, Votes};
+use ab_form::ListRef;
+use ab_hist::{History, Request};
+use ab_msg::{AbortCert, Outs, Signed};
+use ab_num::{OutOfMemory, Party};
+use ab_run::Phase;
+use ab_wire::{SignedRef, own_aborts};
+use std::alloc::Global;
+
+impl Client {
+    /// Goes to the instance after `j`, which a certificate of `j` opens.
+    fn go_behind(&mut self, j: u32, cert: AbortCert)
+        requires last { j < 4294967295 }
+        requires cert { AreAborts 1 7 cert }
+        ensures { (h : List TheRequest) (m : TheRequest) → self.new ≡ record self.old { cli = after_move self.old.cli (move_take j cert h m) } }
+    {
+        self.instance = j + 1;
+        self.cert = Some(cert);
+        self.phase = Phase::Waiting;
+        self.votes = Votes::new(
+            reply_rule(&self.cluster, self.instance),
+            self.cluster.replicas(),
+        );
+        self.kept.clear();
+    }
+
+    /// Enters the instance after `j` by a certificate of `j`, with its request open.
+    fn enter(
+        &mut self,
+        alloc: Global,
+        j: u32,
+        cert: AbortCert,
+        h: History,
+        request: &Request,
+    ) -> Result<(Outs, Marks), OutOfMemory>
+        requires last { j < 4294967295 }
+        requires cert { AreAborts 1 7 cert }
+        requires request { self.old.cli.last ≡ Some request.now }
+        ensures ok { IfOk result (λ r. IsMoved self.old (move_take j cert h request.now ∷ []) self.new r.0 r.1.items) }
+        ensures err { OnErr result (self.new ≡ self.old) }
+    {
+        let outs = entering(alloc, &self.cluster, j + 1, &cert, request)?;
+        let marks = entry_marks(alloc, j, self.me, h, request);
+        self.go_behind(j, cert);
+        Ok((outs, marks))
+    }
+
+    /// The certificate that the kept ABORTs make with `v`, and its history. None where they make none.
+    fn complete(
+        &self,
+        alloc: Global,
+        v: &Signed,
+    ) -> Result<Option<(AbortCert, History)>, OutOfMemory>
+        requires { IsSigned IsAbort v.now }
+        ensures history { IfOk result (λ o. option_map (λ x. x.1) o ≡ history_of self.now.cluster self.now.cli.at (own_cert (kind_of self.now.cluster.plan self.now.cli.at) v.now self.now.cli.kept)) }
+        ensures cert { IfOk result (λ o. IfSome o (λ x. (x.0 ≡ own_cert (kind_of self.now.cluster.plan self.now.cli.at) v.now self.now.cli.kept) × AreAborts 1 7 x.0)) }
+    {
+        let kind = self.cluster.kind(self.instance);
+        let cert = own_cert(alloc, kind, v, &self.kept)?;
+        match history_of(alloc, &self.cluster, self.instance, &cert)? {
+            Some(h) => Ok(Some((cert, h))),
+            None => Ok(None),
+        }
+    }
+
+    /// Keeps the ABORT of another replica.
+    fn keep(&mut self, v: Signed) -> Result<(), OutOfMemory>
+        requires { IsSigned IsAbort v }
+        ensures ok { OnOk result (self.new ≡ record self.old { cli = after_move self.old.cli (move_keep v) }) }
+        ensures err { OnErr result (self.new ≡ self.old) }
+    {
+        keep(&mut self.kept, v)
+    }
+
+    /// Takes an ABORT of the present instance that is the first of its replica there.
+    fn take_abort(
+        &mut self,
+        alloc: Global,
+        v: Signed,
+        request: &Request,
+    ) -> Result<(Outs, Marks), OutOfMemory>
+        requires abort { IsSigned IsAbort v }
+        requires request { self.old.cli.last ≡ Some request.now }
+        ensures ok { IfOk result (λ r. IsMoved self.old (move_keep v ∷ taking (alone self.old.cluster) self.old.cli request.now self.old.cli.at (own_cert (kind_of self.old.cluster.plan self.old.cli.at) v self.old.cli.kept)) self.new r.0 r.1.items) }
+        ensures err { OnErr result (self.new ≡ self.old) }
+    {
+        if self.instance < u32::MAX {
+            if let Some((cert, h)) = self.complete(alloc, &v)? {
+                return self.enter(alloc, self.instance, cert, h, request);
+            }
+        }
+        self.keep(v)?;
+        Ok(nothing(alloc))
+    }
+
+    /// Takes an ABORT.
+    pub(super) fn on_abort(
+        &mut self,
+        alloc: Global,
+        abort: SignedRef<'_>,
+    ) -> Result<(Outs, Marks), OutOfMemory>
+        requires received { IsSigned IsAbort (signed abort) }
+        ensures ok { IfOk result (λ r. IsMoved self.old (moves_on self.old (cue_message (msg.Abort (signed abort.entry)))) self.new r.0 r.1.items) }
+        ensures err { OnErr result (self.new ≡ self.old) }
+    {
+        let Some(request) = self.request() else {
+            return Ok(nothing(alloc));
+        };
+        if abort.content.instance() != self.instance || is_kept(&self.kept, abort.maker) {
+            return Ok(nothing(alloc));
+        }
+        let v = abort.own(alloc)?;
+        self.take_abort(alloc, v, &request)
+    }
+
+    /// Takes a certificate of instance `j`, which is the present or a later one.
+    fn take_cert(
+        &mut self,
+        alloc: Global,
+        j: u32,
+        cert: AbortCert,
+        request: &Request,
+    ) -> Result<(Outs, Marks), OutOfMemory>
+        requires late { (self.old.cli.at ≤ j) × (j < 4294967295) }
+        requires cert { AreAborts 1 7 cert }
+        requires request { self.old.cli.last ≡ Some request.now }
+        ensures ok { IfOk result (λ r. IsMoved self.old (taking (alone self.old.cluster) self.old.cli request.now j cert) self.new r.0 r.1.items) }
+        ensures err { OnErr result (self.new ≡ self.old) }
+    {
+        match history_of(alloc, &self.cluster, j, &cert)? {
+            Some(h) => self.enter(alloc, j, cert, h, request),
+            None => Ok(nothing(alloc)),
+        }
+    }
+
+    /// Takes a certificate. One of an earlier instance is not copied.
+    pub(super) fn on_init<'a>(
+        &mut self,
+        alloc: Global,
+        cert: ListRef<'a, SignedRef<'a>>,
+    ) -> Result<(Outs, Marks), OutOfMemory>
+        requires received { AreAborts 1 7 (aborts cert) }
+        ensures ok { IfOk result (λ r. IsMoved self.old (moves_on self.old (cue_message (msg.Init (aborts cert.entry)))) self.new r.0 r.1.items) }
+        ensures err { OnErr result (self.new ≡ self.old) }
+    {
+        let Some(request) = self.request() else {
+            return Ok(nothing(alloc));
+        };
+        let j = cert_instance(cert);
+        if j < self.instance || j == u32::MAX {
+            return Ok(nothing(alloc));
+        }
+        let cert = own_aborts(alloc, cert)?;
+        self.take_cert(alloc, j, cert, &request)
+    }
+
+    /// Asks the replicas to stop.
+    pub(super) fn panic(&mut self, alloc: Global) -> Result<(Outs, Marks), OutOfMemory>
+        ensures ok { IfOk result (λ r. IsMoved self.old (move_panic ∷ []) self.new r.0 r.1.items) }
+        ensures err { OnErr result (self.new ≡ self.old) }
+    {
+        let outs = panicking(alloc, &self.cluster, self.instance, self.me, &self.cert)?;
+        self.phase = Phase::Panicking;
+        Ok((outs, Marks::new_in(alloc)))
+    }
+
+    /// Asks for its request once more, if it waits.
+    pub(super) fn ask_again(
+        &mut self,
+        alloc: Global,
+        request: &Request,
+    ) -> Result<(Outs, Marks), OutOfMemory>
+        requires request { self.old.cli.last ≡ Some request.now }
+        ensures ok { IfOk result (λ r. IsMoved self.old (if is_waiting self.old.cli.phase then move_again request.now ∷ [] else []) self.new r.0 r.1.items) }
+        ensures err { OnErr result (self.new ≡ self.old) }
+    {
+        if self.phase != Phase::Waiting {
+            return Ok(nothing(alloc));
+        }
+        let outs = asking_again(alloc, &self.cluster, self.instance, &self.cert, request)?;
+        Ok((outs, Marks::new_in(alloc)))
+    }
+}
+
+/// What is observed where client `me` enters the instance after `j` by a certificate of `j`, whose
+/// history is `h`, with its request open.
+fn entry_marks(alloc: Global, j: u32, me: u16, h: History, request: &Request) -> Marks
+    requires { j < 4294967295 }
+    ensures { result.items ≡ Seen.Cert j (Party.Client me) h ∷ Seen.Invoked (j + 1) me request.now ∷ [] }
+{
+    let mut marks = Marks::new_in(alloc);
+    marks.push(Seen::Cert {
+        i: j,
+        p: Party::Client(me),
+        h,
+    });
+    marks.push(Seen::Invoked {
+        i: j + 1,
+        c: me,
+        m: request.copy(),
+    });
+    marks
+}
