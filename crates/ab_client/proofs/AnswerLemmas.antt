@@ -110,8 +110,7 @@ module _ (votes : List Ballot) (b : Ballot) (n : ℕ) (equal : (r : ℕ) → r <
       own x y z e f = λ i. (e i && f i) || z
       other : (x y : Bool) → IsTrue y → (x || y) ≡ true
       other true y is = refl
-      other false true is = refl
-      other false false is = absurd is
+      other false y is = is
 
   all_so : (k : ℕ) → k ≤ n → all_voted (b ∷ votes) b k ≡ true
   all_so zero le = refl

@@ -1,11 +1,13 @@
 -- What a client comes to, move by move.
 use Rattle.std.proofs.Common.{◌≡◌, ℕ, ◌+◌, ◌*◌, ◌^◌, ◌<◌, ◌≤◌, Bool, true, false, Option, Some, None, List, [], ◌∷◌, ◌++◌, length, arith, refl, sym, ap, ◌∙◌, subst}
-use Rattle.std.specs.Prelude.{◌==◌, ◌&&◌, nat_lt, nat_le, if◌then◌else◌, All, ◌⊎◌}
+use Rattle.std.specs.Prelude.{◌==◌, ◌&&◌, nat_lt, nat_le, if◌then◌else◌, All, ◌⊎◌, Result, Ok, Err, IfOk, OnOk}
 use Rattle.std.proofs.Common.{inl, inr}
 use Rattle.std.specs.List.{list_any}
 use Rattle.std.proofs.lemmas.Bool.Decides.{nat_tests}
 use Rattle.std.proofs.lemmas.List.{append-nil}
 use Rattle.std.proofs.lemmas.List.Elements.{All-nil}
+use Rattle.arrayvec.specs.ArrayVec.{ArrayVec}
+use Rattle.ab_num.specs.declared.memory.OutOfMemory.{OutOfMemory}
 use Rattle.ab_num.specs.declared.cluster.Cluster.{Cluster}
 use Rattle.ab_num.specs.declared.plan.Kind.{Kind}
 use Rattle.ab_num.specs.declared.plan.Kind.TheVariants as kind
@@ -31,7 +33,7 @@ use Rattle.ab_run.specs.Setups.{last_instance}
 use Rattle.ab_run.specs.Replicas.{cert_instance}
 use Rattle.ab_run.specs.Clients.{Cli, Move, move_again, move_keep, move_panic, move_take, after_move, if_open, cert_out, request_out, to_all, own_cert, taking, taking_with, keeping, is_abort_of, panics_in}
 use Rattle.ab_run.specs.Local.{Cue, cue_message, cue_time}
-use Rattle.ab_client.specs.Clients.{Seat, alone, is_waiting, moves_on, request_msg, panic_msg}
+use Rattle.ab_client.specs.Clients.{Seat, after, alone, is_waiting, marks, moves_on, request_msg, panic_msg, sends}
 use Rattle.ab_client.specs.Drafts.{IsDraftOf}
 use Rattle.ab_client.specs.Moved.{IsMoved, IsPlaced, IsRequestOf, open_request}
 use Rattle.ab_client.proofs.CertLemmas.{is_abort_of-instance}
@@ -71,7 +73,11 @@ open_last Panicking last m e = e
 pub moved_not : (s : Seat) (moves : List Move) → moves ≡ [] → IsMoved s moves s [] []
 moved_not s moves none =
     subst (λ (ms : List Move). IsMoved s ms s [] []) (sym none)
-    (record { client = refl; outs = refl; marks = refl; drafts = λ few. All-nil (IsDraftOf s.cluster.f (Client s.me)) })
+    (record { client = refl; stamp = refl; outs = refl; marks = refl; drafts = λ few. All-nil (IsDraftOf s.cluster.f (Client s.me)) })
+
+pub moved_nothing : (s : Seat) (moves : List Move) (sent : List Out) (shown : List Seen) → sent ≡ [] → shown ≡ [] → moves ≡ [] → IsMoved s moves s sent shown
+moved_nothing s moves sent shown none unseen still =
+    subst (λ (o : List Out). IsMoved s moves s o shown) (sym none) (subst (λ (l : List Seen). IsMoved s moves s [] l) (sym unseen) (moved_not s moves still))
 
 pub moved_so : (s : Seat) (moves other : List Move) (now : Seat) (sent : List Out) (shown : List Seen) → moves ≡ other → IsMoved s other now sent shown → IsMoved s moves now sent shown
 moved_so s moves other now sent shown e is = subst (λ (ms : List Move). IsMoved s ms now sent shown) (sym e) is
@@ -105,6 +111,7 @@ module _ (s : Seat) (placed : IsPlaced s.me s.cli) (m : Request) (last : s.cli.l
     pub moved_take : IsMoved s (move_take j cert h m ∷ []) now sent shown
     moved_take = record {
       client = is;
+      stamp = ap (λ (t : Seat). t.cli.stamp) is;
       outs = sent_is ∙ sym (append-nil _);
       marks = shows;
       drafts = λ few. subst (All (IsDraftOf s.cluster.f (Client s.me))) (sym sent_is)
@@ -119,6 +126,7 @@ module _ (s : Seat) (placed : IsPlaced s.me s.cli) (m : Request) (last : s.cli.l
           sends ∙ ap (λ c. cert_out (alone s.cluster) s.cli.cert ++ request_out (alone s.cluster) s.cli.at c m) open_fits.0 in
       record {
         client = refl;
+        stamp = refl;
         outs = is ∙ sym (append-nil _);
         marks = refl;
         drafts = λ few. subst (All (IsDraftOf s.cluster.f (Client s.me))) (sym is)
@@ -132,6 +140,7 @@ pub moved_panic : (s : Seat) (placed : IsPlaced s.me s.cli) (at : s.cli.at ≤ 4
 unfolding panic_msg
 moved_panic s placed at now sent is sends = record {
   client = is;
+  stamp = ap (λ (t : Seat). t.cli.stamp) is;
   outs = sends ∙ sym (append-nil _);
   marks = refl;
   drafts = λ few. subst (All (IsDraftOf s.cluster.f (Client s.me))) (sym sends)
@@ -143,10 +152,10 @@ moved_panic s placed at now sent is sends = record {
 -- an ABORT that is kept just before an entry is gone after it
 pub moved_keep_take : (s : Seat) (v : Signed) (j : ℕ) (cert : List Signed) (h : List Request) (m : Request) (now : Seat) (sent : List Out) (shown : List Seen)
     → IsMoved s (move_take j cert h m ∷ []) now sent shown → IsMoved s (move_keep v ∷ move_take j cert h m ∷ []) now sent shown
-moved_keep_take s v j cert h m now sent shown is = record { client = is.client; outs = is.outs; marks = is.marks; drafts = is.drafts }
+moved_keep_take s v j cert h m now sent shown is = record { client = is.client; stamp = is.stamp; outs = is.outs; marks = is.marks; drafts = is.drafts }
 
 pub moved_keep : (s now : Seat) (v : Signed) → now ≡ record s { cli = after_move s.cli (move_keep v) } → IsMoved s (move_keep v ∷ []) now [] []
-moved_keep s now v is = record { client = is; outs = refl; marks = refl; drafts = λ few. All-nil (IsDraftOf s.cluster.f (Client s.me)) }
+moved_keep s now v is = record { client = is; stamp = ap (λ (t : Seat). t.cli.stamp) is; outs = refl; marks = refl; drafts = λ few. All-nil (IsDraftOf s.cluster.f (Client s.me)) }
 
 -- ---- certificates
 
@@ -186,8 +195,11 @@ module _ (s : Seat) (v : Signed) (is : IsSigned IsAbort v) where
   on_abort : Bool → Request → List Move
   on_abort waits m = if is_abort_of s.cli.at v.content then keeping (alone s.cluster) s.cli m v else []
 
-  pub abort_elsewhere : (instance_of v.content == s.cli.at) ≡ false → moves_on s (cue_message (msg.Abort v)) ≡ []
-  abort_elsewhere out = if_open-still s.cli.phase s.cli.last _ (λ waits m. ap (λ b. if b then keeping (alone s.cluster) s.cli m v else []) (is_abort_of-instance s.cli.at v is ∙ out))
+  pub abort_elsewhere : (instance_of v.content ≡ s.cli.at → ⊥) → moves_on s (cue_message (msg.Abort v)) ≡ []
+  abort_elsewhere out = if_open-still s.cli.phase s.cli.last _ (λ waits m. ap (λ b. if b then keeping (alone s.cluster) s.cli m v else []) (is_abort_of-instance s.cli.at v is ∙ differs (instance_of v.content) s.cli.at out))
+    where
+      differs : (a b : ℕ) → (a ≡ b → ⊥) → (a == b) ≡ false
+      differs a b no_same = grind (arith, nat_tests, no_same)
 
   again : (a b : Bool) (moves : List Move) → b ≡ true → (if a then (if b then [] else moves) else []) ≡ []
   again true b moves e = ap (λ t. if t then [] else moves) e
@@ -199,11 +211,14 @@ module _ (s : Seat) (v : Signed) (is : IsSigned IsAbort v) where
   first : (a b : Bool) (moves : List Move) → a ≡ true → b ≡ false → (if a then (if b then [] else moves) else []) ≡ moves
   first a b moves e f = ap (λ t. if t then (if b then [] else moves) else []) e ∙ ap (λ t. if t then [] else moves) f
 
-  pub abort_first : (m : Request) → open_request s.cli.phase s.cli.last ≡ Some m → (instance_of v.content == s.cli.at) ≡ true → list_any (λ w. w.maker == v.maker) s.cli.kept ≡ false
+  pub abort_first : (m : Request) → open_request s.cli.phase s.cli.last ≡ Some m → instance_of v.content ≡ s.cli.at → list_any (λ w. w.maker == v.maker) s.cli.kept ≡ false
       → moves_on s (cue_message (msg.Abort v)) ≡ move_keep v ∷ taking (alone s.cluster) s.cli m s.cli.at (own_cert (kind_of s.cluster.plan s.cli.at) v s.cli.kept)
   abort_first m asked here new =
       if_open-some s.cli.phase s.cli.last _ m asked
-      ∙ first (is_abort_of s.cli.at v.content) (list_any (λ w. w.maker == v.maker) s.cli.kept) _ (is_abort_of-instance s.cli.at v is ∙ here) new
+      ∙ first (is_abort_of s.cli.at v.content) (list_any (λ w. w.maker == v.maker) s.cli.kept) _ (is_abort_of-instance s.cli.at v is ∙ same (instance_of v.content) s.cli.at here) new
+    where
+      same : (a b : ℕ) → a ≡ b → (a == b) ≡ true
+      same a b e = grind (arith, nat_tests)
 
 -- ---- certificates that come
 
@@ -223,3 +238,74 @@ idle_moves s m none = if_open-none s.cli.phase s.cli.last _ none
 
 pub idle_time : (s : Seat) → open_request s.cli.phase s.cli.last ≡ None → moves_on s cue_time ≡ []
 idle_time s none = if_open-none s.cli.phase s.cli.last _ none
+
+-- ---- results
+
+-- what holds of one list of moves holds of another
+pub moved_ok : (s : Seat) (moves other : List Move) (now : Seat) (r : Result (List Out × ArrayVec Seen) OutOfMemory)
+    → ((sent : List Out) (shown : List Seen) → IsMoved s moves now sent shown → IsMoved s other now sent shown)
+    → IfOk r (λ x. IsMoved s moves now x.0 x.1.items) → IfOk r (λ x. IsMoved s other now x.0 x.1.items)
+moved_ok s moves other now (Ok x) same is = same x.0 x.1.items is
+moved_ok s moves other now (Err e) same is = is
+
+module _ (s : Seat) (cue : Cue) (now : Seat) (r : Result (List Out × ArrayVec Seen) OutOfMemory) (is : IfOk r (λ x. IsMoved s (moves_on s cue) now x.0 x.1.items)) where
+  pub moved_client : OnOk r (now ≡ after s cue)
+  moved_client = on r is
+    where
+      on : (q : Result (List Out × ArrayVec Seen) OutOfMemory) → IfOk q (λ x. IsMoved s (moves_on s cue) now x.0 x.1.items) → OnOk q (now ≡ after s cue)
+      on (Ok x) of = of.client
+      on (Err e) of = of
+
+  pub moved_stamp : OnOk r (now.cli.stamp ≡ s.cli.stamp)
+  moved_stamp = on r is
+    where
+      on : (q : Result (List Out × ArrayVec Seen) OutOfMemory) → IfOk q (λ x. IsMoved s (moves_on s cue) now x.0 x.1.items) → OnOk q (now.cli.stamp ≡ s.cli.stamp)
+      on (Ok x) of = of.stamp
+      on (Err e) of = of
+
+  pub moved_outs : IfOk r (λ x. x.0 ≡ sends s cue)
+  moved_outs = on r is
+    where
+      on : (q : Result (List Out × ArrayVec Seen) OutOfMemory) → IfOk q (λ x. IsMoved s (moves_on s cue) now x.0 x.1.items) → IfOk q (λ x. x.0 ≡ sends s cue)
+      on (Ok x) of = of.outs
+      on (Err e) of = of
+
+  pub moved_marks : IfOk r (λ x. x.1.items ≡ marks s cue)
+  moved_marks = on r is
+    where
+      on : (q : Result (List Out × ArrayVec Seen) OutOfMemory) → IfOk q (λ x. IsMoved s (moves_on s cue) now x.0 x.1.items) → IfOk q (λ x. x.1.items ≡ marks s cue)
+      on (Ok x) of = of.marks
+      on (Err e) of = of
+
+  pub moved_drafts : s.me ≤ 15 → IfOk r (λ x. All (IsDraftOf s.cluster.f (Client s.me)) x.0)
+  moved_drafts few = on r is
+    where
+      on : (q : Result (List Out × ArrayVec Seen) OutOfMemory) → IfOk q (λ x. IsMoved s (moves_on s cue) now x.0 x.1.items) → IfOk q (λ x. All (IsDraftOf s.cluster.f (Client s.me)) x.0)
+      on (Ok x) of = of.drafts few
+      on (Err e) of = of
+
+-- ---- an ABORT that completes a certificate, and one that does not
+
+module _ (s : Seat) (v : Signed) (m : Request) (own : List Signed) where
+  pub abort_taken : (j : ℕ) (cert : List Signed) (h : List Request) (now : Seat) (sent : List Out) (shown : List Seen) → j ≡ s.cli.at → cert ≡ own → history_of s.cluster s.cli.at own ≡ Some h → s.cli.at < 4294967295
+      → IsMoved s (move_take j cert h m ∷ []) now sent shown → IsMoved s (move_keep v ∷ taking (alone s.cluster) s.cli m s.cli.at own) now sent shown
+  abort_taken j cert h now sent shown here same history below is =
+      moved_so s (move_keep v ∷ taking (alone s.cluster) s.cli m s.cli.at own) (move_keep v ∷ move_take j cert h m ∷ []) now sent shown
+      (ap (λ l. move_keep v ∷ l) (taking-some s.cluster s.cli m s.cli.at own h history (omega arith) below ∙ (λ i. move_take (sym here i) (sym same i) h m ∷ [])))
+      (moved_keep_take s v j cert h m now sent shown is)
+
+  pub abort_kept : (now : Seat) (sent : List Out) (shown : List Seen) → (history_of s.cluster s.cli.at own ≡ None) ⊎ (4294967295 ≤ s.cli.at) → now ≡ record s { cli = after_move s.cli (move_keep v) } → sent ≡ [] → shown ≡ []
+      → IsMoved s (move_keep v ∷ taking (alone s.cluster) s.cli m s.cli.at own) now sent shown
+  abort_kept now sent shown not_yet is none unseen =
+      subst (λ (o : List Out). IsMoved s (move_keep v ∷ taking (alone s.cluster) s.cli m s.cli.at own) now o shown) (sym none)
+      (subst (λ (l : List Seen). IsMoved s (move_keep v ∷ taking (alone s.cluster) s.cli m s.cli.at own) now [] l) (sym unseen)
+      (moved_so s (move_keep v ∷ taking (alone s.cluster) s.cli m s.cli.at own) (move_keep v ∷ []) now [] []
+      (ap (λ l. move_keep v ∷ l) (nothing_taken not_yet)) (moved_keep s now v is)))
+    where
+      nothing_taken : (history_of s.cluster s.cli.at own ≡ None) ⊎ (4294967295 ≤ s.cli.at) → taking (alone s.cluster) s.cli m s.cli.at own ≡ []
+      nothing_taken (inl none) = taking-none s.cluster s.cli m s.cli.at own none
+      nothing_taken (inr last) = taking-last s.cluster s.cli m s.cli.at own last
+
+pub init_late : (s : Seat) (cert : List Signed) → (cert_instance cert < s.cli.at) ⊎ (4294967295 ≤ cert_instance cert) → moves_on s (cue_message (msg.Init cert)) ≡ []
+init_late s cert (inl early) = if_open-still s.cli.phase s.cli.last _ (λ waits m. taking-early s.cluster s.cli m (cert_instance cert) cert early)
+init_late s cert (inr last) = if_open-still s.cli.phase s.cli.last _ (λ waits m. taking-last s.cluster s.cli m (cert_instance cert) cert last)

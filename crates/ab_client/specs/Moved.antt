@@ -41,9 +41,10 @@ pub record IsPlaced (me : ℕ) (s : Cli) : Type 0 where
   pub last : FitsInside (IsRequestOf me) s.last
   pub kept : All (IsSigned IsAbort) s.kept
 
--- by these moves client s comes to now, sends this and shows this. All that it sends gets bytes
+-- by these moves client s comes to now, sends this and shows this. Its stamp stays, and all that it sends gets bytes
 pub record IsMoved (s : Seat) (moves : List Move) (now : Seat) (sent : List Out) (shown : List Seen) : Type 0 where
   pub client : now ≡ record s { cli = after_moves s.cli moves }
+  pub stamp : now.cli.stamp ≡ s.cli.stamp
   pub outs : sent ≡ sent_in_moves (alone s.cluster) s.me s.cli moves
   pub marks : shown ≡ marks_in_moves s.me s.cli moves
   pub drafts : s.me ≤ 15 → All (IsDraftOf s.cluster.f (Client s.me)) sent

@@ -1,6 +1,6 @@
 //! Certificates, as a client keeps and finds them.
 
-ghost use Rattle.std.specs.Prelude.{◌≡◌, ◌+◌, ◌*◌, ◌<◌, ◌≤◌, All, length, nat_lt, ◌==◌, ◌↔◌, IsTrue, IfOk, OnOk, OnErr};
+ghost use Rattle.std.specs.Prelude.{◌≡◌, ◌+◌, ◌*◌, ◌<◌, ◌≤◌, All, length, nat_lt, ◌==◌, ◌↔◌, ◌⊎◌, IsTrue, IsNone, IfSome, IfOk, OnOk, OnErr};
 ghost use Rattle.std.specs.List.{filter, insert, list_all, list_any};
 ghost use Rattle.ab_msg.specs.declared.signed.Signed.{Signed as SignedContent};
 ghost use Rattle.ab_msg.specs.Contents.{IsAbort};
@@ -11,22 +11,36 @@ ghost use Rattle.ab_run.specs.Replicas.{cert_instance};
 ghost use Rattle.ab_run.specs.Clients.{keep, own_cert, same_list};
 
 use ab_extract::{CertFault, certificates_with_histories_are_sound, check, is_same};
-use ab_form::ListRef;
+use ab_form::{ListRef, Part, own_list};
 use ab_hist::History;
 use ab_msg::{AbortCert, Content, Copied, Signed};
 use ab_num::{Cluster, Kind, OutOfMemory};
 use ab_wire::SignedRef;
 use std::alloc::Global;
 
-/// The instance that the first of these ABORTs names, 0 where there is none.
-pub(crate) fn cert_instance<'a>(cert: ListRef<'a, SignedRef<'a>>) -> u32
-    ensures { result ≡ cert_instance (aborts cert.entry) }
+/// The instance of a certificate, which its first ABORT names, and a copy of it. None exactly where it
+/// is of an instance before `at` or of the last one; then nothing is copied.
+pub(crate) fn timely<'a>(
+    alloc: Global,
+    at: u32,
+    cert: ListRef<'a, SignedRef<'a>>,
+) -> Result<Option<(u32, AbortCert)>, OutOfMemory>
+    requires { 1 ≤ at }
+    ensures some { IfOk result (λ o. IfSome o (λ x. (x.0 ≡ cert_instance (aborts cert.entry)) × (x.1 ≡ aborts cert.entry) × (at ≤ x.0) × (x.0 < 4294967295))) }
+    ensures none { IfOk result (λ o. IsNone o → (cert_instance (aborts cert.entry) < at) ⊎ (4294967295 ≤ cert_instance (aborts cert.entry))) }
 {
-    let mut cert = cert;
-    match cert.next() {
-        Some(first) => first.content.instance(),
-        None => 0,
+    let mut rest = cert;
+    let Some(first) = rest.next() else {
+        return Ok(None);
+    };
+    let j = first.content.instance();
+    if j < at || j == u32::MAX {
+        return Ok(None);
     }
+    let first = first.owned(alloc)?;
+    let mut all = own_list(alloc, rest)?;
+    all.insert(0, first)?;
+    Ok(Some((j, AbortCert::of(all))))
 }
 
 /// Whether one of these is of replica `maker`.

@@ -1,13 +1,13 @@
 //! One client.
 
 ghost use Rattle.std.specs.Prelude.{◌≡◌, ◌≢◌, ℕ, ◌+◌, ◌^◌, ◌<◌, ◌≤◌, ◌∷◌, [], All, length, IsTrue, IsOk, IfOk, IfErr, OnOk, OnErr, IsNone, IfSome, Some, None, ◌↔◌, ◌⊎◌};
-ghost use Rattle.ab_num.specs.Places.{kind_of};
+ghost use Rattle.ab_num.specs.declared.party.Party.TheVariants.{Client as ClientParty};
 ghost use Rattle.ab_hist.specs.declared.request.Request.{Request as TheRequest};
 ghost use Rattle.ab_wire.specs.Views.{IsReceived, message};
 ghost use Rattle.ab_abs.specs.declared.ballot.Ballot.{Ballot as TheBallot};
 ghost use Rattle.ab_run.specs.Runs.{first_cli};
 ghost use Rattle.ab_run.specs.Local.{cue_message, cue_time};
-ghost use Rattle.ab_client.specs.Clients.{Seat, told, after, sends, marks, InvokeCause};
+ghost use Rattle.ab_client.specs.Clients.{told, after, sends, marks, moves_on, InvokeCause};
 ghost use Rattle.ab_client.specs.Drafts.{IsDraftOf};
 ghost use Rattle.ab_client.specs.Moved.{IsLastVote, IsMoved, is_answer, open_request};
 
@@ -19,7 +19,7 @@ use crate::sending::requests;
 use ab_abs::{Marks, Seen, Votes};
 use ab_hist::Request;
 use ab_msg::{AbortCert, Outs, Signed};
-use ab_num::{Cluster, Kind, OutOfMemory, Party};
+use ab_num::{Cluster, OutOfMemory};
 use ab_run::Phase;
 use ab_wire::MsgRef;
 use arrayvec::ArrayVec;
@@ -145,7 +145,7 @@ impl Client {
         ensures client { OnOk result (self.new ≡ after self.old (told command.now)) }
         ensures outs { IfOk result (λ r. r.0 ≡ sends self.old (told command.now)) }
         ensures marks { IfOk result (λ r. r.1.items ≡ marks self.old (told command.now)) }
-        ensures drafts { self.old.me ≤ 15 → IfOk result (λ r. All (IsDraftOf self.old.cluster.f (Party.Client self.old.me)) r.0) }
+        ensures drafts { self.old.me ≤ 15 → IfOk result (λ r. All (IsDraftOf self.old.cluster.f (ClientParty self.old.me)) r.0) }
         ensures stamp { OnOk result (self.new.cli.stamp ≡ self.old.cli.stamp + 1) }
         ensures idle { OnOk result (self.old.cli.phase ≡ Phase.Idle) }
         ensures cause { IfErr result (λ e. InvokeCause e self.old.cli.phase (length command.now)) }
@@ -206,13 +206,36 @@ impl Client {
         ensures client { OnOk result (self.new ≡ after self.old (cue_message (message msg.entry))) }
         ensures outs { IfOk result (λ r. r.0 ≡ sends self.old (cue_message (message msg.entry))) }
         ensures marks { IfOk result (λ r. r.1.items ≡ marks self.old (cue_message (message msg.entry))) }
-        ensures drafts { self.old.me ≤ 15 → IfOk result (λ r. All (IsDraftOf self.old.cluster.f (Party.Client self.old.me)) r.0) }
+        ensures drafts { self.old.me ≤ 15 → IfOk result (λ r. All (IsDraftOf self.old.cluster.f (ClientParty self.old.me)) r.0) }
         ensures stamp { OnOk result (self.new.cli.stamp ≡ self.old.cli.stamp) }
 
         // An answer takes no memory. The last of equal answers of all replicas commits in Quorum and ZLight.
         ensures answered { IsTrue (is_answer (message msg.entry)) → IsOk result }
         ensures at_once { (m : TheRequest) (b : TheBallot) → IsLastVote self.old (message msg.entry) m b
             → IfOk result (λ r. r.1.items ≡ Seen.Committed self.old.cli.at self.old.me m b.n b.d b.reply ∷ []) }
+        ensures err { OnErr result (self.new ≡ self.old) }
+    {
+        self.hear(alloc, msg)
+    }
+
+    /// Its timer runs out. With a request open in a Backup it asks once more, and in an instance of
+    /// another kind it asks the replicas to stop.
+    pub fn timeout(&mut self, alloc: Global) -> Result<(Outs, Marks), OutOfMemory>
+        ensures client { OnOk result (self.new ≡ after self.old cue_time) }
+        ensures outs { IfOk result (λ r. r.0 ≡ sends self.old cue_time) }
+        ensures marks { IfOk result (λ r. r.1.items ≡ marks self.old cue_time) }
+        ensures drafts { self.old.me ≤ 15 → IfOk result (λ r. All (IsDraftOf self.old.cluster.f (ClientParty self.old.me)) r.0) }
+        ensures stamp { OnOk result (self.new.cli.stamp ≡ self.old.cli.stamp) }
+        ensures err { OnErr result (self.new ≡ self.old) }
+    {
+        self.on_time(alloc)
+    }
+
+    /// Takes a message.
+    fn hear(&mut self, alloc: Global, msg: MsgRef<'_>) -> Result<(Outs, Marks), OutOfMemory>
+        requires received { IsReceived msg }
+        ensures ok { IfOk result (λ r. IsMoved self.old (moves_on self.old (cue_message (message msg.entry))) self.new r.0 r.1.items) }
+        ensures answered { IsTrue (is_answer (message msg.entry)) → IsOk result }
         ensures err { OnErr result (self.new ≡ self.old) }
     {
         match msg {
@@ -234,25 +257,6 @@ impl Client {
             MsgRef::Abort { abort } => self.on_abort(alloc, abort),
             MsgRef::Init { cert } => self.on_init(alloc, cert),
             _ => Ok(nothing(alloc)),
-        }
-    }
-
-    /// Its timer runs out. With a request open in a Backup it asks once more, and in an instance of
-    /// another kind it asks the replicas to stop.
-    pub fn timeout(&mut self, alloc: Global) -> Result<(Outs, Marks), OutOfMemory>
-        ensures client { OnOk result (self.new ≡ after self.old cue_time) }
-        ensures outs { IfOk result (λ r. r.0 ≡ sends self.old cue_time) }
-        ensures marks { IfOk result (λ r. r.1.items ≡ marks self.old cue_time) }
-        ensures drafts { self.old.me ≤ 15 → IfOk result (λ r. All (IsDraftOf self.old.cluster.f (Party.Client self.old.me)) r.0) }
-        ensures stamp { OnOk result (self.new.cli.stamp ≡ self.old.cli.stamp) }
-        ensures err { OnErr result (self.new ≡ self.old) }
-    {
-        let Some(request) = self.request() else {
-            return Ok(nothing(alloc));
-        };
-        match self.cluster.kind(self.instance) {
-            Kind::Quorum | Kind::ZLight | Kind::Chain => self.panic(alloc),
-            Kind::Backup => self.ask_again(alloc, &request),
         }
     }
 }

@@ -1,30 +1,30 @@
 //! How a client stops its instance, and how it enters another.
 
-ghost use Rattle.std.specs.Prelude.{◌≡◌, ◌+◌, ◌<◌, ◌≤◌, ◌∷◌, [], if◌then◌else◌, List, None, Some, IfOk, IfSome, OnOk, OnErr};
+ghost use Rattle.std.specs.Prelude.{◌≡◌, ◌+◌, ◌<◌, ◌≤◌, ◌∷◌, [], if◌then◌else◌, List, None, Some, IfOk, IfSome, IsNone, IsSome, OnOk, OnErr, ◌⊎◌};
 ghost use Rattle.std.specs.Option.{option_map};
 ghost use Rattle.ab_num.specs.Places.{kind_of};
 ghost use Rattle.ab_hist.specs.declared.request.Request.{Request as TheRequest};
-ghost use Rattle.ab_msg.specs.declared.message.Msg.TheVariants as msg;
+ghost use Rattle.ab_msg.specs.declared.message.Msg.TheVariants as sent;
 ghost use Rattle.ab_msg.specs.Contents.{IsAbort};
 ghost use Rattle.ab_msg.specs.Certs.{AreAborts, IsSigned};
 ghost use Rattle.ab_abs.specs.Certificates.{history_of};
 ghost use Rattle.ab_wire.specs.Views.{aborts, signed};
 ghost use Rattle.ab_run.specs.Clients.{after_move, move_again, move_keep, move_panic, move_take, own_cert, taking};
-ghost use Rattle.ab_run.specs.Local.{cue_message};
+ghost use Rattle.ab_run.specs.Local.{cue_message, cue_time};
 ghost use Rattle.ab_client.specs.Clients.{alone, is_waiting, moves_on};
 ghost use Rattle.ab_client.specs.Moved.{IsMoved};
 
 use super::{Client, nothing};
-use crate::certs::{cert_instance, history_of, is_kept, keep, own_cert};
+use crate::certs::{history_of, is_kept, keep, own_cert, timely};
 use crate::rules::reply_rule;
 use crate::sending::{asking_again, entering, panicking};
 use ab_abs::{Marks, Seen, Votes};
 use ab_form::ListRef;
 use ab_hist::{History, Request};
 use ab_msg::{AbortCert, Outs, Signed};
-use ab_num::{OutOfMemory, Party};
+use ab_num::{Kind, OutOfMemory, Party};
 use ab_run::Phase;
-use ab_wire::{SignedRef, own_aborts};
+use ab_wire::SignedRef;
 use std::alloc::Global;
 
 impl Client {
@@ -65,16 +65,22 @@ impl Client {
         Ok((outs, marks))
     }
 
-    /// The certificate that the kept ABORTs make with `v`, and its history. None where they make none.
+    /// The certificate that the kept ABORTs make with `v`, and its history. None exactly where they make
+    /// none, or where there is no further instance.
     fn complete(
         &self,
         alloc: Global,
         v: &Signed,
     ) -> Result<Option<(AbortCert, History)>, OutOfMemory>
         requires { IsSigned IsAbort v.now }
-        ensures history { IfOk result (λ o. option_map (λ x. x.1) o ≡ history_of self.now.cluster self.now.cli.at (own_cert (kind_of self.now.cluster.plan self.now.cli.at) v.now self.now.cli.kept)) }
-        ensures cert { IfOk result (λ o. IfSome o (λ x. (x.0 ≡ own_cert (kind_of self.now.cluster.plan self.now.cli.at) v.now self.now.cli.kept) × AreAborts 1 7 x.0)) }
+        ensures cert { IfOk result (λ o. IfSome o (λ x. (x.0 ≡ (own_cert (kind_of self.now.cluster.plan self.now.cli.at) v.now self.now.cli.kept)) × AreAborts 1 7 x.0)) }
+        ensures history { IfOk result (λ o. IfSome o (λ x. history_of self.now.cluster self.now.cli.at (own_cert (kind_of self.now.cluster.plan self.now.cli.at) v.now self.now.cli.kept) ≡ Some x.1)) }
+        ensures below { IfOk result (λ o. IsSome o → self.now.cli.at < 4294967295) }
+        ensures none { IfOk result (λ o. IsNone o → (history_of self.now.cluster self.now.cli.at (own_cert (kind_of self.now.cluster.plan self.now.cli.at) v.now self.now.cli.kept) ≡ None) ⊎ (4294967295 ≤ self.now.cli.at)) }
     {
+        if self.instance == u32::MAX {
+            return Ok(None);
+        }
         let kind = self.cluster.kind(self.instance);
         let cert = own_cert(alloc, kind, v, &self.kept)?;
         match history_of(alloc, &self.cluster, self.instance, &cert)? {
@@ -89,7 +95,8 @@ impl Client {
         ensures ok { OnOk result (self.new ≡ record self.old { cli = after_move self.old.cli (move_keep v) }) }
         ensures err { OnErr result (self.new ≡ self.old) }
     {
-        keep(&mut self.kept, v)
+        keep(&mut self.kept, v)?;
+        Ok(())
     }
 
     /// Takes an ABORT of the present instance that is the first of its replica there.
@@ -104,13 +111,13 @@ impl Client {
         ensures ok { IfOk result (λ r. IsMoved self.old (move_keep v ∷ taking (alone self.old.cluster) self.old.cli request.now self.old.cli.at (own_cert (kind_of self.old.cluster.plan self.old.cli.at) v self.old.cli.kept)) self.new r.0 r.1.items) }
         ensures err { OnErr result (self.new ≡ self.old) }
     {
-        if self.instance < u32::MAX {
-            if let Some((cert, h)) = self.complete(alloc, &v)? {
-                return self.enter(alloc, self.instance, cert, h, request);
+        match self.complete(alloc, &v)? {
+            Some((cert, h)) => self.enter(alloc, self.instance, cert, h, request),
+            None => {
+                self.keep(v)?;
+                Ok(nothing(alloc))
             }
         }
-        self.keep(v)?;
-        Ok(nothing(alloc))
     }
 
     /// Takes an ABORT.
@@ -120,13 +127,16 @@ impl Client {
         abort: SignedRef<'_>,
     ) -> Result<(Outs, Marks), OutOfMemory>
         requires received { IsSigned IsAbort (signed abort) }
-        ensures ok { IfOk result (λ r. IsMoved self.old (moves_on self.old (cue_message (msg.Abort (signed abort.entry)))) self.new r.0 r.1.items) }
+        ensures ok { IfOk result (λ r. IsMoved self.old (moves_on self.old (cue_message (sent.Abort (signed abort.entry)))) self.new r.0 r.1.items) }
         ensures err { OnErr result (self.new ≡ self.old) }
     {
         let Some(request) = self.request() else {
             return Ok(nothing(alloc));
         };
-        if abort.content.instance() != self.instance || is_kept(&self.kept, abort.maker) {
+        if abort.content.instance() != self.instance {
+            return Ok(nothing(alloc));
+        }
+        if is_kept(&self.kept, abort.maker) {
             return Ok(nothing(alloc));
         }
         let v = abort.own(alloc)?;
@@ -160,22 +170,36 @@ impl Client {
         cert: ListRef<'a, SignedRef<'a>>,
     ) -> Result<(Outs, Marks), OutOfMemory>
         requires received { AreAborts 1 7 (aborts cert) }
-        ensures ok { IfOk result (λ r. IsMoved self.old (moves_on self.old (cue_message (msg.Init (aborts cert.entry)))) self.new r.0 r.1.items) }
+        ensures ok { IfOk result (λ r. IsMoved self.old (moves_on self.old (cue_message (sent.Init (aborts cert.entry)))) self.new r.0 r.1.items) }
         ensures err { OnErr result (self.new ≡ self.old) }
     {
         let Some(request) = self.request() else {
             return Ok(nothing(alloc));
         };
-        let j = cert_instance(cert);
-        if j < self.instance || j == u32::MAX {
-            return Ok(nothing(alloc));
+        match timely(alloc, self.instance, cert)? {
+            Some((j, cert)) => self.take_cert(alloc, j, cert, &request),
+            None => Ok(nothing(alloc)),
         }
-        let cert = own_aborts(alloc, cert)?;
-        self.take_cert(alloc, j, cert, &request)
+    }
+
+    /// Its timer runs out.
+    pub(super) fn on_time(&mut self, alloc: Global) -> Result<(Outs, Marks), OutOfMemory>
+        ensures ok { IfOk result (λ r. IsMoved self.old (moves_on self.old cue_time) self.new r.0 r.1.items) }
+        ensures err { OnErr result (self.new ≡ self.old) }
+    {
+        let Some(request) = self.request() else {
+            return Ok(nothing(alloc));
+        };
+        match self.cluster.kind(self.instance) {
+            Kind::Quorum => self.panic(alloc),
+            Kind::ZLight => self.panic(alloc),
+            Kind::Chain => self.panic(alloc),
+            Kind::Backup => self.ask_again(alloc, &request),
+        }
     }
 
     /// Asks the replicas to stop.
-    pub(super) fn panic(&mut self, alloc: Global) -> Result<(Outs, Marks), OutOfMemory>
+    fn panic(&mut self, alloc: Global) -> Result<(Outs, Marks), OutOfMemory>
         ensures ok { IfOk result (λ r. IsMoved self.old (move_panic ∷ []) self.new r.0 r.1.items) }
         ensures err { OnErr result (self.new ≡ self.old) }
     {
@@ -185,7 +209,7 @@ impl Client {
     }
 
     /// Asks for its request once more, if it waits.
-    pub(super) fn ask_again(
+    fn ask_again(
         &mut self,
         alloc: Global,
         request: &Request,

@@ -23,4 +23,4 @@ returns-else-is_memory c =
     let e = c.check.ensures in
     let P : Bool → Type 0 = λ b. IsTrue b in
     sym (refused_none q c.args.i cert (λ h. c.certificates_with_histories_are_sound.ensures q c.args.i cert h aborts) c.check.result
-    e.count e.signer e.foreign e.unequal c.in-Err.fault c.in-Err.is (λ is. subst P c.if-is_memory.false (c.is_memory.ensures.1 is)))
+    e.count e.signer e.foreign e.unequal c.in-Err.fault c.in-Err.is (λ is. let e : false ≡ true = subst P c.if-is_memory.false (c.is_memory.ensures.1 is) in absurd (cc (e))))
