@@ -26,7 +26,8 @@ use Rattle.ab_run.specs.declared.phase.Phase.TheVariants.{Idle, Waiting, Panicki
 use Rattle.ab_run.specs.Clients.{Cli, Move, move_vote, move_commit, vote_claim, if_open, counting, counts_responses, hears_response}
 use Rattle.ab_run.specs.Local.{cue_message, marks_in_moves}
 use Rattle.ab_client.specs.Clients.{Seat, alone, is_waiting, moves_on, marks}
-use Rattle.ab_client.specs.Moved.{IsLastVote}
+use Rattle.ab_client.specs.Moved.{IsLastVote, IsMoved}
+use Rattle.ab_client.proofs.MovedLemmas.{moved_nothing, moved_so}
 
 -- ---- answers that are awaited
 
@@ -53,6 +54,26 @@ heard_none Waiting None moves e = refl
 heard_none Waiting (Some m) moves e = absurd (cc (e))
 heard_none Panicking None moves e = refl
 heard_none Panicking (Some m) moves e = absurd (cc (e))
+
+-- a response that is awaited is counted, where a request is open
+module _ (s : Seat) (b : Ballot) (i d stamp : ℕ) (tag : List ℕ) (now : Seat) (shown : List Seen)
+    (awaited : ((is_waiting s.cli.phase && counts_responses (kind_of s.cluster.plan s.cli.at)) && ((i == s.cli.at) && ((d == s.me) && (stamp == s.cli.stamp)))) ≡ true)
+    (counts : (m : Request) → s.cli.last ≡ Some m → IsMoved s (counting (alone s.cluster) s.me s.cli m b) now [] shown)
+    (none : s.cli.last ≡ None → (now ≡ s) × (shown ≡ [])) where
+  by_last : (last : Option Request) → s.cli.last ≡ last → IsMoved s (moves_on s (cue_message (msg.Resp (Resp (Replica b.by) i d stamp b.n b.d b.reply) tag))) now [] shown
+  by_last None is =
+      let moves = moves_on s (cue_message (msg.Resp (Resp (Replica b.by) i d stamp b.n b.d b.reply) tag)) in
+      let rests = none is in
+      subst (λ (t : Seat). IsMoved s (moves_on s (cue_message (msg.Resp (Resp (Replica b.by) i d stamp b.n b.d b.reply) tag))) t [] shown) (sym rests.0)
+      (moved_nothing s moves [] shown refl rests.1 (heard_none s.cli.phase s.cli.last _ is))
+  by_last (Some m) is =
+      let moves = moves_on s (cue_message (msg.Resp (Resp (Replica b.by) i d stamp b.n b.d b.reply) tag)) in
+      moved_so s moves (counting (alone s.cluster) s.me s.cli m b) now [] shown
+      (heard_so s.cli.phase s.cli.last (counts_responses (kind_of s.cluster.plan s.cli.at)) ((i == s.cli.at) && ((d == s.me) && (stamp == s.cli.stamp))) (λ q. counting (alone s.cluster) s.me s.cli q b) m awaited is)
+      (counts m is)
+
+  pub response_counted : IsMoved s (moves_on s (cue_message (msg.Resp (Resp (Replica b.by) i d stamp b.n b.d b.reply) tag))) now [] shown
+  response_counted = by_last s.cli.last refl
 
 -- ---- messages that no client takes
 

@@ -6,7 +6,8 @@ ghost use Rattle.ab_num.specs.Places.{kind_of};
 ghost use Rattle.ab_form.specs.Lists.{FitsInside};
 ghost use Rattle.ab_hist.specs.declared.request.Request.{Request as TheRequest};
 ghost use Rattle.ab_msg.specs.declared.chain_tags.TagBetween.{TagBetween};
-ghost use Rattle.ab_msg.specs.declared.message.Msg.{Msg as TheMsg};
+ghost use Rattle.ab_num.specs.declared.party.Party.TheVariants.{Replica};
+ghost use Rattle.ab_msg.specs.declared.content.Content.TheVariants.{Resp};
 ghost use Rattle.ab_msg.specs.declared.message.Msg.TheVariants as msg;
 ghost use Rattle.ab_msg.specs.Contents.{IsResp};
 ghost use Rattle.ab_msg.specs.Fields.{IsReply};
@@ -89,6 +90,25 @@ impl Client {
         marks
     }
 
+    /// Takes the answer of a replica to a client's request in an instance.
+    fn on_vote(
+        &mut self,
+        alloc: Global,
+        instance: u32,
+        client: u16,
+        stamp: u64,
+        ballot: Ballot,
+    ) -> Marks
+        ensures { (tag : List ℕ) →
+            IsMoved self.old (moves_on self.old (cue_message (msg.Resp (Resp (Replica ballot.by) instance client stamp ballot.n ballot.d ballot.reply) tag))) self.new [] result.items }
+    {
+        let counts = counts_responses(self.cluster.kind(self.instance));
+        if !self.awaits(counts, instance, client, stamp) {
+            return Marks::new_in(alloc);
+        }
+        self.count(alloc, ballot)
+    }
+
     /// Takes a response.
     pub(super) fn on_response(&mut self, alloc: Global, content: ContentRef<'_>) -> Marks
         requires received { IsResp (shown content) }
@@ -104,12 +124,9 @@ impl Client {
                 d,
                 reply,
             } => {
-                let counts = counts_responses(self.cluster.kind(self.instance));
-                if !self.awaits(counts, instance, client, stamp) {
-                    return Marks::new_in(alloc);
-                }
                 let reply = array_of(reply);
-                self.count(alloc, Ballot { by, n, d: *d, reply })
+                let d = *d;
+                self.on_vote(alloc, instance, client, stamp, Ballot { by, n, d, reply })
             }
             _ => Marks::new_in(alloc),
         }
