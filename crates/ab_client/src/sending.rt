@@ -120,8 +120,12 @@ fn send_panic(
 ) -> Result<(), OutOfMemory>
     ensures { OnOk result (outs.new ≡ outs.old ++ to_all (3 * cluster.now.f + 1) (panic_msg instance me)) }
 {
-    let msg = panic_msg(instance, me);
-    send_to_all(alloc, outs, cluster.replicas(), &msg)
+    for r in 0..cluster.replicas() {
+        let msg = panic_msg(instance, me);
+        let to = Party::Replica(r);
+        outs.push(alloc, Out { to, msg })?;
+    }
+    Ok(())
 }
 
 /// What a client sends with a new request.

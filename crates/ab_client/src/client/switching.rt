@@ -198,13 +198,20 @@ impl Client {
         }
     }
 
+    /// Waits no longer for replies.
+    fn give_up(&mut self)
+        ensures { self.new ≡ record self.old { cli = after_move self.old.cli move_panic } }
+    {
+        self.phase = Phase::Panicking;
+    }
+
     /// Asks the replicas to stop.
     fn panic(&mut self, alloc: Global) -> Result<(Outs, Marks), OutOfMemory>
         ensures ok { IfOk result (λ r. IsMoved self.old (move_panic ∷ []) self.new r.0 r.1.items) }
         ensures err { OnErr result (self.new ≡ self.old) }
     {
         let outs = panicking(alloc, &self.cluster, self.instance, self.me, &self.cert)?;
-        self.phase = Phase::Panicking;
+        self.give_up();
         Ok((outs, Marks::new_in(alloc)))
     }
 
