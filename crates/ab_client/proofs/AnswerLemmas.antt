@@ -1,10 +1,13 @@
 -- What answers come to.
 use Rattle.std.proofs.Common.{◌≡◌, ℕ, zero, suc, ◌+◌, ◌*◌, ◌<◌, ◌≤◌, Bool, true, false, Option, Some, None, List, [], ◌∷◌, ◌++◌, length, map, arith, refl, sym, ap, ◌∙◌, subst, inl, inr}
-use Rattle.std.specs.Prelude.{◌==◌, ◌&&◌, ◌||◌, nat_lt, nat_eq, if◌then◌else◌, All, IsTrue, ◌≢◌, ◌⊎◌}
+use Rattle.std.specs.Prelude.{◌==◌, ◌&&◌, ◌||◌, nat_lt, nat_eq, if◌then◌else◌, All, IsTrue, ◌≢◌, ◌⊎◌, Result, Ok, Err, IfOk, IsOk, IsOkAnd}
 use Rattle.std.proofs.lemmas.Bool.{cases_Bool, cases_order}
 use Rattle.std.proofs.lemmas.Bool.Decides.{nat_tests}
 use Rattle.std.proofs.lemmas.Slice.Eq.{bytes_eq-Decides}
 use Rattle.std.specs.Str.{bytes_eq}
+use Rattle.arrayvec.specs.ArrayVec.{ArrayVec}
+use Rattle.ab_num.specs.declared.memory.OutOfMemory.{OutOfMemory}
+use Rattle.ab_msg.specs.declared.message.Out.{Out}
 use Rattle.ab_num.specs.declared.cluster.Cluster.{Cluster}
 use Rattle.ab_num.specs.declared.plan.Kind.{Kind}
 use Rattle.ab_num.specs.declared.plan.Kind.TheVariants as kind
@@ -26,7 +29,7 @@ use Rattle.ab_run.specs.declared.phase.Phase.TheVariants.{Idle, Waiting, Panicki
 use Rattle.ab_run.specs.Clients.{Cli, Move, move_vote, move_commit, vote_claim, if_open, counting, counts_responses, hears_response}
 use Rattle.ab_run.specs.Local.{cue_message, marks_in_moves}
 use Rattle.ab_client.specs.Clients.{Seat, alone, is_waiting, moves_on, marks}
-use Rattle.ab_client.specs.Moved.{IsLastVote, IsMoved}
+use Rattle.ab_client.specs.Moved.{IsLastVote, IsMoved, is_answer}
 use Rattle.ab_client.proofs.MovedLemmas.{moved_nothing, moved_so}
 
 -- ---- answers that are awaited
@@ -74,37 +77,6 @@ module _ (s : Seat) (b : Ballot) (i d stamp : ℕ) (tag : List ℕ) (now : Seat)
 
   pub response_counted : IsMoved s (moves_on s (cue_message (msg.Resp (Resp (Replica b.by) i d stamp b.n b.d b.reply) tag))) now [] shown
   response_counted = by_last s.cli.last refl
-
--- ---- messages that no client takes
-
-unfoldable pub is_heard : Msg → Bool
-is_heard (msg.Resp content tag) = true
-is_heard (msg.Chain i q n d reply tags) = true
-is_heard (msg.Abort abort) = true
-is_heard (msg.Init cert) = true
-is_heard _ = false
-
-still : (p : Phase) (last : Option Request) → if_open p last (λ waits m. []) ≡ []
-still Idle last = refl
-still Waiting None = refl
-still Waiting (Some m) = refl
-still Panicking None = refl
-still Panicking (Some m) = refl
-
-pub unheard : (s : Seat) (m : Msg) → is_heard m ≡ false → moves_on s (cue_message m) ≡ []
-unfolding is_heard
-unheard s (msg.Resp content tag) e = absurd (cc (e))
-unheard s (msg.Chain i q n d reply tags) e = absurd (cc (e))
-unheard s (msg.Abort abort) e = absurd (cc (e))
-unheard s (msg.Init cert) e = absurd (cc (e))
-unheard s (msg.Req content tags) e = still s.cli.phase s.cli.last
-unheard s (msg.Order content client_tag tag) e = still s.cli.phase s.cli.last
-unheard s (msg.Panic content tag) e = still s.cli.phase s.cli.last
-unheard s (msg.PrePrepare content tag offer) e = still s.cli.phase s.cli.last
-unheard s (msg.Prepare prepare) e = still s.cli.phase s.cli.last
-unheard s (msg.Commit content tag) e = still s.cli.phase s.cli.last
-unheard s (msg.ViewChange change) e = still s.cli.phase s.cli.last
-unheard s (msg.NewView content tag changes) e = still s.cli.phase s.cli.last
 
 -- ---- the last of equal answers
 
@@ -186,3 +158,13 @@ module _ (s : Seat) (m : Request) (b : Ballot) (kinds : (kind_of s.cluster.plan 
 pub last_vote_commits : (s : Seat) (given : Msg) (m : Request) (b : Ballot) → IsLastVote s given m b → marks s (cue_message given) ≡ Committed s.cli.at s.me m b.n b.d b.reply ∷ []
 last_vote_commits s given m b is =
     ap (λ t. marks s (cue_message t)) is.answer.1 ∙ last_marks s m b is.kind is.waits is.asked is.replica is.first is.equal is.answer.0
+
+answer_is : (s : Seat) (given : Msg) (m : Request) (b : Ballot) → IsLastVote s given m b → is_answer given ≡ true
+answer_is s given m b is = ap is_answer is.answer.1
+
+-- in that very call, which takes no memory
+pub marks_at_once : (s : Seat) (given : Msg) (now : Seat) (r : Result (List Out × ArrayVec Seen) OutOfMemory) (m : Request) (b : Ballot)
+    → IfOk r (λ x. IsMoved s (moves_on s (cue_message given)) now x.0 x.1.items) → (is_answer given ≡ true → IsOk r) → IsLastVote s given m b
+    → IsOkAnd r (λ x. x.1.items ≡ Committed s.cli.at s.me m b.n b.d b.reply ∷ [])
+marks_at_once s given now (Ok x) m b moved answered is = moved.marks ∙ last_vote_commits s given m b is
+marks_at_once s given now (Err e) m b moved answered is = let no_err = answered (answer_is s given m b is) in absurd (cc (no_err))

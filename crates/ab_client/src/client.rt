@@ -1,13 +1,13 @@
 //! One client.
 
-ghost use Rattle.std.specs.Prelude.{◌≡◌, ◌≢◌, ℕ, ◌+◌, ◌^◌, ◌<◌, ◌≤◌, ◌∷◌, [], All, length, IsTrue, IsOk, IfOk, IfErr, OnOk, OnErr, IsNone, IfSome, Some, None, ◌↔◌, ◌⊎◌};
+ghost use Rattle.std.specs.Prelude.{◌≡◌, ◌≢◌, ℕ, ◌+◌, ◌^◌, ◌<◌, ◌≤◌, ◌∷◌, [], All, length, IsTrue, IsOk, IsOkAnd, IfOk, IfErr, OnOk, OnErr, IsNone, IfSome, Some, None, ◌↔◌, ◌⊎◌};
 ghost use Rattle.ab_num.specs.declared.party.Party.TheVariants.{Client as ClientParty};
 ghost use Rattle.ab_hist.specs.declared.request.Request.{Request as TheRequest};
 ghost use Rattle.ab_wire.specs.Views.{IsReceived, message};
 ghost use Rattle.ab_abs.specs.declared.ballot.Ballot.{Ballot as TheBallot};
 ghost use Rattle.ab_run.specs.Runs.{first_cli};
 ghost use Rattle.ab_run.specs.Local.{cue_message, cue_time};
-ghost use Rattle.ab_client.specs.Clients.{told, after, sends, marks, moves_on, InvokeCause};
+ghost use Rattle.ab_client.specs.Clients.{told, after, is_waiting, sends, marks, moves_on, InvokeCause};
 ghost use Rattle.ab_client.specs.Drafts.{IsDraftOf};
 ghost use Rattle.ab_client.specs.Moved.{IsLastVote, IsMoved, is_answer, open_request};
 
@@ -185,6 +185,16 @@ impl Client {
         Some(self.stamp + u64::from(self.instance))
     }
 
+    /// Whether it waits for replies.
+    fn is_waiting(&self) -> bool
+        ensures { result ≡ is_waiting self.now.cli.phase }
+    {
+        match self.phase {
+            Phase::Waiting => true,
+            Phase::Idle | Phase::Panicking => false,
+        }
+    }
+
     /// The open request.
     fn request(&self) -> Option<Request>
         ensures { result ≡ open_request self.now.cli.phase self.now.cli.last }
@@ -212,7 +222,7 @@ impl Client {
         // An answer takes no memory. The last of equal answers of all replicas commits in Quorum and ZLight.
         ensures answered { IsTrue (is_answer (message msg.entry)) → IsOk result }
         ensures at_once { (m : TheRequest) (b : TheBallot) → IsLastVote self.old (message msg.entry) m b
-            → IfOk result (λ r. r.1.items ≡ Seen.Committed self.old.cli.at self.old.me m b.n b.d b.reply ∷ []) }
+            → IsOkAnd result (λ r. r.1.items ≡ Seen.Committed self.old.cli.at self.old.me m b.n b.d b.reply ∷ []) }
         ensures err { OnErr result (self.new ≡ self.old) }
     {
         self.hear(alloc, msg)

@@ -34,7 +34,7 @@ impl Client {
         ensures { result ≡ ((is_waiting self.now.cli.phase && counts)
             && ((instance == self.now.cli.at) && ((client == self.now.me) && (stamp == self.now.cli.stamp)))) }
     {
-        self.phase == Phase::Waiting
+        self.is_waiting()
             && counts
             && instance == self.instance
             && client == self.me

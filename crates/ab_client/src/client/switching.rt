@@ -225,7 +225,7 @@ impl Client {
         ensures ok { IfOk result (λ r. IsMoved self.old (if is_waiting self.old.cli.phase then move_again request.now ∷ [] else []) self.new r.0 r.1.items) }
         ensures err { OnErr result (self.new ≡ self.old) }
     {
-        if self.phase != Phase::Waiting {
+        if !self.is_waiting() {
             return Ok(nothing(alloc));
         }
         let outs = asking_again(alloc, &self.cluster, self.instance, &self.cert, request)?;

@@ -1,6 +1,6 @@
 use Rattle.std.proofs.Common.{◌≡◌, ◌+◌, ◌^◌, ◌<◌, ◌≤◌, All, length, arith, refl, sym, ap, subst}
 use Rattle.ab_hist.specs.declared.request.Request.{Request}
-use Rattle.ab_msg.specs.Grammar.{IsDraft}
+use Rattle.ab_msg.specs.Messages.{IsDraft}
 use Rattle.ab_client.specs.Clients.{Seat, request_msg}
 use Rattle.ab_client.specs.Drafts.{IsDraftOf}
 use Rattle.ab_num.specs.declared.party.Party.TheVariants.{Client}
@@ -17,7 +17,7 @@ returns-clause-drafts c few =
     let long : length c.in_ok-command_of.field-0.items ≡ length c.args.command.now = ap length said.0 in
     let draft : IsDraft (request_msg q.instance m) = (
       refl,
-      ((c.self.invariant.0, omega arith), ((omega arith, me), ((omega arith, omega (arith, stamp)), (omega (arith, long, said.1), omega (arith, long, said.2))))),
+      ((c.self.invariant.0.instance, omega arith), ((omega arith, me), ((omega arith, omega (arith, stamp)), (omega (arith, long, said.1), omega (arith, long, said.2))))),
     ) in
     subst (λ (s : Seat). All (IsDraftOf s.cluster.f (Client s.me)) c.in_ok-outs.outs) c.self.view_is
-    (requests_are_drafts q.cluster.f q.instance m draft q.cluster c.in_ok-outs.outs c.in_ok-outs.ensures)
+    (subst (All (IsDraftOf q.cluster.f (Client q.me))) (sym c.in_ok-outs.ensures) (requests_are_drafts q.cluster q.instance m draft))
