@@ -1,17 +1,16 @@
 -- What answers come to.
-use Rattle.std.proofs.Common.{◌≡◌, ℕ, zero, suc, ◌+◌, ◌*◌, ◌<◌, ◌≤◌, Bool, true, false, Option, Some, None, List, [], ◌∷◌, ◌++◌, length, map, arith, refl, sym, ap, ◌∙◌, subst, inl, inr}
-use Rattle.std.specs.Prelude.{◌==◌, ◌&&◌, ◌||◌, nat_lt, nat_eq, if◌then◌else◌, All, IsTrue, ◌≢◌, ◌⊎◌, Result, Ok, Err, IfOk, IsOk, IsOkAnd}
-use Rattle.std.proofs.lemmas.Bool.{cases_Bool, cases_order}
+use Rattle.std.proofs.Common.{◌≡◌, ℕ, zero, suc, ◌+◌, ◌*◌, ◌<◌, ◌≤◌, Bool, true, false, Option, Some, None, List, [], ◌∷◌, map, arith, refl, sym, ap, ◌∙◌, subst, inl, inr}
+use Rattle.std.specs.Prelude.{◌==◌, ◌&&◌, ◌||◌, nat_lt, if◌then◌else◌, IsTrue, ◌≢◌, ◌⊎◌, Result, Ok, Err, IfOk, IsOk, IsOkAnd}
+use Rattle.std.proofs.lemmas.Bool.{cases_order}
 use Rattle.std.proofs.lemmas.Bool.Decides.{nat_tests}
 use Rattle.std.proofs.lemmas.Slice.Eq.{bytes_eq-Decides}
 use Rattle.std.specs.Str.{bytes_eq}
 use Rattle.arrayvec.specs.ArrayVec.{ArrayVec}
 use Rattle.ab_num.specs.declared.memory.OutOfMemory.{OutOfMemory}
 use Rattle.ab_msg.specs.declared.message.Out.{Out}
-use Rattle.ab_num.specs.declared.cluster.Cluster.{Cluster}
 use Rattle.ab_num.specs.declared.plan.Kind.{Kind}
 use Rattle.ab_num.specs.declared.plan.Kind.TheVariants as kind
-use Rattle.ab_num.specs.declared.party.Party.TheVariants.{Replica, Client}
+use Rattle.ab_num.specs.declared.party.Party.TheVariants.{Replica}
 use Rattle.ab_num.specs.Places.{kind_of}
 use Rattle.ab_hist.specs.declared.request.Request.{Request}
 use Rattle.ab_msg.specs.declared.content.Content.{Content}
@@ -26,7 +25,7 @@ use Rattle.ab_abs.specs.Votes.{has_voted, voted, same_vote, all_voted, is_full_b
 use Rattle.ab_abs.specs.Kinds.{rule_of}
 use Rattle.ab_run.specs.declared.phase.Phase.{Phase}
 use Rattle.ab_run.specs.declared.phase.Phase.TheVariants.{Idle, Waiting, Panicking}
-use Rattle.ab_run.specs.Clients.{Cli, Move, move_vote, move_commit, vote_claim, if_open, counting, counts_responses, hears_response}
+use Rattle.ab_run.specs.Clients.{Move, move_vote, move_commit, vote_claim, if_open, counting, counts_responses, hears_response}
 use Rattle.ab_run.specs.Local.{cue_message, marks_in_moves}
 use Rattle.ab_client.specs.Clients.{Seat, alone, is_waiting, moves_on, marks}
 use Rattle.ab_client.specs.Moved.{IsLastVote, IsMoved, is_answer}
@@ -85,6 +84,7 @@ same_itself b = all_true (b.n == b.n) (bytes_eq b.d b.d) (bytes_eq b.reply.items
   where
     same : (n : ℕ) → (n == n) ≡ true
     same n = grind (arith, nat_tests)
+
     all_true : (x y z : Bool) → x ≡ true → y ≡ true → z ≡ true → (x && (y && z)) ≡ true
     all_true x y z e f g = λ i. e i && (f i && g i)
 
@@ -99,8 +99,10 @@ module _ (votes : List Ballot) (b : Ballot) (n : ℕ) (equal : (r : ℕ) → r <
     where
       is_same : (x y : ℕ) → x ≡ y → (x == y) ≡ true
       is_same x y e = grind (arith, nat_tests)
+
       own : (x y z : Bool) → x ≡ true → y ≡ true → ((x && y) || z) ≡ true
       own x y z e f = λ i. (e i && f i) || z
+
       other : (x y : Bool) → IsTrue y → (x || y) ≡ true
       other true y is = refl
       other false y is = is
@@ -133,6 +135,7 @@ module _ (s : Seat) (m : Request) (b : Ballot) (kinds : (kind_of s.cluster.plan 
     where
       is_lt : (x y : ℕ) → x < y → nat_lt x y ≡ true
       is_lt x y lt = grind (arith, nat_tests)
+
       chosen : (x y z : Bool) {t u : Move} → x ≡ true → y ≡ false → z ≡ true → (if x then (if y then [] else t ∷ (if z then u ∷ [] else [])) else []) ≡ t ∷ u ∷ []
       chosen x y z {t} {u} e f g = λ i. if e i then (if f i then [] else t ∷ (if g i then u ∷ [] else [])) else []
 
@@ -142,6 +145,7 @@ module _ (s : Seat) (m : Request) (b : Ballot) (kinds : (kind_of s.cluster.plan 
     where
       same : (n : ℕ) → (n == n) ≡ true
       same n = grind (arith, nat_tests)
+
       answered : (w x y z : Bool) {ts : List Move} → w ≡ true → x ≡ true → y ≡ true → z ≡ true → (if (true && w) && (x && (y && z)) then ts else []) ≡ ts
       answered w x y z {ts} e f g h = λ i. if (true && e i) && (f i && (g i && h i)) then ts else []
 
