@@ -9,6 +9,3 @@ mod texts;
 pub use laws::stated_contents_have_bytes;
 pub use message::stated;
 pub use texts::Texts;
-
-#[cfg(test)]
-mod tests;
