@@ -1,6 +1,5 @@
 -- What a draft states anew is of the grammar, and for whom its bytes are the same.
-use Rattle.std.proofs.Common.{◌≡◌, ℕ, zero, suc, ◌+◌, ◌*◌, ◌≤◌, leb, ltb, cond, Bool, true, false, IsTrue, List, [], ◌∷◌, length, All, Option, None, Some, refl, sym, ap, ◌∙◌, arith}
-use Rattle.std.specs.List.{Contains}
+use Rattle.std.proofs.Common.{◌≡◌, ℕ, ◌+◌, ◌*◌, leb, ltb, cond, Bool, true, false, IsTrue, List, [], ◌∷◌, length, All, Option, None, Some, refl, arith}
 use Rattle.std.proofs.lemmas.Bool.{false≢true}
 use Rattle.std.proofs.lemmas.List.Elements.{All-cons}
 use Rattle.arrayvec.specs.ArrayVec.{ArrayVec}
@@ -17,9 +16,9 @@ use Rattle.ab_msg.specs.declared.content.Content.{Content}
 use Rattle.ab_msg.specs.declared.content.Content.TheVariants.{Req, Order, Resp, ChainTag, Panic, Abort, PrePrepare, Prepare, Commit, ViewChange, NewView}
 use Rattle.ab_msg.specs.declared.message.Msg.{Msg}
 use Rattle.ab_msg.specs.declared.message.Msg.TheVariants as msg
-use Rattle.ab_msg.specs.Claims.{fresh, maker_of, passed_at}
-use Rattle.ab_msg.specs.Fields.{IsInstance, IsParty, IsReply, IsRequest}
-use Rattle.ab_msg.specs.Contents.{IsAbort, IsChainTag, IsChange, IsCommit, IsContent, IsNewView, IsOrder, IsPanic, IsPrePrepare, IsPrepare, IsReq, IsResp}
+use Rattle.ab_msg.specs.Claims.{fresh, passed_at}
+use Rattle.ab_msg.specs.Fields.{IsInstance, IsReply, IsRequest}
+use Rattle.ab_msg.specs.Contents.{IsAbort, IsChange, IsCommit, IsContent, IsNewView, IsOrder, IsPanic, IsPrePrepare, IsPrepare, IsReq, IsResp}
 use Rattle.ab_msg.specs.Messages.{IsDraft}
 use Rattle.ab_seal.specs.Sealing.{is_for_all, tagged}
 use Rattle.ab_seal.proofs.DraftLemmas.{party-fits}
@@ -115,8 +114,3 @@ same-tags ring a b (msg.Prepare prepare) e = refl
 same-tags ring a b (msg.Commit content tag) e = absurd (false≢true e)
 same-tags ring a b (msg.ViewChange change) e = refl
 same-tags ring a b (msg.NewView content tag changes) e = absurd (false≢true e)
-
--- who makes the one content that is stated makes all that is
-pub only-made : (c : Content) (p : Party) → maker_of c ≡ p → (s : Content) → Contains (c ∷ []) s → maker_of s ≡ p
-only-made c p by s (zero, lt, is) = ap maker_of (sym is) ∙ by
-only-made c p by s (suc k, lt, is) = absurd (omega (arith, lt))
