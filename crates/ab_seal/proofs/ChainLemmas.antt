@@ -1,5 +1,5 @@
 -- Tags along a chain.
-use Rattle.std.proofs.Common.{◌≡◌, ℕ, zero, suc, ◌+◌, ◌-◌, ◌*◌, ◌≤◌, ◌<◌, min, List, [], ◌∷◌, ◌++◌, map, length, Option, None, Some, refl, sym, ap, ◌∙◌, arith, append_assoc, length-append}
+use Rattle.std.proofs.Common.{◌≡◌, ℕ, ◌+◌, List, [], ◌∷◌, ◌++◌, length, refl, sym, ap, ◌∙◌, append_assoc, length-append}
 use Rattle.ab_form.specs.Formats.{spell_each, u8_bytes}
 use Rattle.ab_form.specs.Lists.{u8_list}
 use Rattle.ab_msg.specs.declared.chain_tags.TagBetween.{TagBetween}

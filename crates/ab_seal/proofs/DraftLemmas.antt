@@ -1,5 +1,5 @@
 -- A tagged draft is a message of the grammar.
-use Rattle.std.proofs.Common.{◌≡◌, ℕ, zero, suc, ◌+◌, ◌-◌, ◌*◌, ◌%◌, ◌<◌, ◌≤◌, min, Bool, true, false, ◌||◌, cond, eqb, ltb, IsTrue, List, [], ◌∷◌, ◌++◌, map, length, get_or, replicate, unwrap_or, Option, Some, None, refl, sym, ap, ◌∙◌, arith, add-one, length-append, All}
+use Rattle.std.proofs.Common.{◌≡◌, ℕ, zero, suc, ◌+◌, ◌-◌, ◌*◌, ◌<◌, ◌≤◌, Bool, true, false, ◌||◌, cond, eqb, ltb, IsTrue, List, [], ◌∷◌, ◌++◌, map, length, get_or, replicate, unwrap_or, Option, Some, None, refl, sym, ap, ◌∙◌, arith, add-one, length-append, All}
 use Rattle.std.specs.List.{filter, list_any, range_with_len}
 use Rattle.std.specs.Option.{option_map}
 use Rattle.std.proofs.lemmas.Bool.{false≢true, ltb-true}
@@ -20,17 +20,16 @@ use Rattle.ab_num.specs.Bounds.{IsInBounds}
 use Rattle.ab_num.specs.Places.{kind_of, replicas_of, at_position_of, position_in}
 use Rattle.ab_mac.specs.Tags.{hmac}
 use Rattle.ab_mac.proofs.Sha256Lemmas.{length-sha256}
-use Rattle.ab_form.specs.Formats.{EachFits, IsWithin}
+use Rattle.ab_form.specs.Formats.{EachFits}
 use Rattle.ab_keys.specs.Rings.{tag_to, key_to, Peer, Ring, peer_in}
-use Rattle.ab_msg.specs.declared.content.Content.{Content}
-use Rattle.ab_msg.specs.declared.content.Content.TheVariants.{Req, Resp, ChainTag}
+use Rattle.ab_msg.specs.declared.content.Content.TheVariants.{ChainTag}
 use Rattle.ab_msg.specs.declared.message.Msg.{Msg}
 use Rattle.ab_msg.specs.declared.message.Msg.TheVariants as msg
 use Rattle.ab_msg.specs.Claims.{instance_of}
 use Rattle.ab_msg.specs.declared.chain_tags.TagBetween.{TagBetween}
 use Rattle.ab_msg.specs.Fields.{IsBetween, IsParty, IsTag, above, AreTags}
 use Rattle.ab_msg.specs.Contents.{spell_content}
-use Rattle.ab_msg.specs.Messages.{IsDraft, IsMessage, spell_message}
+use Rattle.ab_msg.specs.Messages.{IsDraft, IsMessage}
 use Rattle.ab_seal.specs.Receivers.{is_in_front, is_receiver}
 use Rattle.ab_seal.specs.Sealing.{answer_tags, forward_tags, own_tags, reach_of, sealed, tag_for, tag_made, tags_at, tags_made, tagged}
 

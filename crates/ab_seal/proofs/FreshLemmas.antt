@@ -16,9 +16,9 @@ use Rattle.ab_msg.specs.declared.content.Content.{Content}
 use Rattle.ab_msg.specs.declared.content.Content.TheVariants.{Req, Order, Resp, ChainTag, Panic, Abort, PrePrepare, Prepare, Commit, ViewChange, NewView}
 use Rattle.ab_msg.specs.declared.message.Msg.{Msg}
 use Rattle.ab_msg.specs.declared.message.Msg.TheVariants as msg
-use Rattle.ab_msg.specs.Claims.{fresh, maker_of, passed_at}
-use Rattle.ab_msg.specs.Fields.{IsInstance, IsParty, IsReply, IsRequest}
-use Rattle.ab_msg.specs.Contents.{IsAbort, IsChainTag, IsChange, IsCommit, IsContent, IsNewView, IsOrder, IsPanic, IsPrePrepare, IsPrepare, IsReq, IsResp}
+use Rattle.ab_msg.specs.Claims.{fresh, passed_at}
+use Rattle.ab_msg.specs.Fields.{IsInstance, IsReply, IsRequest}
+use Rattle.ab_msg.specs.Contents.{IsAbort, IsChange, IsCommit, IsContent, IsNewView, IsOrder, IsPanic, IsPrePrepare, IsPrepare, IsReq, IsResp}
 use Rattle.ab_msg.specs.Messages.{IsDraft}
 use Rattle.ab_seal.specs.Sealing.{is_for_all, tagged}
 use Rattle.ab_seal.proofs.DraftLemmas.{party-fits}

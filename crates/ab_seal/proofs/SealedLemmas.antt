@@ -1,7 +1,6 @@
 -- What is sealed passes the checks of its receiver.
-use Rattle.std.proofs.Common.{◌≡◌, ℕ, zero, suc, ◌+◌, ◌-◌, ◌*◌, ◌≤◌, ◌<◌, min, leb, eqb, ltb, cond, not, Bool, true, false, ◌&&◌, IsTrue, List, [], ◌∷◌, ◌++◌, map, length, get_or, replicate, unwrap_or, All, Option, None, Some, refl, sym, ap, ◌∙◌, arith}
-use Rattle.std.specs.List.{Contains, filter, range_with_len}
-use Rattle.std.specs.Str.{bytes_eq}
+use Rattle.std.proofs.Common.{◌≡◌, ℕ, zero, suc, ◌+◌, ◌-◌, ◌*◌, ◌≤◌, ◌<◌, leb, eqb, ltb, cond, not, Bool, true, false, IsTrue, List, [], ◌∷◌, ◌++◌, map, length, get_or, replicate, unwrap_or, All, Option, None, Some, refl, sym, ap, ◌∙◌, arith}
+use Rattle.std.specs.List.{Contains, range_with_len}
 use Rattle.std.proofs.lemmas.Bool.{false≢true, lt-ltb, ltb-true, not_from_false}
 use Rattle.std.proofs.lemmas.Bool.Decides.{Decides-eqb}
 use Rattle.std.proofs.lemmas.List.Elements.{All-append, All-cons, All-map}
@@ -20,17 +19,17 @@ use Rattle.ab_keys.specs.Tags.{is_tag, is_tag_from}
 use Rattle.ab_keys.proofs.RingLemmas.{tag_is_there, tags_agree}
 use Rattle.ab_msg.specs.declared.chain_tags.TagBetween.{TagBetween}
 use Rattle.ab_msg.specs.declared.content.Content.{Content}
-use Rattle.ab_msg.specs.declared.content.Content.TheVariants.{Req, Order, Resp, ChainTag, Panic, Abort, PrePrepare, Prepare, Commit, ViewChange, NewView}
+use Rattle.ab_msg.specs.declared.content.Content.TheVariants.{Resp, ChainTag}
 use Rattle.ab_msg.specs.declared.message.Msg.{Msg}
 use Rattle.ab_msg.specs.declared.message.Msg.TheVariants as msg
 use Rattle.ab_msg.specs.Carried.{goes_to}
-use Rattle.ab_msg.specs.Claims.{asked, chain_claims, claims_at, each_before, instance_of, maker_of, ordered, fresh, tag_of_position}
+use Rattle.ab_msg.specs.Claims.{asked, chain_claims, each_before, instance_of, maker_of, ordered, tag_of_position}
 use Rattle.ab_msg.specs.Contents.{spell_content}
 use Rattle.ab_wire.specs.Inside.{tag_in}
 use Rattle.ab_check.specs.Checks.{Check, Judge, all_checks, by_tag, checks_of, is_right, offer_checks, tag_between, tagged as checked_tag}
 use Rattle.ab_seal.specs.Receivers.{receivers}
 use Rattle.ab_seal.specs.Carried.{IsFor, carried_checks, of_others}
-use Rattle.ab_seal.specs.Sealing.{IsOwn, answer_tags, content_tag, forward_tags, own_tags, reach_of, tag_for, tag_made, tagged, tags_at}
+use Rattle.ab_seal.specs.Sealing.{IsOwn, answer_tags, content_tag, forward_tags, own_tags, reach_of, tag_for, tag_made, tagged}
 use Rattle.ab_seal.proofs.PassedLemmas.{each-before, for-client, found-first, found-later, in-forward, kept, mapped, missing, not-forward, there}
 use Rattle.ab_seal.proofs.PlaceLemmas.{at-place, only-place}
 

@@ -1,5 +1,5 @@
 -- What a receiver checks of a message that its sender did not state anew, and when the sender's own tags reach it.
-use Rattle.std.specs.Prelude.{◌≡◌, ℕ, List, [], ◌∷◌, map, not, Option, None, Some}
+use Rattle.std.specs.Prelude.{◌≡◌, ℕ, List, [], ◌∷◌, map, not, None, Some}
 use Rattle.std.specs.List.{Contains, filter}
 use Rattle.ab_num.specs.declared.party.Party.{Party}
 use Rattle.ab_num.specs.declared.party.Party.TheVariants.{Replica, Client}

@@ -11,6 +11,3 @@ pub use sealed::{
     drafts_are_sealed_as_messages, is_for_all, one_seal_for_all, sealed_messages_are_right,
 };
 pub use sealing::seal;
-
-#[cfg(test)]
-mod tests;

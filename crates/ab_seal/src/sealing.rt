@@ -59,11 +59,7 @@ fn seal_tagged(
 }
 
 /// A request with tags for its receivers.
-pub(crate) fn seal_request(
-    alloc: Global,
-    k: &KeyRing,
-    content: &Content,
-) -> Result<Vec<u8>, OutOfMemory>
+fn seal_request(alloc: Global, k: &KeyRing, content: &Content) -> Result<Vec<u8>, OutOfMemory>
     requires { IsReq content.now }
     ensures { IfOk result (λ v. v.items ≡ u8_bytes 1 ++ (spell_content content.now ++ spell_tags (made_tags k.now (instance_of content.now) (spell_content content.now)))) }
 {
@@ -129,7 +125,7 @@ fn seal_new_view(
 }
 
 /// A request on its way along a chain, with the tags that came and those of the ring's party.
-pub(crate) fn seal_chain(
+fn seal_chain(
     alloc: Global,
     k: &KeyRing,
     l: &Link<'_>,

@@ -1,5 +1,5 @@
-use Rattle.std.proofs.Common.{◌≡◌, ◌+◌, ◌++◌, List, length, ap, sym, ◌∙◌, arith}
-use Rattle.ab_form.specs.Formats.{u8_bytes, u16_bytes, u32_bytes}
+use Rattle.std.proofs.Common.{◌≡◌, ◌+◌, ◌++◌, List, length, ap, sym, ◌∙◌}
+use Rattle.ab_form.specs.Formats.{u16_bytes, u32_bytes}
 use Rattle.ab_form.specs.Lists.{spell_optional}
 use Rattle.ab_msg.specs.declared.chain_tags.TagBetween.{TagBetween}
 use Rattle.ab_msg.specs.declared.message.Msg.TheVariants as msg
