@@ -3,4 +3,3 @@ pub mod TurnLemmas
 pub mod PurposeLemmas
 pub mod CrossingLemmas
 pub mod CertLemmas
-pub mod PenLemmas

@@ -65,9 +65,6 @@ module _ {P : Type 0} (proto : Proto P) (pen : Pen) (s : Site P) where
         spends = sym e;
       }
 
-  pub does_nothing : s.rep.used ≤ s.signatures → Does proto pen s [] s [] [] false
-  does_nothing fits = does_all [] s [] [] (omega arith) same_site refl refl
-
   -- the same, of equal effects
   pub same_effects : (ts : List Turn) (now : Site P) (outs : List Out) (marks : List Seen) (spent : Bool) → now ≡ s → outs ≡ [] → marks ≡ [] → Does proto pen s ts s [] [] spent → Does proto pen s ts now outs marks spent
   same_effects ts now outs marks spent stays silent unseen does =

@@ -18,7 +18,7 @@ returns-in-Some-clause-hears g c k of =
     let s : Site g.row.P.Denot = c.args.self.now in
     let m = message c.args.m in
     let led : crossing_in s.cluster s.rep.at (brought m) ≡ Some c.in-Some.next =
-    sym (ap (λ (t : Site g.row.P.Denot). crossing_in t.cluster t.rep.at (brought m)) c.self.view_is) ∙ sym c.in_ok-next.ensures ∙ c.in-Some.is in
+    sym (ap (λ (t : Site g.row.P.Denot). crossing_in t.cluster t.rep.at (brought m)) c.self.view_is) ∙ (sym c.in_ok-next.ensures ∙ c.in-Some.is) in
     let d = subst (λ (o : Option Crossing). IsDue (setup_of s pen) proto s.me s.rep m o (due (setup_of s pen) proto s.me s.rep (took m))) led (due_is (setup_of s pen) proto s.me s.rep m) in
     hears_if proto pen s k of (took m) (entering (setup_of s pen) proto s.me s.rep m d.0 d.1 d.2) c.enter.new.self c.enter.result d.4 (c.enter.ensures.does d.0 d.1 d.2 d.3)
 
