@@ -49,6 +49,14 @@ impl<'a> Checked<'a> {
         &self.msg
     }
 
+    /// The message, to hand on.
+    pub fn into_msg(self) -> MsgRef<'a>
+        ensures message { message result ≡ self.entry.msg }
+        ensures received { IsReceived result }
+    {
+        self.msg
+    }
+
     /// The party that opened it.
     pub fn me(&self) -> Party
         ensures { result ≡ self.now.me }

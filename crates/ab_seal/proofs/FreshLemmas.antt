@@ -1,5 +1,5 @@
 -- What a draft states anew is of the grammar, and for whom its bytes are the same.
-use Rattle.std.proofs.Common.{◌≡◌, ℕ, ◌+◌, ◌*◌, ◌≤◌, leb, ltb, cond, Bool, true, false, IsTrue, List, [], ◌∷◌, length, All, Option, None, Some, refl, arith}
+use Rattle.std.proofs.Common.{◌≡◌, ℕ, ◌+◌, ◌*◌, leb, ltb, cond, Bool, true, false, IsTrue, List, [], ◌∷◌, length, All, Option, None, Some, refl, arith}
 use Rattle.std.proofs.lemmas.Bool.{false≢true}
 use Rattle.std.proofs.lemmas.List.Elements.{All-cons}
 use Rattle.arrayvec.specs.ArrayVec.{ArrayVec}
@@ -114,8 +114,3 @@ same-tags ring a b (msg.Prepare prepare) e = refl
 same-tags ring a b (msg.Commit content tag) e = absurd (false≢true e)
 same-tags ring a b (msg.ViewChange change) e = refl
 same-tags ring a b (msg.NewView content tag changes) e = absurd (false≢true e)
-
--- who makes the one content that is stated makes all that is
-pub only-made : (c : Content) (p : Party) → maker_of c ≡ p → (s : Content) → Contains (c ∷ []) s → maker_of s ≡ p
-only-made c p by s (zero, has) = ap maker_of (sym has.1) ∙ by
-only-made c p by s (suc k, has) = absurd (omega (arith, has.0))

@@ -86,7 +86,7 @@ refused_lines false e p cause lines = filter-append is_observed lines (Refused e
 looked_none : (x : Watch) (n : ℕ) (p : Party) → looked x n p [] ≡ x
 looked_none x n p = ap (λ c. record { kept = x.kept; collided = c }) (not_found x.collided n p)
 
-either_none : {A : Type 0} (b : Bool) → (if b then [] else []) ≡ ([] : List A)
+either_none : {A : Type 0} (b : Bool) → ◌≡◌ {A = List A} (if b then [] else []) []
 either_none true = refl
 either_none false = refl
 

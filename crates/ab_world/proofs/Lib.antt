@@ -4,6 +4,7 @@ pub mod StatingLemmas
 pub mod SeatLemmas
 pub mod PlaceLemmas
 pub mod StepLemmas
+pub mod LookLemmas
 pub mod AddLemmas
 pub mod RunLemmas
 pub mod FollowLemmas

@@ -24,7 +24,7 @@ use Rattle.ab_world.specs.declared.handing.Handed.{Handed}
 use Rattle.ab_world.specs.declared.handing.Handed.TheVariants.{Missed, Heard}
 use Rattle.ab_world.specs.Worlds.{World}
 use Rattle.ab_world.specs.Steps.{Happening, ask, hand, ring, addressed, handed, delivered, asked, asked_at, refuse_command, messages, standing, settled, missed, moved_at, after_taking, after, stepped_by, happening, CauseIn, SettleCause, HasEnded, Leaves}
-use Rattle.ab_carried.specs.declared.carried.Carried.{Carried}
+use Rattle.ab_carried.specs.declared.collected.Carried.{Carried}
 use Rattle.ab_world.specs.Handing.{IsHanded, finished}
 use Rattle.ab_world.proofs.PlaceLemmas.{test_there}
 

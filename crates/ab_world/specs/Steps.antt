@@ -148,7 +148,7 @@ own_items proto x (Replica r) before = replica_items proto before (slice_get x.r
 own_items proto x (Client c) before = []
 
 abbrev pub items_now : {P : Type 0} → Proto P → Cast P → Party → ℕ × ℕ → List (List Request) → List Request → List Item
-items_now proto x p before told asked = checked_items told asked ++ own_items proto x p before
+items_now proto x p before histories requests = checked_items histories requests ++ own_items proto x p before
 
 -- the histories and requests that party p checks in what comes
 abbrev pub taken_histories : ℕ → Party → Taken → List (List Request)
@@ -164,7 +164,7 @@ taken_requests f p time = []
 -- the world where in its present event a core of party p, whose own core stood there before, has taken such a claim and these histories
 -- and requests, sends this, shows this, and was spent or not
 abbrev pub settled : {P : Type 0} → Proto P → World P → Party → ℕ × ℕ → Option Party → List (List Request) → List Request → List Out → List Seen → Bool → World P
-settled proto w p before found told asked outs marks spent =
+settled proto w p before found histories requests outs marks spent =
     let x = w.cast.setup in
     let e = w.cast.events in
     record w {
@@ -173,7 +173,7 @@ settled proto w p before found told asked outs marks spent =
       seen = noted (run_setup x) p e w.seen marks;
       lines = written x p w.lines (spent_lines e p spent ++ map (line_of e) marks);
       forged = forged_now x p e w.forged found;
-      watch = if is_bad x p then w.watch else looked w.watch e p (items_now proto w.cast p before told asked);
+      watch = if is_bad x p then w.watch else looked w.watch e p (items_now proto w.cast p before histories requests);
     }
 
 -- the world where in its present event bytes came to party p that did not open

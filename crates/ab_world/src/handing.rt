@@ -51,6 +51,6 @@ pub(crate) fn hand<S: Service, P: Protocol<S>>(
     let found = forged_in(cast.setup(), made, &checked);
     let carried = carried(alloc, cast.setup().cluster(), &checked)?;
     places_have_cores(cast);
-    let effects = cast.hear(alloc, place, *checked.msg())?;
+    let effects = cast.hear(alloc, place, checked.into_msg())?;
     Ok(Handed::Heard(found, carried, effects))
 }

@@ -4,7 +4,7 @@ ghost use Rattle.std.specs.Prelude.{◌≡◌, IfOk, map, slice_get};
 ghost use Rattle.std.specs.Option.{option_map};
 ghost use Rattle.ab_links.specs.Digested.{any_found, history as history_item, keep_items, request as request_item};
 ghost use Rattle.ab_premise.specs.Collisions.{first_items};
-ghost use Rattle.ab_world.specs.Steps.{items_now, replica_items, standing};
+ghost use Rattle.ab_world.specs.Steps.{items_now, own_items, replica_items, standing};
 
 use ab_abs::Protocol;
 use ab_carried::Carried;
@@ -87,6 +87,22 @@ fn look_at<S: Service, P: Protocol<S>>(
     Ok(of_log || of_base || of_first)
 }
 
+/// Looks at where a party's own core is, if it is a replica's, which stood there before.
+fn look_at_own<S: Service, P: Protocol<S>>(
+    cast: &Cast<S, P>,
+    digests: &mut Digests,
+    party: Party,
+    before: (u32, usize),
+) -> Result<bool, OutOfMemory>
+    ensures found { IfOk result (λ found. found ≡ any_found digests.old (own_items P.proto cast.now party before)) }
+    ensures ok { IfOk result (λ found. digests.new ≡ keep_items digests.old (own_items P.proto cast.now party before)) }
+{
+    match party {
+        Party::Replica(r) => look_at(cast, digests, r, before),
+        Party::Client(_) => Ok(false),
+    }
+}
+
 /// Looks at the histories and requests that a party checked, and at where its own core then is, if it
 /// is a replica's, which stood there before. It is answered whether two different ones have one digest.
 pub(crate) fn look<S: Service, P: Protocol<S>>(
@@ -101,9 +117,6 @@ pub(crate) fn look<S: Service, P: Protocol<S>>(
 {
     let of_histories = look_at_histories(digests, carried.histories.as_slice())?;
     let of_requests = look_at_requests(digests, carried.requests.as_slice())?;
-    let of_core = match party {
-        Party::Replica(r) => look_at(cast, digests, r, before)?,
-        Party::Client(_) => false,
-    };
-    Ok(of_histories || of_requests || of_core)
+    let of_core = look_at_own(cast, digests, party, before)?;
+    Ok(of_histories | of_requests | of_core)
 }

@@ -16,7 +16,7 @@ returns-clause-handed g c =
     let place = c.requires.there in
     let found = c.places_have_cores.ensures.cores (party_at at) place.0 at place.1 in
     let m = c.in-Ok.checked.msg in
-    let same : message_of c.msg.result ≡ m = c.msg.ensures.message in
+    let same : message_of c.into_msg.result ≡ m = c.into_msg.ensures.message in
     let me = c.in-Ok.ensures.me ∙ c.party.ensures in
     record {
       msg = m;
@@ -35,3 +35,11 @@ returns-clause-drafts g c =
     let place = c.requires.there in
     let found = c.places_have_cores.ensures.cores (party_at at) place.0 at place.1 in
     (c.in_ok-effects.ensures.taken found.0 found.1).drafts
+
+pub returns-in-Err-clause-handed : goal.returns-in-Err-clause-handed
+returns-in-Err-clause-handed g c = record {
+  fault = c.in-Err.fault;
+  opens = (λ j. opening_at (sym c.setup.ensures j) (sym c.party.ensures j) c.args.bytes.now) ∙ c.in-Err.ensures.opening;
+  is = c.cause_of.ensures;
+  next = c.pass.ensures;
+}
