@@ -115,7 +115,7 @@ fn lines(rt: HostRuntime) -> Result<(), Fail> {
         ("run\ntimeout r1.0", TextFault::BadLine(8)),
         ("run\ntimeout r1.3", TextFault::NoEnd(9)),
         ("run\ntimeout r1.", TextFault::BadLine(8)),
-        ("run\ntimeout R0", TextFault::BadLine(8)),
+        ("run\ntimeout C0", TextFault::BadLine(8)),
         ("run\ntimeout r00", TextFault::BadLine(8)),
         ("run\ninvoke c0 a\x7f", TextFault::BadLine(8)),
         ("run\ninvoke c0 a\tb", TextFault::BadLine(8)),
