@@ -85,6 +85,7 @@ same_itself b = all_true (b.n == b.n) (bytes_eq b.d b.d) (bytes_eq b.reply.items
   where
     same : (n : ℕ) → (n == n) ≡ true
     same n = grind (arith, nat_tests)
+
     all_true : (x y z : Bool) → x ≡ true → y ≡ true → z ≡ true → (x && (y && z)) ≡ true
     all_true x y z e f g = λ i. e i && (f i && g i)
 
@@ -99,8 +100,10 @@ module _ (votes : List Ballot) (b : Ballot) (n : ℕ) (equal : (r : ℕ) → r <
     where
       is_same : (x y : ℕ) → x ≡ y → (x == y) ≡ true
       is_same x y e = grind (arith, nat_tests)
+
       own : (x y z : Bool) → x ≡ true → y ≡ true → ((x && y) || z) ≡ true
       own x y z e f = λ i. (e i && f i) || z
+
       other : (x y : Bool) → IsTrue y → (x || y) ≡ true
       other true y is = refl
       other false y is = is
@@ -133,6 +136,7 @@ module _ (s : Seat) (m : Request) (b : Ballot) (kinds : (kind_of s.cluster.plan 
     where
       is_lt : (x y : ℕ) → x < y → nat_lt x y ≡ true
       is_lt x y lt = grind (arith, nat_tests)
+
       chosen : (x y z : Bool) {t u : Move} → x ≡ true → y ≡ false → z ≡ true → (if x then (if y then [] else t ∷ (if z then u ∷ [] else [])) else []) ≡ t ∷ u ∷ []
       chosen x y z {t} {u} e f g = λ i. if e i then (if f i then [] else t ∷ (if g i then u ∷ [] else [])) else []
 
@@ -142,6 +146,7 @@ module _ (s : Seat) (m : Request) (b : Ballot) (kinds : (kind_of s.cluster.plan 
     where
       same : (n : ℕ) → (n == n) ≡ true
       same n = grind (arith, nat_tests)
+
       answered : (w x y z : Bool) {ts : List Move} → w ≡ true → x ≡ true → y ≡ true → z ≡ true → (if (true && w) && (x && (y && z)) then ts else []) ≡ ts
       answered w x y z {ts} e f g h = λ i. if (true && e i) && (f i && (g i && h i)) then ts else []
 

@@ -123,7 +123,7 @@ module _ (s : Seat) (placed : IsPlaced s.me s.cli) (m : Request) (last : s.cli.l
       → IsMoved s (move_again m ∷ []) s sent []
   moved_again at sent sends =
       let is : sent ≡ cert_out (alone s.cluster) s.cli.cert ++ request_out (alone s.cluster) s.cli.at s.me m =
-          sends ∙ ap (λ c. cert_out (alone s.cluster) s.cli.cert ++ request_out (alone s.cluster) s.cli.at c m) open_fits.0 in
+      sends ∙ ap (λ c. cert_out (alone s.cluster) s.cli.cert ++ request_out (alone s.cluster) s.cli.at c m) open_fits.0 in
       record {
         client = refl;
         stamp = refl;

@@ -80,8 +80,8 @@ impl Model for Client {
     } };
 
     ghost invariant = { λ c.
-      IsPlaced c.me (record { at = c.instance; cert = c.cert; phase = c.phase; stamp = c.stamp; last = c.last; votes = c.votes.ballots; kept = c.kept.items })
-      × (c.votes.rule ≡ rule_of (kind_of c.cluster.plan c.instance) c.cluster.f) × (c.votes.replicas ≡ 3 * c.cluster.f + 1) };
+        IsPlaced c.me (record { at = c.instance; cert = c.cert; phase = c.phase; stamp = c.stamp; last = c.last; votes = c.votes.ballots; kept = c.kept.items })
+        × (c.votes.rule ≡ rule_of (kind_of c.cluster.plan c.instance) c.cluster.f) × (c.votes.replicas ≡ 3 * c.cluster.f + 1) };
 }
 
 /// A command of 1 to 128 bytes.

@@ -40,12 +40,7 @@ fn panic_msg(instance: u32, me: u16) -> Msg
 }
 
 /// Sends a message to the first replicas.
-fn send_to_all(
-    alloc: Global,
-    outs: &mut Outs,
-    replicas: u8,
-    msg: &Msg,
-) -> Result<(), OutOfMemory>
+fn send_to_all(alloc: Global, outs: &mut Outs, replicas: u8, msg: &Msg) -> Result<(), OutOfMemory>
     ensures { OnOk result (outs.new ≡ outs.old ++ to_all replicas msg.now) }
 {
     for r in 0..replicas {

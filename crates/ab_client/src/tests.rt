@@ -61,7 +61,11 @@ fn commits(alloc: Global, client: &mut Client, by: u8, n: u8) -> bool {
 }
 
 /// How much comes of the ABORT of a replica.
-fn aborts(alloc: Global, client: &mut Client, by: u8) -> Result<Option<(usize, usize)>, OutOfMemory> {
+fn aborts(
+    alloc: Global,
+    client: &mut Client,
+    by: u8,
+) -> Result<Option<(usize, usize)>, OutOfMemory> {
     let mut bytes = Vec::new(alloc);
     bytes.push(6)?;
     put_abort(&mut bytes, by)?;

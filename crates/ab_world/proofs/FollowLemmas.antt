@@ -308,7 +308,6 @@ module _ {P : Type 0} (proto : Proto P) (x : Setup) where
         ∙ hears_client c (opening_at x (Client c) bytes) (subst (λ (y : Setup). c < y.cluster.clients) setup is)
     watch_at (place.ReplicaTwin r i) (hand bytes) is takes = hears_replica_twin r i (opening_at w.cast.setup (Replica r) bytes) is.0 ∙ watch
     watch_at (place.ClientTwin c i) (hand bytes) is takes = hears_client_twin c i (opening_at w.cast.setup (Client c) bytes) is.0 ∙ watch
-
     watch_at (place.Replica r) ring is takes = rung_replica r (subst (λ (y : Setup). r < 3 * y.cluster.f + 1) setup is)
     watch_at (place.Client c) ring is takes =
         let found = get_there w.cast.clients c (subst (λ n. c < n) (sym stands.clients) is) in

@@ -143,7 +143,6 @@ module _ {P : Type 0} (proto : Proto P) where
       stands = stands_client w.cast (place.Client c) _ is;
       shows = ap (λ (z : List Cli). record (stage_cue k proto spell_content was c (cue_of (message m)) (Some seat.cli)) { clients = z }) (clis_of-set w.cast.clients c _);
     }
-
     client_at c time seat is there = record {
       setup = refl;
       events = refl;

@@ -73,9 +73,11 @@ fn look_at<S: Service, P: Protocol<S>>(
     ensures found { IfOk result (λ found. found ≡ any_found digests.old (replica_items P.proto before (slice_get cast.now.replicas r))) }
     ensures ok { IfOk result (λ found. digests.new ≡ keep_items digests.old (replica_items P.proto before (slice_get cast.now.replicas r))) }
 {
-    let (Some(instance), Some(log), Some(base)) =
-        (cast.instance_of(r), cast.log_of(r), cast.base_of(r))
-    else {
+    let (Some(instance), Some(log), Some(base)) = (
+        cast.instance_of(r),
+        cast.log_of(r),
+        cast.base_of(r),
+    ) else {
         return Ok(false);
     };
     let stays = before.0 == instance;

@@ -60,10 +60,7 @@ fn write_logs<S: Service>(
 }
 
 /// The report of a run that the world is at the end of.
-pub(crate) fn report<S: Service>(
-    alloc: Global,
-    world: &AnyWorld<S>,
-) -> Result<Vec<u8>, OutOfMemory>
+pub(crate) fn report<S: Service>(alloc: Global, world: &AnyWorld<S>) -> Result<Vec<u8>, OutOfMemory>
     requires { length world.now.cast.replicas ≡ 3 * world.now.cast.setup.cluster.f + 1 }
     ensures { IfOk result (λ v. v.items ≡ report_of (any S.machine) world.now) }
 {

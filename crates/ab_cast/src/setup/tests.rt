@@ -22,12 +22,7 @@ fn setup(rt: &HostRuntime, first: (Party, u8), second: (Party, u8)) -> Result<Se
     if !is_party(&cluster, first.0) || !is_party(&cluster, second.0) {
         return Err(Fail::from("both are parties"));
     }
-    Ok(Setup::new(
-        rt.alloc(),
-        &cluster,
-        &[first, second],
-        Height::Five,
-    )?)
+    Ok(Setup::new(rt.alloc(), &cluster, &[first, second], Height::Five)?)
 }
 
 #[test]

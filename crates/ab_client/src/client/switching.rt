@@ -216,11 +216,7 @@ impl Client {
     }
 
     /// Asks for its request once more, if it waits.
-    fn ask_again(
-        &mut self,
-        alloc: Global,
-        request: &Request,
-    ) -> Result<(Outs, Marks), OutOfMemory>
+    fn ask_again(&mut self, alloc: Global, request: &Request) -> Result<(Outs, Marks), OutOfMemory>
         requires request { self.old.cli.last ≡ Some request.now }
         ensures ok { IfOk result (λ r. IsMoved self.old (if is_waiting self.old.cli.phase then move_again request.now ∷ [] else []) self.new r.0 r.1.items) }
         ensures err { OnErr result (self.new ≡ self.old) }

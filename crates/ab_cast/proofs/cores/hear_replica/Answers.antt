@@ -22,7 +22,7 @@ on-requires-clause-pen g c =
     let at : slice_get items c.args.at ≡ Some old = read_there items c.args.at old (omega (arith, c.requires.there, c.args.cores.now.ok.0)) c.index_mut-core.ensures.value in
     let is = c.requires.own old at in
     let pen : c.new-pen.result ≡ record { keys = keys_of x; replica = c.args.r; used = old.rep.used } =
-        c.new-pen.ensures ∙ (λ j. record { keys = c.signers.ensures j; replica = c.args.r; used = c.used.ensures j }) in
+    c.new-pen.ensures ∙ (λ j. record { keys = c.signers.ensures j; replica = c.args.r; used = c.used.ensures j }) in
     subst (λ (p : Signing). IsPenOf (pen_of p.keys p.replica p.used) (leaves_of p.keys p.replica - p.used) old) (sym pen) (pen_is proto serves x c.args.r c.requires.replica old is)
 
 pub timeout-requires : goal.timeout-requires
@@ -35,7 +35,7 @@ timeout-requires g c =
     let at : slice_get items c.args.at ≡ Some old = read_there items c.args.at old (omega (arith, c.requires.there, c.args.cores.now.ok.0)) c.index_mut-core.ensures.value in
     let is = c.requires.own old at in
     let pen : c.new-pen.result ≡ record { keys = keys_of x; replica = c.args.r; used = old.rep.used } =
-        c.new-pen.ensures ∙ (λ j. record { keys = c.signers.ensures j; replica = c.args.r; used = c.used.ensures j }) in
+    c.new-pen.ensures ∙ (λ j. record { keys = c.signers.ensures j; replica = c.args.r; used = c.used.ensures j }) in
     subst (λ (p : Signing). IsPenOf (pen_of p.keys p.replica p.used) (leaves_of p.keys p.replica - p.used) old) (sym pen) (pen_is proto serves x c.args.r c.requires.replica old is)
 
 pub returns-in-Message-clause-heard : goal.returns-in-Message-clause-heard
@@ -48,7 +48,7 @@ returns-in-Message-clause-heard g c = λ s there.
     let at : slice_get items c.args.at ≡ Some old = read_there items c.args.at old (omega (arith, c.requires.there, c.args.cores.now.ok.0)) c.index_mut-core.ensures.value in
     let is = c.requires.own old at in
     let pen : c.new-pen.result ≡ record { keys = keys_of x; replica = c.args.r; used = old.rep.used } =
-        c.new-pen.ensures ∙ (λ j. record { keys = c.signers.ensures j; replica = c.args.r; used = c.used.ensures j }) in
+    c.new-pen.ensures ∙ (λ j. record { keys = c.signers.ensures j; replica = c.args.r; used = c.used.ensures j }) in
     let same : s ≡ old = some_injective s old (sym there ∙ at) in
     let setup = subst (λ (p : Signing). IsSetupOf (run_setup x) old (pen_of p.keys p.replica p.used)) (sym pen) (setup_is proto serves x c.args.r c.requires.replica old is) in
     let got = heard_ok proto serves x c.args.r c.requires.replica old is c.args.at (took (message c.in-Message.m)) c.on.new.self items c.on.result _ _ _ (c.on.ensures.hears (run_setup x) setup) c.on.ensures.pen in
@@ -72,7 +72,7 @@ returns-in-Time-clause-heard g c = λ s there.
     let at : slice_get items c.args.at ≡ Some old = read_there items c.args.at old (omega (arith, c.requires.there, c.args.cores.now.ok.0)) c.index_mut-core.ensures.value in
     let is = c.requires.own old at in
     let pen : c.new-pen.result ≡ record { keys = keys_of x; replica = c.args.r; used = old.rep.used } =
-        c.new-pen.ensures ∙ (λ j. record { keys = c.signers.ensures j; replica = c.args.r; used = c.used.ensures j }) in
+    c.new-pen.ensures ∙ (λ j. record { keys = c.signers.ensures j; replica = c.args.r; used = c.used.ensures j }) in
     let same : s ≡ old = some_injective s old (sym there ∙ at) in
     let setup = subst (λ (p : Signing). IsSetupOf (run_setup x) old (pen_of p.keys p.replica p.used)) (sym pen) (setup_is proto serves x c.args.r c.requires.replica old is) in
     let got = heard_ok proto serves x c.args.r c.requires.replica old is c.args.at (timed) c.timeout.new.self items c.timeout.result _ _ _ (c.timeout.ensures.hears (run_setup x) setup) c.timeout.ensures.pen in

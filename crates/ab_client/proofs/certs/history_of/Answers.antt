@@ -10,7 +10,7 @@ returns-then-not-are_within c =
     let q = c.args.cluster.now in
     let cert = c.args.cert.now in
     let out : list_all (λ s. nat_lt s.maker (3 * q.f + 1)) cert ≡ false =
-        (λ i. list_all (λ s. nat_lt s.maker (sym c.replicas.ensures i)) (sym c.as_slice.ensures i)) ∙ sym c.are_within.ensures ∙ c.if-not-are_within.true in
+    (λ i. list_all (λ s. nat_lt s.maker (sym c.replicas.ensures i)) (sym c.as_slice.ensures i)) ∙ sym c.are_within.ensures ∙ c.if-not-are_within.true in
     sym (foreign_none q c.args.i cert c.requires.aborts out)
 
 pub returns-else-is_memory : goal.returns-else-is_memory
@@ -18,7 +18,7 @@ returns-else-is_memory c =
     let q = c.args.cluster.now in
     let cert = c.args.cert.now in
     let all : list_all (λ s. nat_lt s.maker (3 * q.f + 1)) cert ≡ true =
-        (λ i. list_all (λ s. nat_lt s.maker (sym c.replicas.ensures i)) (sym c.as_slice.ensures i)) ∙ sym c.are_within.ensures ∙ c.if-not-are_within.false in
+    (λ i. list_all (λ s. nat_lt s.maker (sym c.replicas.ensures i)) (sym c.as_slice.ensures i)) ∙ sym c.are_within.ensures ∙ c.if-not-are_within.false in
     let aborts : AreAborts (3 * q.f + 1) cert = aborts_within (3 * q.f + 1) cert c.requires.aborts all in
     let e = c.check.ensures in
     let P : Bool → Type 0 = λ b. IsTrue b in

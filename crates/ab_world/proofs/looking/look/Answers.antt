@@ -13,9 +13,9 @@ returns-clause-found g c =
     let finds_one : c.in_ok-of_histories.of_histories ≡ any_found kept one = c.in_ok-of_histories.ensures.found ∙ (λ j. any_found kept (map (λ h. history h 0) (c.as_slice.ensures.value j))) in
     let keeps_one : c.look_at_histories.new.digests ≡ keep_items kept one = c.in_ok-of_histories.ensures.ok ∙ (λ j. keep_items kept (map (λ h. history h 0) (c.as_slice.ensures.value j))) in
     let finds_two : c.in_ok-of_requests.of_requests ≡ any_found (keep_items kept one) two =
-        c.in_ok-of_requests.ensures.found ∙ (λ j. any_found (keeps_one j) (map request (c.as_slice-2.ensures.value j))) in
+    c.in_ok-of_requests.ensures.found ∙ (λ j. any_found (keeps_one j) (map request (c.as_slice-2.ensures.value j))) in
     let keeps_two : c.look_at_requests.new.digests ≡ keep_items (keep_items kept one) two =
-        c.in_ok-of_requests.ensures.ok ∙ (λ j. keep_items (keeps_one j) (map request (c.as_slice-2.ensures.value j))) in
+    c.in_ok-of_requests.ensures.ok ∙ (λ j. keep_items (keeps_one j) (map request (c.as_slice-2.ensures.value j))) in
     let finds_own : c.in_ok-of_core.of_core ≡ any_found (keep_items (keep_items kept one) two) own = c.in_ok-of_core.ensures.found ∙ (λ j. any_found (keeps_two j) own) in
     (λ j. (finds_one j || finds_two j) || finds_own j)
     ∙ ap (λ b. b || any_found (keep_items (keep_items kept one) two) own) (sym (finds_both kept one two))

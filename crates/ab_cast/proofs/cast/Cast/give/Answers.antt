@@ -98,7 +98,6 @@ returns-in_ok-effects-in-ClientTwin-clause-taken g c =
     (client_core x.client_twins (c.in-ClientTwin.at) (λ s. IsTaken proto x (place.ClientTwin c.in-ClientTwin.field-0 c.in-ClientTwin.at) s (taken_of c.args.given) new c.in_ok-effects-in-ClientTwin.effects.outs c.in_ok-effects-in-ClientTwin.effects.marks.items c.in_ok-effects-in-ClientTwin.effects.spent)
     (λ s here. spends_nothing proto x (place.ClientTwin c.in-ClientTwin.field-0 c.in-ClientTwin.at) (client s) (taken_of c.args.given) new c.in_ok-effects-in-ClientTwin.effects.outs c.in_ok-effects-in-ClientTwin.effects.marks.items c.in_ok-effects-in-ClientTwin.effects.spent e.spent (client_twin_taken proto serves x c.self.invariant few c.in-ClientTwin.field-0 c.in-ClientTwin.at (taken_of c.args.given) c.hear_client-in-ClientTwin.new.cores.items c.in_ok-effects-in-ClientTwin.effects.outs c.in_ok-effects-in-ClientTwin.effects.marks.items there does s here)))
 
-
 pub hear_replica-requires-clause-own : goal.hear_replica-requires-clause-own
 hear_replica-requires-clause-own g c = λ s at. c.self.invariant.own_replicas c.in-Replica.r s at
 

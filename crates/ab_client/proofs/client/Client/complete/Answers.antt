@@ -15,10 +15,9 @@ history_of-requires-clause-aborts c =
 pub returns-in-Some-clause-cert : goal.returns-in-Some-clause-cert
 returns-in-Some-clause-cert c =
     let all : All (IsSigned IsAbort) c.in_ok-cert.cert =
-        subst (All (IsSigned IsAbort)) (sym c.in_ok-cert.ensures)
-        (All-own_cert (IsSigned IsAbort) c.args.v.now c.requires c.kind-kind.result c.deref.result.now (subst (All (IsSigned IsAbort)) (sym c.deref.ensures.value) c.self.invariant.0.kept)) in
-    (
+    subst (All (IsSigned IsAbort)) (sym c.in_ok-cert.ensures)
+    (All-own_cert (IsSigned IsAbort) c.args.v.now c.requires c.kind-kind.result c.deref.result.now (subst (All (IsSigned IsAbort)) (sym c.deref.ensures.value) c.self.invariant.0.kept)) in (
       c.in_ok-cert.ensures ∙ (λ i. own_cert (c.kind-kind.ensures i) c.args.v.now (c.deref.ensures.value i))
-      ∙ ap (λ (s : Seat). own_cert (kind_of s.cluster.plan s.cli.at) c.args.v.now s.cli.kept) c.self.view_is,
+          ∙ ap (λ (s : Seat). own_cert (kind_of s.cluster.plan s.cli.at) c.args.v.now s.cli.kept) c.self.view_is,
       history_aborts c.self.inside.cluster c.self.inside.instance c.in_ok-cert.cert c.in-Some.h all (sym c.in_ok-h.ensures ∙ c.in-Some.is),
     )

@@ -6,8 +6,7 @@ use Rattle.ab_client.proofs.client.Client.keep.Goals as goal
 
 pub invariant_of-self-2 : goal.invariant_of-self-2
 invariant_of-self-2 c =
-    let q = c.self.invariant.0 in
-    (
+    let q = c.self.invariant.0 in (
       record {
         instance = q.instance;
         stamp = q.stamp;

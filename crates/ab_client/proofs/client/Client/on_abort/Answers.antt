@@ -17,8 +17,8 @@ returns-then-is_kept-clause-ok c =
     let s : Seat = c.args.self.now in
     let v : Signed = signed c.args.abort in
     let kept : list_any (λ w. w.maker == v.maker) s.cli.kept ≡ true =
-        sym (ap (λ (t : Seat). list_any (λ w. w.maker == v.maker) t.cli.kept) c.self.view_is)
-        ∙ ap (list_any (λ w. w.maker == v.maker)) (sym c.deref.ensures.value) ∙ sym c.is_kept.ensures ∙ c.if-is_kept.true in
+    sym (ap (λ (t : Seat). list_any (λ w. w.maker == v.maker) t.cli.kept) c.self.view_is)
+    ∙ ap (list_any (λ w. w.maker == v.maker)) (sym c.deref.ensures.value) ∙ sym c.is_kept.ensures ∙ c.if-is_kept.true in
     moved_nothing s (moves_on s (cue_message (msg.Abort v))) c.nothing-then-is_kept.result.0 c.nothing-then-is_kept.result.1.items
     c.nothing-then-is_kept.ensures.outs c.nothing-then-is_kept.ensures.marks (abort_again s v c.requires.received kept)
 
@@ -28,13 +28,13 @@ returns-clause-ok c =
     let v : Signed = signed c.args.abort in
     let m = c.in-Some.request in
     let kept : list_any (λ w. w.maker == v.maker) s.cli.kept ≡ false =
-        sym (ap (λ (t : Seat). list_any (λ w. w.maker == v.maker) t.cli.kept) c.self.view_is)
-        ∙ ap (list_any (λ w. w.maker == v.maker)) (sym c.deref.ensures.value) ∙ sym c.is_kept.ensures ∙ c.if-is_kept.false in
+    sym (ap (λ (t : Seat). list_any (λ w. w.maker == v.maker) t.cli.kept) c.self.view_is)
+    ∙ ap (list_any (λ w. w.maker == v.maker)) (sym c.deref.ensures.value) ∙ sym c.is_kept.ensures ∙ c.if-is_kept.false in
     let here = sym c.instance.ensures ∙ c.if-instance-self.false ∙ ap (λ (t : Seat). t.cli.at) c.self.view_is in
     let taken : List Move = move_keep v ∷ taking (alone s.cluster) s.cli m s.cli.at (own_cert (kind_of s.cluster.plan s.cli.at) v s.cli.kept) in
     let got : IfOk c.take_abort.result (λ x. IsMoved s (move_keep v ∷ taking (alone s.cluster) s.cli m s.cli.at (own_cert (kind_of s.cluster.plan s.cli.at) v s.cli.kept)) c.take_abort.new.self x.0 x.1.items) =
-        subst (λ (w : Signed). IfOk c.take_abort.result (λ x. IsMoved s (move_keep w ∷ taking (alone s.cluster) s.cli m s.cli.at (own_cert (kind_of s.cluster.plan s.cli.at) w s.cli.kept)) c.take_abort.new.self x.0 x.1.items))
-        c.in_ok-v.ensures c.take_abort.ensures.ok in
+    subst (λ (w : Signed). IfOk c.take_abort.result (λ x. IsMoved s (move_keep w ∷ taking (alone s.cluster) s.cli m s.cli.at (own_cert (kind_of s.cluster.plan s.cli.at) w s.cli.kept)) c.take_abort.new.self x.0 x.1.items))
+    c.in_ok-v.ensures c.take_abort.ensures.ok in
     moved_ok s taken (moves_on s (cue_message (msg.Abort v))) c.take_abort.new.self c.take_abort.result
     (λ sent shown is. moved_so s (moves_on s (cue_message (msg.Abort v))) taken c.take_abort.new.self sent shown
     (abort_first s v c.requires.received m (sym c.request.ensures ∙ c.in-Some.is) here kept) is)

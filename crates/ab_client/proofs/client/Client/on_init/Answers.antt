@@ -13,5 +13,5 @@ returns-in-None-clause-ok c =
     let s : Seat = c.args.self.now in
     let cert = aborts c.args.cert in
     let late : (cert_instance cert < s.cli.at) ⊎ (4294967295 ≤ cert_instance cert) =
-        subst (λ (t : Seat). (cert_instance cert < t.cli.at) ⊎ (4294967295 ≤ cert_instance cert)) c.self.view_is (c.in_ok-j.ensures.none (ap is_some c.in-None.is)) in
+    subst (λ (t : Seat). (cert_instance cert < t.cli.at) ⊎ (4294967295 ≤ cert_instance cert)) c.self.view_is (c.in_ok-j.ensures.none (ap is_some c.in-None.is)) in
     moved_nothing s (moves_on s (cue_message (msg.Init cert))) c.nothing-in-None.result.0 c.nothing-in-None.result.1.items c.nothing-in-None.ensures.outs c.nothing-in-None.ensures.marks (init_late s cert late)
