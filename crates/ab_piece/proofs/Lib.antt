@@ -1,0 +1,11 @@
+-- Lemmas of this crate.
+pub mod ArrivalLemmas
+pub mod BoundLemmas
+pub mod ChangeLemmas
+pub mod CountLemmas
+pub mod CutLemmas
+pub mod PieceLemmas
+pub mod ReadLemmas
+pub mod SlotLemmas
+pub mod SpellLemmas
+pub mod WholeLemmas

@@ -1,0 +1,5 @@
+use Rattle.ab_piece.proofs.ArrivalLemmas.{come_whole}
+use Rattle.ab_piece.proofs.laws.cut_messages_come_whole.Goals as goal
+
+pub returns : goal.returns
+returns c = λ before s n m arrivals closed are. come_whole before s n m arrivals closed are
