@@ -1,196 +1,28 @@
 -- The pieces of a message that come in any order make it whole.
-use Rattle.std.proofs.Common.{◌≡◌, ◌≢◌, inl, inr, ℕ, zero, suc, ◌+◌, ◌-◌, ◌<◌, ◌≤◌, ◌==◌, ◌&&◌, nat_eq, List, [], ◌∷◌, ◌++◌, length, take, drop, set, get_or, replicate, Option, None, Some, Result, Ok, Err, Bool, true, false, is_some, cond, refl, ap, sym, subst, ◌∙◌, eqb-true, arith, length-append, append_assoc}
-use Rattle.std.specs.Prelude.{Contains, nat_le, nat_lt}
-use Rattle.std.specs.List.{All, count_by, position, position_or_len, remove}
+use Rattle.std.proofs.Common.{◌≡◌, ◌≢◌, inl, inr, ℕ, zero, suc, ◌+◌, ◌-◌, ◌<◌, ◌≤◌, ◌==◌, ◌&&◌, nat_eq, List, [], ◌∷◌, ◌++◌, length, set, get_or, replicate, Option, None, Some, Bool, true, false, cond, refl, ap, sym, subst, ◌∙◌, arith, length-append}
+use Rattle.std.specs.Prelude.{Contains, IsPermutation, map, nat_le, nat_lt}
+use Rattle.std.specs.List.{count_by, position, position_or_len, remove}
 use Rattle.std.proofs.Math.Seq.{get_or-append_seam, set-append_seam}
-use Rattle.std.proofs.lemmas.Bool.{and_parts, cases_Bool, eq-eqb, leb-false, leb-true, lt-ltb, ltb-false, ltb-true}
+use Rattle.std.proofs.lemmas.Bool.{cases_Bool, eq-eqb, leb-false, lt-ltb, ltb-false}
 use Rattle.std.proofs.lemmas.List.{take_all}
-use Rattle.std.proofs.lemmas.List.Elements.{All-append, All-drop, All-nil, All-push, All-set, All-take}
+use Rattle.std.proofs.lemmas.List.Elements.{All-nil, All-push}
 use Rattle.std.proofs.lemmas.List.Quantifiers.{position-Some}
 use Rattle.std.proofs.lemmas.List.Sorted.{length_permutation, sum_by-IsPermutation}
-use Rattle.std.proofs.lemmas.List.Sums.{sum_by-cons, sum_by-le, sum_by-remove, sum_by-set, sum_by_push}
+use Rattle.std.proofs.lemmas.List.Sums.{sum_by-cons, sum_by-le, sum_by-set, sum_by_push}
 use Rattle.ab_num.specs.declared.party.Party.{Party}
 use Rattle.ab_num.specs.Parties.{party_eq}
-use Rattle.ab_form.specs.declared.bad.Bad.{Bad}
-use Rattle.ab_piece.specs.declared.taken.Cause.TheVariants as cause
-use Rattle.ab_piece.specs.Pieces.{IsCut, Piece, count_of, cut_at, each_from, part_at, piece_at, piece_of}
-use Rattle.ab_piece.specs.Joining.{Answer, Opened, Step, dropped, further_step, is_from, is_of, message_of, missing, more, open_after, opened, opening_step, piece_step, step, step_of, whole, with_body, with_room, without}
-use Rattle.ab_piece.specs.Arrivals.{AllElsewhere, AreArrivals, Arrival, IsClosed, IsElsewhere, answers, expected, indices, other, own}
+use Rattle.ab_piece.specs.Pieces.{IsCut, Piece, count_of, cut_at, each_from, part_at, piece_at}
+use Rattle.ab_piece.specs.Joining.{Answer, Opened, Step, is_from, is_of, message_of, missing, more, open_after, opened, step, step_of, whole, with_body, with_room, without}
+use Rattle.ab_piece.specs.Arrivals.{AllOfOthers, AreArrivals, Arrival, IsClosed, IsOfAnother, all_indices, answers, expected, indices, other, own}
 use Rattle.ab_piece.proofs.BoundLemmas.{party_eq-refl}
-use Rattle.ab_piece.proofs.CountLemmas.{contained, count-no, count-seam, count-yes, fails-front, place-front, place-seam, spread}
+use Rattle.ab_piece.proofs.CountLemmas.{contained, count-seam, count-yes, fails-front, place-front, place-seam, spread}
 use Rattle.ab_piece.proofs.CutLemmas.{cut_read}
 use Rattle.ab_piece.proofs.ChangeLemmas.{Change, Fills, alone, changes, completes, drops, extends, opens, party_same}
 use Rattle.ab_piece.proofs.SlotLemmas.{length-slots, missing-none, missing-slots, slot_empty, slots, whole-slots}
-
--- ---- each message is open once
-
-abbrev pub Unique : List Opened → Type 0
-Unique os = (s : Party) (n : ℕ) → count_by (is_of s n) os ≤ 1
-
-abbrev one_if : Bool → ℕ
-one_if b = cond b 1 0
-
-fewer : (test : Opened → Bool) (os : List Opened) (at : ℕ) (d : Opened) → at < length os → count_by test (remove os at) ≤ count_by test os
-fewer test os at d lt = let sum = sum_by-remove (λ (o : Opened). one_if (test o)) os at d lt in omega arith
-
-fewer_left : (sender : Party) (test : Opened → Bool) (os : List Opened) (d : Opened) → count_by test (with_room sender os) ≤ count_by test os
-fewer_left sender test os d = go (nat_lt (count_by (is_from sender) os) 8) (position (is_from sender) os) refl where
-  go : (b : Bool) (place : Option ℕ) → position (is_from sender) os ≡ place → count_by test (without (cond b None place) os) ≤ count_by test os
-  go true place e = omega arith
-  go false None e = omega arith
-  go false (Some at) e = let f = position-Some (is_from sender) os at d e in fewer test os at d f.0
-
--- a further message that isn't open
-unique_pushed : (os : List Opened) (y : Opened) → count_by (is_of y.sender y.number) os ≡ 0 → Unique os → Unique (os ++ y ∷ [])
-unique_pushed os y closed one s n =
-    let sum = sum_by_push (λ (o : Opened). one_if (is_of s n o)) os y in
-    let before = one s n in
-    elim (cases_Bool (is_of s n y)) [
-      | inl same ↦
-          (let parts = and_parts (party_eq y.sender s) (y.number == n) same in
-          let here : count_by (is_of s n) os ≡ 0 = ap (λ (t : Party). count_by (is_of t n) os) (sym (party_same y.sender s parts.0)) ∙ ap (λ (k : ℕ). count_by (is_of y.sender k) os) (sym (eqb-true y.number n parts.1)) ∙ closed in
-          let is : one_if (is_of s n y) ≡ 1 = ap one_if same in omega (arith, sum, here, is))
-      | inr differs ↦ (let is : one_if (is_of s n y) ≡ 0 = ap one_if differs in omega (arith, sum, before, is))
-    ]
-
-unique_after : (bytes : List ℕ) (os : List Opened) (st : Step) → Unique os → Change bytes os st → Unique st.after
-unique_after bytes os st one (drops c e) = subst (λ (t : Step). Unique t.after) (sym e) one
-unique_after bytes os st one (alone p is single e) = subst (λ (t : Step). Unique t.after) (sym e) one
-unique_after bytes os st one (opens p is closed e) =
-    subst (λ (t : Step). Unique t.after) (sym e)
-    (unique_pushed (with_room p.sender os) (opened p) (let less = fewer_left p.sender (is_of p.sender p.number) os (opened p) in omega (arith, less, closed))
-    (λ s n. let less = fewer_left p.sender (is_of s n) os (opened p) in omega (arith, less, one s n)))
-unique_after bytes os st one (extends p is at fills e) =
-    subst (λ (t : Step). Unique t.after) (sym e)
-    (λ s n. let sum = sum_by-set (λ (o : Opened). one_if (is_of s n o)) os at (with_body (get_or os at (opened p)) p.index p.body) (opened p) fills.within in omega (arith, sum, one s n))
-unique_after bytes os st one (completes p is at fills last e) =
-    subst (λ (t : Step). Unique t.after) (sym e)
-    (λ s n. let less = fewer (is_of s n) os at (opened p) fills.within in omega (arith, less, one s n))
-
-unique_step : (os : List Opened) (bytes : List ℕ) → Unique os → Unique (step_of os bytes).after
-unique_step os bytes one = unique_after bytes os (step_of os bytes) one (changes os bytes)
-
-unique_open : (ds : List (List ℕ)) → Unique (open_after ds)
-unique_open [] s n = omega arith
-unique_open (bytes ∷ ds) s n = unique_step (open_after ds) bytes (unique_open ds) s n
-
--- ---- a message among others
-
--- x stands in the list, and what stands behind it is known
-record Among (Q : Opened → Type 0) (x : Opened) (os : List Opened) : Type 0 where
-  front : List Opened
-  behind : List Opened
-  split : os ≡ front ++ x ∷ behind
-  known : All Q behind
-
-module _ (Q : Opened → Type 0) (test : Opened → Bool) (x : Opened) (is : test x ≡ true) where
-  further_front : (y : Opened) (os : List Opened) → Among Q x os → Among Q x (y ∷ os)
-  further_front y os a = record { front = y ∷ a.front; behind = a.behind; split = ap (λ rest. y ∷ rest) a.split; known = a.known }
-
-  -- another one is removed
-  among_removed : (front behind : List Opened) (at : ℕ) (d : Opened) → test (get_or (front ++ x ∷ behind) at d) ≡ false → All Q behind → Among Q x (remove (front ++ x ∷ behind) at)
-  among_removed [] behind zero d differs known = absurd (cc (is, differs))
-  among_removed [] behind (suc at) d differs known = record {
-    front = [];
-    behind = remove behind at;
-    split = refl;
-    known = All-append Q (take at behind) (drop (suc at) behind) (All-take Q at behind known) (All-drop Q (suc at) behind known);
-  }
-  among_removed (y ∷ front) behind zero d differs known = record { front = front; behind = behind; split = refl; known = known }
-  among_removed (y ∷ front) behind (suc at) d differs known = further_front y (remove (front ++ x ∷ behind) at) (among_removed front behind at d differs known)
-
-  -- another one is replaced by one that is known where it is
-  among_set : (front behind : List Opened) (at : ℕ) (d : Opened) (y : Opened) → test (get_or (front ++ x ∷ behind) at d) ≡ false → at < length (front ++ x ∷ behind)
-      → (Q (get_or (front ++ x ∷ behind) at d) → Q y) → All Q behind → Among Q x (set (front ++ x ∷ behind) at y)
-  among_set [] behind zero d y differs lt keep known = absurd (cc (is, differs))
-  among_set [] behind (suc at) d y differs lt keep known = record {
-    front = [];
-    behind = set behind at y;
-    split = refl;
-    known = All-set Q behind at y (keep (known at d (omega arith))) known;
-  }
-  among_set (z ∷ front) behind zero d y differs lt keep known = record { front = y ∷ front; behind = behind; split = refl; known = known }
-  among_set (z ∷ front) behind (suc at) d y differs lt keep known =
-      further_front z (set (front ++ x ∷ behind) at y) (among_set front behind at d y differs (omega arith) keep known)
-
-  among_pushed : (os : List Opened) (y : Opened) → Q y → Among Q x os → Among Q x (os ++ y ∷ [])
-  among_pushed os y known a = record {
-    front = a.front;
-    behind = a.behind ++ y ∷ [];
-    split = ap (λ rest. rest ++ y ∷ []) a.split ∙ append_assoc a.front (x ∷ a.behind) (y ∷ []);
-    known = All-push Q a.behind y a.known known;
-  }
-
--- ---- what a datagram does to one message
-
--- none is of it
-not_it : (s : Party) (n : ℕ) (o : Opened) → (o.sender ≡ s → o.number ≢ n) → is_of s n o ≡ false
-not_it s n o apart =
-    elim (cases_Bool (is_of s n o)) [
-      | inl same ↦
-          (let parts = and_parts (party_eq o.sender s) (o.number == n) same in
-          absurd (apart (party_same o.sender s parts.0) (eqb-true o.number n parts.1)))
-      | inr differs ↦ differs
-    ]
-
-not_from : (s : Party) (n : ℕ) (o : Opened) → is_from s o ≡ false → is_of s n o ≡ false
-not_from s n o differs = rw differs refl
-
-if_so : {A : Type 0} (b : Bool) (x y : A) → b ≡ true → cond b x y ≡ x
-if_so true x y e = refl
-if_so false x y e = cc
-
-if_not : {A : Type 0} (b : Bool) (x y : A) → b ≡ false → cond b x y ≡ y
-if_not false x y e = refl
-if_not true x y e = cc
-
-by_read : (os : List Opened) (bytes : List ℕ) (p : Piece) → piece_of bytes ≡ Ok p → step_of os bytes ≡ piece_step os p
-unfolding step_of
-by_read os bytes p is = ap (λ (r : Result Piece Bad). elim r [ Ok q ↦ piece_step os q | Err bad ↦ step (dropped cause.Header) os ]) is
-
-by_place : (os : List Opened) (p : Piece) (place : Option ℕ) → position (is_of p.sender p.number) os ≡ place
-    → piece_step os p ≡ elim place [ None ↦ opening_step os p | Some at ↦ further_step os at (get_or os at (opened p)) p ]
-by_place os p place e = ap (λ (o : Option ℕ). elim o [ None ↦ opening_step os p | Some at ↦ further_step os at (get_or os at (opened p)) p ]) e
-
--- a piece takes its place in an open message, of which others are missing
-extended : (os : List Opened) (at : ℕ) (p : Piece) (o : Opened) → position (is_of p.sender p.number) os ≡ Some at → get_or os at (opened p) ≡ o → length o.bodies ≡ p.count → get_or o.bodies p.index None ≡ None
-    → (missing o.bodies == 1) ≡ false → piece_step os p ≡ step more (set os at (with_body o p.index p.body))
-extended os at p o place is count empty later =
-    by_place os p (Some at) place ∙ ap (λ (q : Opened). further_step os at q p) is
-    ∙ if_so (length o.bodies == p.count) _ _ (eq-eqb (length o.bodies) p.count count)
-    ∙ if_not (is_some (get_or o.bodies p.index None)) _ _ (ap (λ (b : Option (List ℕ)). is_some b) empty)
-    ∙ if_not (missing o.bodies == 1) _ _ later
-
--- and one of which it is the last that is missing
-completed : (os : List Opened) (at : ℕ) (p : Piece) (o : Opened) → position (is_of p.sender p.number) os ≡ Some at → get_or os at (opened p) ≡ o → length o.bodies ≡ p.count → get_or o.bodies p.index None ≡ None
-    → (missing o.bodies == 1) ≡ true → piece_step os p ≡ step (whole (message_of (set o.bodies p.index (Some p.body)))) (remove os at)
-completed os at p o place is count empty last =
-    by_place os p (Some at) place ∙ ap (λ (q : Opened). further_step os at q p) is
-    ∙ if_so (length o.bodies == p.count) _ _ (eq-eqb (length o.bodies) p.count count)
-    ∙ if_not (is_some (get_or o.bodies p.index None)) _ _ (ap (λ (b : Option (List ℕ)). is_some b) empty)
-    ∙ if_so (missing o.bodies == 1) _ _ last
-
-position_none : (test : Opened → Bool) (os : List Opened) → count_by test os ≡ 0 → position test os ≡ None
-position_none test os none =
-    elim (cases_Bool (nat_lt (position_or_len test os) (length os))) [
-      | inl there ↦
-          (let lt = ltb-true (position_or_len test os) (length os) there in absurd (omega (arith, none, met test os lt)))
-      | inr nowhere_there ↦ rw nowhere_there refl
-    ] where
-      met : (t : Opened → Bool) (xs : List Opened) → position_or_len t xs < length xs → 1 ≤ count_by t xs
-      met t [] lt = absurd (omega arith)
-      met t (x ∷ xs) lt =
-          elim (cases_Bool (t x)) [
-            | inl holds ↦ (let one = count-yes t x xs holds in omega arith)
-            | inr fails ↦ (let one = count-no t x xs fails in let later : 1 + position_or_len t xs < suc (length xs) = rw fails at lt in let rest = met t xs (omega arith) in omega arith)
-          ]
-
-differ : (a b : ℕ) → a ≢ b → (a == b) ≡ false
-differ a b apart =
-    elim (cases_Bool (a == b)) [
-      | inl same ↦ absurd (apart (eqb-true a b same))
-      | inr differs ↦ differs
-    ]
+use Rattle.ab_piece.proofs.AmongLemmas.{Among, among_pushed, among_removed, among_set}
+use Rattle.ab_piece.proofs.NumberLemmas.{below_numbers, differ, length-numbers, once_numbers}
+use Rattle.ab_piece.proofs.StepLemmas.{by_place, by_read, completed, extended, if_not, if_so, not_from, not_it, position_none}
+use Rattle.ab_piece.proofs.UniqueLemmas.{Unique, fewer, fewer_left, one_if, unique_open, unique_pushed, unique_step}
 
 -- ---- one message, whose pieces come among other datagrams
 
@@ -305,45 +137,45 @@ module _ (s : Party) (n : ℕ) (m : List ℕ) (cut : IsCut s n m) (others : List
   apart_filled : (p : Piece) (os : List Opened) (at : ℕ) → (p.sender ≡ s → (p.number ≢ n) × Contains others p.number) → Fills p os at → is_of s n (get_or os at (opened p)) ≡ false
   apart_filled p os at apart fills = not_it s n (get_or os at (opened p)) (λ from same. (apart (sym fills.sender ∙ from)).0 (sym fills.number ∙ same))
 
-  closed_after : (os : List Opened) (bytes : List ℕ) (st : Step) → IsElsewhere s n others bytes → count_by (is_of s n) os ≡ 0 → Change bytes os st → count_by (is_of s n) st.after ≡ 0
-  closed_after os bytes st elsewhere none (drops c e) = subst (λ (t : Step). count_by (is_of s n) t.after ≡ 0) (sym e) none
-  closed_after os bytes st elsewhere none (alone p is one e) = subst (λ (t : Step). count_by (is_of s n) t.after ≡ 0) (sym e) none
-  closed_after os bytes st elsewhere none (opens p is closed e) =
+  closed_after : (os : List Opened) (bytes : List ℕ) (st : Step) → IsOfAnother s n others bytes → count_by (is_of s n) os ≡ 0 → Change bytes os st → count_by (is_of s n) st.after ≡ 0
+  closed_after os bytes st apart none (drops c e) = subst (λ (t : Step). count_by (is_of s n) t.after ≡ 0) (sym e) none
+  closed_after os bytes st apart none (alone p is one e) = subst (λ (t : Step). count_by (is_of s n) t.after ≡ 0) (sym e) none
+  closed_after os bytes st apart none (opens p is closed e) =
       subst (λ (t : Step). count_by (is_of s n) t.after ≡ 0) (sym e)
       (let sum = sum_by_push (λ (o : Opened). one_if (is_of s n o)) (with_room p.sender os) (opened p) in
       let less = fewer_left p.sender (is_of s n) os (opened p) in
-      let here : one_if (is_of s n (opened p)) ≡ 0 = ap one_if (apart_opened p (elsewhere p is)) in omega (arith, sum, less, here, none))
-  closed_after os bytes st elsewhere none (extends p is at fills e) =
+      let here : one_if (is_of s n (opened p)) ≡ 0 = ap one_if (apart_opened p (apart p is)) in omega (arith, sum, less, here, none))
+  closed_after os bytes st apart none (extends p is at fills e) =
       subst (λ (t : Step). count_by (is_of s n) t.after ≡ 0) (sym e)
       (let sum = sum_by-set (λ (o : Opened). one_if (is_of s n o)) os at (with_body (get_or os at (opened p)) p.index p.body) (opened p) fills.within in omega (arith, sum, none))
-  closed_after os bytes st elsewhere none (completes p is at fills last e) =
+  closed_after os bytes st apart none (completes p is at fills last e) =
       subst (λ (t : Step). count_by (is_of s n) t.after ≡ 0) (sym e) (let less = fewer (is_of s n) os at (opened p) fills.within in omega (arith, less, none))
 
-  held_after : (os : List Opened) (b : List ℕ) (bytes : List ℕ) (st : Step) → IsElsewhere s n others bytes → Unique os → Held os b → Change bytes os st → Held st.after b
-  held_after os b bytes st elsewhere one a (drops c e) = subst (λ (t : Step). Held t.after b) (sym e) a
-  held_after os b bytes st elsewhere one a (alone p is single e) = subst (λ (t : Step). Held t.after b) (sym e) a
-  held_after os b bytes st elsewhere one a (opens p is closed e) =
+  held_after : (os : List Opened) (b : List ℕ) (bytes : List ℕ) (st : Step) → IsOfAnother s n others bytes → Unique os → Held os b → Change bytes os st → Held st.after b
+  held_after os b bytes st apart one a (drops c e) = subst (λ (t : Step). Held t.after b) (sym e) a
+  held_after os b bytes st apart one a (alone p is single e) = subst (λ (t : Step). Held t.after b) (sym e) a
+  held_after os b bytes st apart one a (opens p is closed e) =
       subst (λ (t : Step). Held t.after b) (sym e)
-      (among_pushed Known (is_of s n) (half b) (half_is b) (with_room p.sender os) (opened p) (known_opened p (elsewhere p is))
-      (room_kept os b a one (opened p) (λ from. known_opened p (elsewhere p is)) closed))
-  held_after os b bytes st elsewhere one a (extends p is at fills e) =
+      (among_pushed Known (is_of s n) (half b) (half_is b) (with_room p.sender os) (opened p) (known_opened p (apart p is))
+      (room_kept os b a one (opened p) (λ from. known_opened p (apart p is)) closed))
+  held_after os b bytes st apart one a (extends p is at fills e) =
       let o = get_or os at (opened p) in
       let y = with_body o p.index p.body in
-      let differs = apart_filled p os at (elsewhere p is) fills in
+      let differs = apart_filled p os at (apart p is) fills in
       subst (λ (t : Step). Held t.after b) (sym e)
       (subst (λ (xs : List Opened). Held (set xs at y) b) (sym a.split)
       (among_set Known (is_of s n) (half b) (half_is b) a.front a.behind at (opened p) y (ap (λ (xs : List Opened). is_of s n (get_or xs at (opened p))) (sym a.split) ∙ differs)
       (subst (λ (xs : List Opened). at < length xs) a.split fills.within)
       (λ known from. subst (λ (xs : List Opened). Known (get_or xs at (opened p))) (sym a.split) known from) a.known))
-  held_after os b bytes st elsewhere one a (completes p is at fills last e) =
-      let differs = apart_filled p os at (elsewhere p is) fills in
+  held_after os b bytes st apart one a (completes p is at fills last e) =
+      let differs = apart_filled p os at (apart p is) fills in
       subst (λ (t : Step). Held t.after b) (sym e)
       (subst (λ (xs : List Opened). Held (remove xs at) b) (sym a.split)
       (among_removed Known (is_of s n) (half b) (half_is b) a.front a.behind at (opened p) (ap (λ (xs : List Opened). is_of s n (get_or xs at (opened p))) (sym a.split) ∙ differs) a.known))
 
-  state_after : (os : List Opened) (b : List ℕ) (bytes : List ℕ) → IsElsewhere s n others bytes → Unique os → State os b → State (step_of os bytes).after b
-  state_after os [] bytes elsewhere one none = closed_after os bytes (step_of os bytes) elsewhere none (changes os bytes)
-  state_after os (i ∷ b) bytes elsewhere one a = held_after os (i ∷ b) bytes (step_of os bytes) elsewhere one a (changes os bytes)
+  state_after : (os : List Opened) (b : List ℕ) (bytes : List ℕ) → IsOfAnother s n others bytes → Unique os → State os b → State (step_of os bytes).after b
+  state_after os [] bytes apart one none = closed_after os bytes (step_of os bytes) apart none (changes os bytes)
+  state_after os (i ∷ b) bytes apart one a = held_after os (i ∷ b) bytes (step_of os bytes) apart one a (changes os bytes)
 
   -- ---- a piece of the message
 
@@ -462,47 +294,18 @@ module _ (s : Party) (n : ℕ) (m : List ℕ) (cut : IsCut s n m) (others : List
       ∙ ap (λ (answered : List Answer). more ∷ answered) (others_come here.1)
       ∙ ap (λ (j : ℕ). more ∷ answers_left j) some ∙ ap (λ j. answers_left (suc j)) (sym some)
 
-  arrive : (arrivals : List Arrival) (os : List Opened) (b : List ℕ) → Unique os → State os b → AllElsewhere s n others arrivals → Halfway b (indices arrivals)
+  arrive : (arrivals : List Arrival) (os : List Opened) (b : List ℕ) → Unique os → State os b → AllOfOthers s n others arrivals → Halfway b (indices arrivals)
       → answers (cut_at s n m) os arrivals ≡ answers_left (length (indices arrivals))
-  arrive [] os b one state elsewhere h = refl
-  arrive (other bytes ∷ later) os b one state elsewhere h =
-      arrive later (step_of os bytes).after b (unique_step os bytes one) (state_after os b bytes elsewhere.0 one state) elsewhere.1 h
-  arrive (own i ∷ later) os b one state elsewhere h =
+  arrive [] os b one state apart h = refl
+  arrive (other bytes ∷ later) os b one state apart h =
+      arrive later (step_of os bytes).after b (unique_step os bytes one) (state_after os b bytes apart.0 one state) apart.1 h
+  arrive (own i ∷ later) os b one state apart h =
       arrive_own i later os b one state h
-      (λ after. arrive later (step_of os (cut_at s n m i)).after (i ∷ b) (unique_step os (cut_at s n m i) one) after elsewhere (halfway_more b (indices later) i h)) (length (indices later)) refl
+      (λ after. arrive later (step_of os (cut_at s n m i)).after (i ∷ b) (unique_step os (cut_at s n m i) one) after apart (halfway_more b (indices later) i h)) (length (indices later)) refl
 
   answers_all : (c : ℕ) → 1 ≤ c → answers_left c ≡ replicate (c - 1) more ++ whole m ∷ []
   answers_all zero some = absurd (omega arith)
   answers_all (suc c) some = let e : suc c - 1 ≡ c = omega arith in rw e refl
-
--- ---- numbers from one on
-
-length-numbers : (i k : ℕ) → length (each_from (λ j. j) i k) ≡ k
-length-numbers i zero = refl
-length-numbers i (suc k) = let rest = length-numbers (suc i) k in omega arith
-
-before_numbers : (x i k : ℕ) → x < i → count_by (nat_eq x) (each_from (λ j. j) i k) ≡ 0
-before_numbers x i zero lt = refl
-before_numbers x i (suc k) lt = count-no (nat_eq x) i (each_from (λ j. j) (suc i) k) (differ x i (omega arith)) ∙ before_numbers x (suc i) k (omega arith)
-
-once_numbers : (x i k : ℕ) → count_by (nat_eq x) (each_from (λ j. j) i k) ≤ 1
-once_numbers x i zero = omega arith
-once_numbers x i (suc k) =
-    elim (cases_Bool (nat_eq x i)) [
-      | inl same ↦
-          (let one = count-yes (nat_eq x) i (each_from (λ j. j) (suc i) k) same in
-          let at : x ≡ i = eqb-true x i same in
-          let none = before_numbers x (suc i) k (omega arith) in omega arith)
-      | inr differs ↦ (let one = count-no (nat_eq x) i (each_from (λ j. j) (suc i) k) differs in let rest = once_numbers x (suc i) k in omega arith)
-    ]
-
-below_numbers : (c i k : ℕ) → i + k ≤ c → count_by (λ j. nat_le c j) (each_from (λ j. j) i k) ≡ 0
-below_numbers c i zero le = refl
-below_numbers c i (suc k) le =
-    elim (cases_Bool (nat_le c i)) [
-      | inl past ↦ (let ge = leb-true c i past in absurd (omega arith))
-      | inr within ↦ count-no (λ j. nat_le c j) i (each_from (λ j. j) (suc i) k) within ∙ below_numbers c (suc i) k (omega arith)
-    ]
 
 pub come_whole : (before : List (List ℕ)) (s : Party) (n : ℕ) (m : List ℕ) (arrivals : List Arrival) → IsClosed s n (open_after before) → AreArrivals s n m arrivals
     → answers (cut_at s n m) (open_after before) arrivals ≡ expected m
@@ -517,5 +320,19 @@ come_whole before s n m arrivals closed are =
       total = omega (arith, size);
       rest = omega (arith, missing-none m);
     } in
-    arrive s n m are.cut are.others are.few arrivals (open_after before) [] (unique_open before) closed are.elsewhere halfway
+    arrive s n m are.cut are.others are.few arrivals (open_after before) [] (unique_open before) closed are.apart halfway
     ∙ ap (answers_left s n m are.cut are.others are.few) size ∙ answers_all s n m are.cut are.others are.few c (omega arith)
+
+-- the pieces by themselves, in any order
+pub come_alone : (before : List (List ℕ)) (s : Party) (n : ℕ) (m : List ℕ) (order : List ℕ) → IsClosed s n (open_after before) → IsCut s n m → IsPermutation (all_indices m) order
+    → answers (cut_at s n m) (open_after before) (map own order) ≡ expected m
+come_alone before s n m order closed cut any =
+    come_whole before s n m (map own order) closed
+    (record { cut = cut; pieces = subst (λ (is : List ℕ). IsPermutation (all_indices m) is) (sym (same order)) any; others = []; few = omega arith; apart = none_between order }) where
+      same : (is : List ℕ) → indices (map own is) ≡ is
+      same [] = refl
+      same (i ∷ is) = ap (λ (rest : List ℕ). i ∷ rest) (same is)
+
+      none_between : (is : List ℕ) → AllOfOthers s n [] (map own is)
+      none_between [] = tt
+      none_between (i ∷ is) = none_between is

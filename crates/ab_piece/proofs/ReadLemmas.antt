@@ -57,19 +57,35 @@ index_reader = ranged_at w16 0 65535 BadField
 abbrev count_reader : Reader ℕ
 count_reader = ranged_at w16 1 512 BadLength
 
+counts_within : (bytes : List ℕ) (y : (ℕ × ℕ) × List ℕ) → both index_reader count_reader bytes ≡ Ok y → IsWithin 0 65535 y.0.0 × IsWithin 1 512 y.0.1
+counts_within bytes y e =
+    let i = both_is index_reader count_reader bytes y e in
+    let parts : IsWithin 0 65535 i.0.0 × IsWithin 1 512 i.1.0 = (ranged_within w16 0 65535 BadField bytes i.0 i.2, ranged_within w16 1 512 BadLength i.0.1 i.1 i.3) in
+    subst (λ (t : (ℕ × ℕ) × List ℕ). IsWithin 0 65535 t.0.0 × IsWithin 1 512 t.0.1) i.4 parts
+
+numbers_within : (bytes : List ℕ) (y : (ℕ × (ℕ × ℕ)) × List ℕ) → both number_reader (both index_reader count_reader) bytes ≡ Ok y
+    → IsWithin 0 18446744073709551615 y.0.0 × (IsWithin 0 65535 y.0.1.0 × IsWithin 1 512 y.0.1.1)
+numbers_within bytes y e =
+    let n = both_is number_reader (both index_reader count_reader) bytes y e in
+    let parts : IsWithin 0 18446744073709551615 n.0.0 × (IsWithin 0 65535 n.1.0.0 × IsWithin 1 512 n.1.0.1) =
+    (ranged_within w64 0 18446744073709551615 BadField bytes n.0 n.2, counts_within n.0.1 n.1 n.3) in
+    subst (λ (t : (ℕ × (ℕ × ℕ)) × List ℕ). IsWithin 0 18446744073709551615 t.0.0 × (IsWithin 0 65535 t.0.1.0 × IsWithin 1 512 t.0.1.1)) n.4 parts
+
+abbrev parts_reader : Reader (Party × (ℕ × (ℕ × ℕ)))
+parts_reader = both party_at (both number_reader (both index_reader count_reader))
+
+parts_within : (bytes : List ℕ) (y : (Party × (ℕ × (ℕ × ℕ))) × List ℕ) → parts_reader bytes ≡ Ok y → IsHeader (header_from y.0)
+parts_within bytes y e =
+    let p = both_is party_at (both number_reader (both index_reader count_reader)) bytes y e in
+    let parts : IsHeader (header_from (p.0.0, p.1.0)) = (party_within bytes p.0 p.2, numbers_within p.0.1 p.1 p.3) in
+    subst (λ (t : (Party × (ℕ × (ℕ × ℕ))) × List ℕ). IsHeader (header_from t.0)) p.4 parts
+
 header_within : (bytes : List ℕ) (y : Header × List ℕ) → header_at bytes ≡ Ok y → IsHeader y.0
 unfolding header_at
 header_within bytes y e =
-    let mark = bind_ok (ranged_at w8 1 1 BadField bytes) (λ a. made header_from (both party_at (both number_reader (both index_reader count_reader))) a.1) y e in
-    let m = made_is header_from (both party_at (both number_reader (both index_reader count_reader))) mark.0.1 y mark.2 in
-    let p = both_is party_at (both number_reader (both index_reader count_reader)) mark.0.1 m.0 m.1 in
-    let n = both_is number_reader (both index_reader count_reader) p.0.1 p.1 p.3 in
-    let i = both_is index_reader count_reader n.0.1 n.1 n.3 in
-    let Q : Party × (ℕ × (ℕ × ℕ)) → Type 0 = λ t. IsHeader (header_from t) in
-    let counts : IsWithin 0 65535 i.0.0 × IsWithin 1 512 i.1.0 = (ranged_within w16 0 65535 BadField n.0.1 i.0 i.2, ranged_within w16 1 512 BadLength i.0.1 i.1 i.3) in
-    let numbers : IsWithin 0 18446744073709551615 n.0.0 × (IsWithin 0 65535 n.1.0.0 × IsWithin 1 512 n.1.0.1) = (ranged_within w64 0 18446744073709551615 BadField p.0.1 n.0 n.2, subst (λ (t : (ℕ × ℕ) × List ℕ). IsWithin 0 65535 t.0.0 × IsWithin 1 512 t.0.1) i.4 counts) in
-    let all : IsParty p.0.0 × (IsWithin 0 18446744073709551615 p.1.0.0 × (IsWithin 0 65535 p.1.0.1.0 × IsWithin 1 512 p.1.0.1.1)) = (party_within mark.0.1 p.0 p.2, subst (λ (t : (ℕ × (ℕ × ℕ)) × List ℕ). IsWithin 0 18446744073709551615 t.0.0 × (IsWithin 0 65535 t.0.1.0 × IsWithin 1 512 t.0.1.1)) n.4 numbers) in
-    subst (λ (t : Header × List ℕ). IsHeader t.0) m.2 (subst (λ (t : (Party × (ℕ × (ℕ × ℕ))) × List ℕ). Q t.0) p.4 all)
+    let mark = bind_ok (ranged_at w8 1 1 BadField bytes) (λ a. made header_from parts_reader a.1) y e in
+    let m = made_is header_from parts_reader mark.0.1 y mark.2 in
+    subst (λ (t : Header × List ℕ). IsHeader t.0) m.2 (parts_within mark.0.1 m.0 m.1)
 
 -- a piece that is read is of the grammar
 pub piece_within : (bytes : List ℕ) (p : Piece) → piece_of bytes ≡ Ok p → IsPiece p

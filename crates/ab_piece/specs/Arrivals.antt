@@ -22,24 +22,28 @@ answers piece messages [] = []
 answers piece messages (own i ∷ later) = (step_of messages (piece i)).answer ∷ answers piece (step_of messages (piece i)).after later
 answers piece messages (other bytes ∷ later) = answers piece (step_of messages bytes).after later
 
+-- the indices of a message's pieces, ascending
+abbrev pub all_indices : List ℕ → List ℕ
+all_indices message = each_from (λ i. i) 0 (count_of (length message))
+
 -- where the datagram is a piece of this sender's, it is of one of these messages, and not of that with this number
-abbrev pub IsElsewhere : Party → ℕ → List ℕ → List ℕ → Type 0
-IsElsewhere sender number others bytes =
+abbrev pub IsOfAnother : Party → ℕ → List ℕ → List ℕ → Type 0
+IsOfAnother sender number others bytes =
     (p : Piece) → piece_of bytes ≡ Ok p → p.sender ≡ sender → (p.number ≢ number) × Contains others p.number
 
-abbrev pub AllElsewhere : Party → ℕ → List ℕ → List Arrival → Type 0
-AllElsewhere sender number others [] = ⊤
-AllElsewhere sender number others (own i ∷ later) = AllElsewhere sender number others later
-AllElsewhere sender number others (other bytes ∷ later) = IsElsewhere sender number others bytes × AllElsewhere sender number others later
+abbrev pub AllOfOthers : Party → ℕ → List ℕ → List Arrival → Type 0
+AllOfOthers sender number others [] = ⊤
+AllOfOthers sender number others (own i ∷ later) = AllOfOthers sender number others later
+AllOfOthers sender number others (other bytes ∷ later) = IsOfAnother sender number others bytes × AllOfOthers sender number others later
 
 -- each piece of the message comes once, in some order; between them come pieces of fewer than eight other messages of its sender,
 -- pieces of other senders, and what is no piece
 pub record AreArrivals (sender : Party) (number : ℕ) (message : List ℕ) (arrivals : List Arrival) : Type 0 where
   pub cut : IsCut sender number message
-  pub pieces : IsPermutation (each_from (λ i. i) 0 (count_of (length message))) (indices arrivals)
+  pub pieces : IsPermutation (all_indices message) (indices arrivals)
   pub others : List ℕ
   pub few : length others < 8
-  pub elsewhere : AllElsewhere sender number others arrivals
+  pub apart : AllOfOthers sender number others arrivals
 
 -- to each piece but the last that others are missing, and to the last the message
 abbrev pub expected : List ℕ → List Answer

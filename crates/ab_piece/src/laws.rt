@@ -1,10 +1,10 @@
 //! What holds of pieces and of joined messages.
 
-ghost use Rattle.std.specs.Prelude.{◌≡◌, ◌<◌, ◌≤◌, ℕ, List, ◌∷◌, All, Ok, length};
+ghost use Rattle.std.specs.Prelude.{◌≡◌, ◌<◌, ◌≤◌, ℕ, List, ◌∷◌, All, IsPermutation, Ok, length, map};
 ghost use Rattle.std.specs.List.{count_by, sum_by};
 ghost use Rattle.ab_num.specs.declared.party.Party.{Party};
 ghost use Rattle.ab_form.specs.Formats.{IsBytes};
-ghost use Rattle.ab_piece.specs.Arrivals.{AreArrivals, Arrival, IsClosed, answers, expected};
+ghost use Rattle.ab_piece.specs.Arrivals.{AreArrivals, Arrival, IsClosed, all_indices, answers, expected, own};
 ghost use Rattle.ab_piece.specs.Bounds.{IsShort, kept_from, kept_of};
 ghost use Rattle.ab_piece.specs.Joining.{is_from, open_after, step_of, whole};
 ghost use Rattle.ab_piece.specs.Pieces.{IsCut, IsPiece, Piece, count_of, cut_at, piece_at, piece_of, spell_piece};
@@ -26,10 +26,12 @@ pub fn whole_messages_came()
     ensures { (datagrams : List (List ℕ)) (bytes message : List ℕ) → (step_of (open_after datagrams) bytes).answer ≡ whole message → IsWholeOf (bytes ∷ datagrams) message }
 {}
 
-/// The pieces of a message come in any order, with others between them, and the last one gives the
-/// message, whatever came before.
+/// The pieces of a message may come in any order, by themselves or with other datagrams between them:
+/// the last one gives the message, whatever came before.
 pub fn cut_messages_come_whole()
-    ensures { (before : List (List ℕ)) (s : Party) (n : ℕ) (m : List ℕ) (arrivals : List Arrival) → IsClosed s n (open_after before) → AreArrivals s n m arrivals
+    ensures alone { (before : List (List ℕ)) (s : Party) (n : ℕ) (m : List ℕ) (order : List ℕ) → IsClosed s n (open_after before) → IsCut s n m → IsPermutation (all_indices m) order
+        → answers (cut_at s n m) (open_after before) (map own order) ≡ expected m }
+    ensures mixed { (before : List (List ℕ)) (s : Party) (n : ℕ) (m : List ℕ) (arrivals : List Arrival) → IsClosed s n (open_after before) → AreArrivals s n m arrivals
         → answers (cut_at s n m) (open_after before) arrivals ≡ expected m }
 {}
 
