@@ -1,0 +1,219 @@
+-- Honest, lawful acts meet the premises of Lock.
+use Rattle.std.proofs.Common.{◌≡◌, ℕ, suc, pred, ◌≤◌, ◌==◌, Bool, false, Some, None, Option, List, [], ◌∷◌, ◌++◌, length, slice_get, map, refl, sym, ap, ◌∙◌, subst, inl, inr, arith}
+use Rattle.std.specs.Prelude.{Contains, count_by}
+use Rattle.std.proofs.lemmas.Bool.{cases_Bool}
+use Rattle.std.proofs.lemmas.Bool.Decides.{Decides-eqb}
+use Rattle.std.proofs.lemmas.Option.{slice_get_within}
+use Rattle.std.proofs.lemmas.List.Elements.{Contains-append_left, Contains-append_right, Contains-append_cases}
+use Rattle.ab_num.specs.declared.party.Party.{Party}
+use Rattle.ab_num.specs.declared.party.Party.TheVariants.{Replica}
+use Rattle.ab_abs.specs.Faults.{is_faulty}
+use Rattle.ab_abs.proofs.Counting.{Contains-tail}
+use Rattle.ab_lock.specs.Steps.{Change, Entry, Step, accepts, signs, prepares, changes, enters, executes, entry_of, IsAt, Follows}
+use Rattle.ab_lock.specs.Quorums.{IsCertified, HasPrepared, RestsOn, NoCollision, Premises}
+use Rattle.ab_msg.specs.Carried.{is_replica}
+use Rattle.ab_lock.specs.Acts.{KnowsChanges, Content, Prepare, Commit, ViewChange, maker_of, Act, steps_of, commit_of, made, WasMade, Knows, taken, its_own, IsHonest, KnowsQuorum, Backs, AreLawful}
+use Rattle.ab_abs.proofs.Lists.{Contains-cons_cases}
+use Rattle.ab_abs.proofs.Statements.{none_of}
+
+module _ {V X : Type 0} (digest : V → X) where
+  pub steps_own : (a : Act V X) (acts : List (Act V X)) (r : ℕ) → a.by ≡ r → steps_of (a ∷ acts) r ≡ a.steps ++ steps_of acts r
+  steps_own a acts r own = rw ((Decides-eqb a.by r).1 own) refl
+
+  steps_other : (a : Act V X) (acts : List (Act V X)) (r : ℕ) → (a.by == r) ≡ false → steps_of (a ∷ acts) r ≡ steps_of acts r
+  steps_other a acts r other = rw other refl
+
+  pub steps_in : (acts : List (Act V X)) (a : Act V X) (step : Step V X) → Contains acts a → Contains a.steps step → Contains (steps_of acts a.by) step
+  steps_in [] a step is has = absurd (none_of a is)
+  steps_in (b ∷ acts) a step is has =
+      elim (Contains-cons_cases b acts a is) [
+        | inl e ↦ subst (λ (l : List (Step V X)). Contains l step) (sym (steps_own b acts a.by (ap (λ c. c.by) e)))
+            (Contains-append_left b.steps (steps_of acts a.by) step (subst (λ (c : Act V X). Contains c.steps step) (sym e) has))
+        | inr more ↦ elim (cases_Bool (b.by == a.by)) [
+          | inl same ↦ subst (λ (l : List (Step V X)). Contains l step) (sym (steps_own b acts a.by ((Decides-eqb b.by a.by).0 same)))
+              (Contains-append_right b.steps (steps_of acts a.by) step (steps_in acts a step more has))
+          | inr differ ↦ subst (λ (l : List (Step V X)). Contains l step) (sym (steps_other b acts a.by differ)) (steps_in acts a step more has)
+        ]
+      ]
+
+  -- contents name their maker and the step that made them
+  pub made_prepare : (q r v n : ℕ) (x : X) (step : Step V X) → Contains (made digest q step) (Prepare r v n x) → (q ≡ r) × (step ≡ signs v n x)
+  made_prepare q r v n x (accepts m value) is = absurd (none_of _ is)
+  made_prepare q r v n x (signs w m y) is = elim (Contains-cons_cases (Prepare q w m y) [] (Prepare r v n x) is) [ inl e ↦ (cc, cc) | inr more ↦ absurd (none_of _ more) ]
+  made_prepare q r v n x (prepares w h) is = absurd (not_commit (slice_get h (pred (length h))) is)
+    where
+      not_commit : (o : Option V) → Contains (commit_of digest q w (pred (length h)) o) (Prepare r v n x) → ⊥
+      not_commit None is = none_of _ is
+      not_commit (Some value) is = elim (Contains-cons_cases (Commit q w (pred (length h)) (digest value)) [] (Prepare r v n x) is) [ inl e ↦ absurd (cc e) | inr more ↦ none_of _ more ]
+  made_prepare q r v n x (changes w entries) is = elim (Contains-cons_cases (ViewChange q w entries) [] (Prepare r v n x) is) [ inl e ↦ absurd (cc e) | inr more ↦ absurd (none_of _ more) ]
+  made_prepare q r v n x (enters w vcs chosen) is = absurd (none_of _ is)
+  made_prepare q r v n x (executes w m value) is = absurd (none_of _ is)
+
+  pub made_change : (q r w : ℕ) (entries : List (Entry X)) (step : Step V X) → Contains (made digest q step) (ViewChange r w entries) → (q ≡ r) × (step ≡ changes w entries)
+  made_change q r w entries (accepts m value) is = absurd (none_of _ is)
+  made_change q r w entries (signs v m y) is = elim (Contains-cons_cases (Prepare q v m y) [] (ViewChange r w entries) is) [ inl e ↦ absurd (cc e) | inr more ↦ absurd (none_of _ more) ]
+  made_change q r w entries (prepares v h) is = absurd (not_commit (slice_get h (pred (length h))) is)
+    where
+      not_commit : (o : Option V) → Contains (commit_of digest q v (pred (length h)) o) (ViewChange r w entries) → ⊥
+      not_commit None is = none_of _ is
+      not_commit (Some value) is = elim (Contains-cons_cases (Commit q v (pred (length h)) (digest value)) [] (ViewChange r w entries) is) [ inl e ↦ absurd (cc e) | inr more ↦ none_of _ more ]
+  made_change q r w entries (changes u others) is = elim (Contains-cons_cases (ViewChange q u others) [] (ViewChange r w entries) is) [ inl e ↦ (cc, cc) | inr more ↦ absurd (none_of _ more) ]
+  made_change q r w entries (enters u vcs chosen) is = absurd (none_of _ is)
+  made_change q r w entries (executes v m value) is = absurd (none_of _ is)
+
+  -- a COMMIT is made on becoming prepared
+  pub record IsPrepares (v n : ℕ) (x : X) (step : Step V X) : Type 0 where
+    pub values : List V
+    pub is_step : step ≡ prepares v values
+    pub slot : length values ≡ suc n
+    pub is_at : IsAt digest values n x
+
+  pub made_commit : (q r v n : ℕ) (x : X) (step : Step V X) → Contains (made digest q step) (Commit r v n x) → (q ≡ r) × IsPrepares v n x step
+  made_commit q r v n x (accepts m value) is = absurd (none_of _ is)
+  made_commit q r v n x (signs w m y) is = elim (Contains-cons_cases (Prepare q w m y) [] (Commit r v n x) is) [ inl e ↦ absurd (cc e) | inr more ↦ absurd (none_of _ more) ]
+  made_commit q r v n x (prepares w h) is = of_last (slice_get h (pred (length h))) refl is
+    where
+      of_last : (o : Option V) → slice_get h (pred (length h)) ≡ o → Contains (commit_of digest q w (pred (length h)) o) (Commit r v n x) → (q ≡ r) × IsPrepares v n x (prepares w h)
+      of_last None last is = absurd (none_of _ is)
+      of_last (Some value) last is =
+          elim (Contains-cons_cases (Commit q w (pred (length h)) (digest value)) [] (Commit r v n x) is) [
+            | inr more ↦ absurd (none_of _ more)
+            | inl e ↦
+                let at : pred (length h) ≡ n = cc e in
+                let view : w ≡ v = cc e in (
+                  cc e,
+                  record {
+                    values = h;
+                    is_step = ap (λ u. prepares u h) view;
+                    slot = omega (arith, at, slice_get_within h (pred (length h)) value last);
+                    is_at = (value, ap (slice_get h) (sym at) ∙ last, cc e);
+                  },
+                )
+          ]
+  made_commit q r v n x (changes w entries) is = elim (Contains-cons_cases (ViewChange q w entries) [] (Commit r v n x) is) [ inl e ↦ absurd (cc e) | inr more ↦ absurd (none_of _ more) ]
+  made_commit q r v n x (enters w vcs chosen) is = absurd (none_of _ is)
+  made_commit q r v n x (executes w m value) is = absurd (none_of _ is)
+
+  pub WasMade-more : (a : Act V X) (acts : List (Act V X)) (c : Content X) → WasMade digest acts c → WasMade digest (a ∷ acts) c
+  WasMade-more a acts c was = record { act = was.act; is_in = Contains-tail a was.act acts was.is_in; step = was.step; is_step = was.is_step; makes = was.makes }
+
+  pub Knows-more : (a : Act V X) (acts : List (Act V X)) (r : ℕ) (c : Content X) → Knows digest acts r c → Knows digest (a ∷ acts) r c
+  Knows-more a acts r c (taken b is own claims) = taken b (Contains-tail a b acts is) own claims
+  Knows-more a acts r c (its_own was) = its_own (WasMade-more a acts c was)
+
+  module _ (f : ℕ) where
+    pub quorum_more : (a : Act V X) (acts : List (Act V X)) (r : ℕ) (what : ℕ → Content X) → KnowsQuorum digest f acts r what → KnowsQuorum digest f (a ∷ acts) r what
+    quorum_more a acts r what many = record { by = many.by; replicas = many.replicas; enough = many.enough; each = λ q is. Knows-more a acts r (what q) (many.each q is) }
+
+    pub changes_more : (a : Act V X) (acts : List (Act V X)) (r w : ℕ) (vcs : List (Change V)) → KnowsChanges digest f acts r w vcs → KnowsChanges digest f (a ∷ acts) r w vcs
+    changes_more a acts r w vcs knows = record {
+      replicas = knows.replicas;
+      enough = knows.enough;
+      signed = λ c is. Knows-more a acts r _ (knows.signed c is);
+      fits = λ c is t cert there. let b = knows.fits c is t cert there in (b.0, quorum_more a acts r _ b.1);
+    }
+
+    module _ (Source : ℕ → V → Type 0) where
+      backs_more : (a : Act V X) (acts : List (Act V X)) (r : ℕ) (step : Step V X) → Backs digest f Source acts r step → Backs digest f Source (a ∷ acts) r step
+      backs_more a acts r (accepts n value) backs = backs
+      backs_more a acts r (signs v n x) backs = tt
+      backs_more a acts r (prepares v h) backs = λ n value len is. quorum_more a acts r _ (backs n value len is)
+      backs_more a acts r (changes w entries) backs = tt
+      backs_more a acts r (enters w vcs chosen) backs = changes_more a acts r w vcs backs
+      backs_more a acts r (executes v n value) backs = quorum_more a acts r _ backs
+
+      module _ (goes : List V → V → Bool) (k : ℕ) where
+        pub lawful_follows : (acts : List (Act V X)) → AreLawful digest f Source goes k acts → (r : ℕ) → Follows digest goes k (steps_of acts r)
+        lawful_follows [] lawful r = tt
+        lawful_follows (a ∷ acts) lawful r =
+            elim (cases_Bool (a.by == r)) [
+              | inl same ↦
+                  let e : a.by ≡ r = (Decides-eqb a.by r).0 same in
+                  subst (λ (l : List (Step V X)). Follows digest goes k l) (sym (steps_own a acts r e)) (subst (λ (q : ℕ). Follows digest goes k (a.steps ++ steps_of acts q)) e lawful.0)
+              | inr differ ↦ subst (λ (l : List (Step V X)). Follows digest goes k l) (sym (steps_other a acts r differ)) (lawful_follows acts lawful.2 r)
+            ]
+
+        pub lawful_backs : (acts : List (Act V X)) → AreLawful digest f Source goes k acts → (r : ℕ) (step : Step V X) → Contains (steps_of acts r) step → Backs digest f Source acts r step
+        lawful_backs [] lawful r step is = absurd (none_of step is)
+        lawful_backs (a ∷ acts) lawful r step is =
+            elim (cases_Bool (a.by == r)) [
+              | inl same ↦
+                  let e : a.by ≡ r = (Decides-eqb a.by r).0 same in
+                  elim (Contains-append_cases a.steps (steps_of acts r) step (subst (λ (l : List (Step V X)). Contains l step) (steps_own a acts r e) is)) [
+                    | inl now ↦ subst (λ (q : ℕ). Backs digest f Source (a ∷ acts) q step) e (lawful.1 step now)
+                    | inr before ↦ backs_more a acts r step (lawful_backs acts lawful.2 r step before)
+                  ]
+              | inr differ ↦ backs_more a acts r step (lawful_backs acts lawful.2 r step (subst (λ (l : List (Step V X)). Contains l step) (steps_other a acts r differ) is))
+            ]
+
+-- what the acts of one replica or of many made stands in the traces of its makers: then what a replica knows of others is so
+module _ {V X : Type 0} (digest : V → X) (f : ℕ) (faulty : List Party) (traces : ℕ → List (Step V X)) (Made : Content X → Type 0)
+    (signs_in : (r v n : ℕ) (x : X) → Made (Prepare r v n x) → Contains (traces r) (signs v n x))
+    (changes_in : (r w : ℕ) (entries : List (Entry X)) → Made (ViewChange r w entries) → Contains (traces r) (changes w entries))
+    (commits_in : (r v n : ℕ) (x : X) → Made (Commit r v n x) → HasPrepared digest traces r v n x)
+    (acts : List (Act V X)) (r : ℕ) (knows_made : (c : Content X) → is_faulty faulty (Replica (maker_of c)) ≡ false → Knows digest acts r c → Made c) where
+  known_certified : (v n : ℕ) (x : X) → KnowsQuorum digest f acts r (λ q. Prepare q v n x) → IsCertified f faulty traces v n x
+  known_certified v n x many = record {
+    by = many.by;
+    replicas = many.replicas;
+    enough = many.enough;
+    signed = λ q is ok. signs_in q v n x (knows_made (Prepare q v n x) ok.1 (many.each q is));
+  }
+
+  -- what a step rests on
+  pub backed_rests : (Source Known : ℕ → V → Type 0) → ((n : ℕ) (value : V) → Known n value → Source n value) → (step : Step V X) → Backs digest f Known acts r step → RestsOn digest f faulty traces Source step
+  backed_rests Source Known source (accepts n value) backs = source n value backs
+  backed_rests Source Known source (signs v n x) backs = tt
+  backed_rests Source Known source (prepares v h) backs = λ n value len is. known_certified v n (digest value) (backs n value len is)
+  backed_rests Source Known source (changes w entries) backs = tt
+  backed_rests Source Known source (enters w vcs chosen) backs = record {
+    replicas = backs.replicas;
+    enough = backs.enough;
+    signed = λ c is ok. changes_in c.by w (map (entry_of digest) c.certs) (knows_made (ViewChange c.by w (map (entry_of digest) c.certs)) ok.1 (backs.signed c is));
+    fits = λ c is t cert there. let b = backs.fits c is t cert there in (b.0, known_certified cert.at t (digest cert.value) b.1);
+  }
+  backed_rests Source Known source (executes v n value) backs = record {
+    by = backs.by;
+    replicas = backs.replicas;
+    enough = backs.enough;
+    prepared = λ q is ok. commits_in q v n (digest value) (knows_made (Commit q v n (digest value)) ok.1 (backs.each q is));
+  }
+
+module _ {V X : Type 0} (digest : V → X) (f : ℕ) (faulty : List Party) (acts : List (Act V X)) (honest : IsHonest digest faulty acts) where
+  claim_made : (more : List (Act V X)) → IsHonest digest faulty more → (a : Act V X) → Contains more a → (c : Content X) → Contains a.claims c
+      → is_faulty faulty (Replica (maker_of c)) ≡ false → WasMade digest more c
+  claim_made [] honest a is c claims ok = absurd (none_of a is)
+  claim_made (b ∷ more) honest a is c claims ok =
+      elim (Contains-cons_cases b more a is) [
+        | inl e ↦ WasMade-more digest b more c (honest.0 c (subst (λ (z : Act V X). Contains z.claims c) (sym e) claims) ok)
+        | inr old ↦ WasMade-more digest b more c (claim_made more honest.1 a old c claims ok)
+      ]
+
+  known_made : (r : ℕ) (c : Content X) → is_faulty faulty (Replica (maker_of c)) ≡ false → Knows digest acts r c → WasMade digest acts c
+  known_made r c ok (taken a is own claims) = claim_made acts honest a is c claims ok
+  known_made r c ok (its_own was) = was
+
+  in_trace : (a : Act V X) (r : ℕ) (step : Step V X) → Contains acts a → a.by ≡ r → Contains a.steps step → Contains (steps_of acts r) step
+  in_trace a r step is own has = subst (λ (q : ℕ). Contains (steps_of acts q) step) own (steps_in digest acts a step is has)
+
+  -- the premises of Lock, from acts
+  pub premises_of : (Source : ℕ → V → Type 0) (goes : List V → V → Bool) (k : ℕ) → count_by is_replica faulty ≤ f → AreLawful digest f Source goes k acts → NoCollision digest f faulty (steps_of acts)
+      → Premises digest f faulty (steps_of acts) Source goes k
+  premises_of Source goes k few lawful apart = record {
+    few = few;
+    follows = λ r ok. lawful_follows digest f Source goes k acts lawful r;
+    rests = λ r ok step is.
+        backed_rests digest f faulty (steps_of acts) (WasMade digest acts)
+        (λ q v n x was. let m = made_prepare digest was.act.by q v n x was.step was.makes in in_trace was.act q (signs v n x) was.is_in m.0 (subst (λ (z : Step V X). Contains was.act.steps z) m.1 was.is_step))
+        (λ q w entries was. let m = made_change digest was.act.by q w entries was.step was.makes in in_trace was.act q (changes w entries) was.is_in m.0 (subst (λ (z : Step V X). Contains was.act.steps z) m.1 was.is_step))
+        (λ q v n x was.
+        let m = made_commit digest was.act.by q v n x was.step was.makes in
+        record {
+          values = m.1.values;
+          is_in = in_trace was.act q (prepares v m.1.values) was.is_in m.0 (subst (λ (z : Step V X). Contains was.act.steps z) m.1.is_step was.is_step);
+          slot = m.1.slot;
+          is_at = m.1.is_at;
+        })
+        acts r (known_made r) Source Source (λ n value source. source) step (lawful_backs digest f Source goes k acts lawful r step is);
+    apart = apart;
+  }
