@@ -1,0 +1,30 @@
+-- What a core does over a list of events.
+use Rattle.std.specs.Prelude.{◌≡◌, ℕ, ◌+◌, List, [], ◌∷◌, ◌++◌, length, if◌then◌else◌}
+use Rattle.ab_loop.specs.declared.setting.Setting.{Setting}
+use Rattle.ab_loop.specs.Cores.{Event, Rules, Sealed}
+use Rattle.ab_loop.specs.Outside.{capped}
+use Rattle.ab_loop.specs.Nodes.{Out, datagrams_in, parcels_of}
+
+-- where these events lead the core, the first of them first
+abbrev pub core_after : {C : Type 0} → Rules C → C → List Event → C
+core_after rules core [] = core
+core_after rules core (e ∷ es) = core_after rules (rules.step core e).after es
+
+-- what it sends in them, in order
+abbrev pub sends_in : {C : Type 0} → Rules C → C → List Event → List Sealed
+sends_in rules core [] = []
+sends_in rules core (e ∷ es) = (rules.step core e).sends ++ sends_in rules (rules.step core e).after es
+
+-- how many of them are spent
+abbrev pub spent_in : {C : Type 0} → Rules C → C → List Event → ℕ
+spent_in rules core [] = 0
+spent_in rules core (e ∷ es) = (if (rules.step core e).spent then 1 else 0) + spent_in rules (rules.step core e).after es
+
+-- A node that began with this core is where its events lead the core. Its datagrams are those of what the core sends in them, its
+-- messages numbered from 1, and its numbers count the events, the datagrams and the spent events.
+pub record IsOfCore {C : Type 0} (rules : Rules C) (s : Setting) (start : C) (o : Out C) : Type 0 where
+  pub core : o.node.core ≡ core_after rules start o.events
+  pub datagrams : o.effects.datagrams ≡ datagrams_in (parcels_of s 0 (sends_in rules start o.events))
+  pub events : o.node.events ≡ capped (length o.events)
+  pub sent : o.node.sent ≡ capped (length o.effects.datagrams)
+  pub spent : o.node.spent ≡ capped (spent_in rules start o.events)

@@ -1,0 +1,152 @@
+-- What is done outside: text that is written, and datagrams that are handed over.
+use Rattle.std.specs.Prelude.{◌≡◌, ℕ, ◌+◌, ◌-◌, ◌^◌, ◌≤◌, min, List, [], ◌∷◌, ◌++◌, length, Option, Result, Ok, Err, Bool, not, ⊤, if◌then◌else◌}
+use Rattle.std.specs.Option.{option_map}
+use Rattle.std.specs.List.{count_by}
+use Rattle.ab_io.specs.Causes.{Rose}
+use Rattle.ab_loop.specs.declared.fault.ServeFault.{ServeFault}
+use Rattle.ab_loop.specs.declared.fault.ServeFault.TheVariants as fault
+
+-- a number that stops at the last one
+abbrev pub capped : ℕ → ℕ
+capped n = min n (2 ^ 64 - 1)
+
+-- to a port
+abbrev pub Datagram : Type 0
+Datagram = ℕ × List ℕ
+
+-- text for out, and datagrams for send
+pub record Effects : Type 0 where
+  pub text : List ℕ
+  pub datagrams : List Datagram
+
+abbrev pub nothing : Effects
+nothing = record { text = []; datagrams = [] }
+
+abbrev pub writing : List ℕ → Effects
+writing text = record { text = text; datagrams = [] }
+
+abbrev pub sending : List Datagram → Effects
+sending datagrams = record { text = []; datagrams = datagrams }
+
+abbrev pub both : Effects → Effects → Effects
+both a b = record { text = a.text ++ b.text; datagrams = a.datagrams ++ b.datagrams }
+
+-- what out holds and what was sent, where these are told
+pub record Outside : Type 0 where
+  pub held : Option (List ℕ)
+  pub sent : Option (List Datagram)
+
+abbrev pub outside : Option (List ℕ) → Option (List Datagram) → Outside
+outside held sent = record { held = held; sent = sent }
+
+-- what is known, and more behind it
+abbrev pub grown : {X : Type 0} → Option (List X) → List X → Option (List X)
+grown known more = option_map (λ xs. xs ++ more) known
+
+-- those datagrams that went
+abbrev pub those_gone : List Bool → List Datagram → List Datagram
+those_gone [] ds = []
+those_gone (w ∷ went) [] = []
+those_gone (w ∷ went) (d ∷ ds) = if w then d ∷ those_gone went ds else those_gone went ds
+
+-- the text was written and each datagram was handed over once: it went, or it was lost
+pub record Did (old new : Outside) (e : Effects) (went : List Bool) : Type 0 where
+  pub each : length went ≡ length e.datagrams
+  pub wrote : new.held ≡ grown old.held e.text
+  pub sent : new.sent ≡ grown old.sent (those_gone went e.datagrams)
+
+-- all of it was done, and so many datagrams were lost
+pub record DidAll (old new : Outside) (e : Effects) (lost : ℕ) : Type 0 where
+  pub went : List Bool
+  pub did : Did old new e went
+  pub lost_are : lost ≡ capped (count_by not went)
+
+-- a front of it was done
+pub record DidPart (old new : Outside) (e : Effects) : Type 0 where
+  pub done : Effects
+  pub left : Effects
+  pub went : List Bool
+  pub parts : e ≡ both done left
+  pub did : Did old new done went
+
+-- all of it, or after a fault a front of it
+abbrev pub Does : {E : Type 0} → Outside → Outside → Effects → Result ℕ E → Type 0
+Does old new e (Ok lost) = DidAll old new e lost
+Does old new e (Err why) = DidPart old new e
+
+-- the counts of faults of link and out, and of losses
+pub record Counts : Type 0 where
+  pub link : ℕ
+  pub out : ℕ
+  pub losses : ℕ
+
+abbrev pub counts : ℕ → ℕ → ℕ → Counts
+counts link out losses = record { link = link; out = out; losses = losses }
+
+-- why a fault was answered
+abbrev pub FaultCause : ServeFault → Counts → Counts → Type 0
+FaultCause fault.LinkFailed old new = Rose old.link new.link
+FaultCause fault.WriteFailed old new = Rose old.out new.out
+FaultCause fault.OutOfMemory old new = ⊤
+FaultCause (fault.TurnsSpent n) old new = ⊥
+
+-- no count falls, and that of losses rises with each that is lost, as far as it can
+pub record Rises (old new : Counts) (lost : ℕ) : Type 0 where
+  pub link : old.link ≤ new.link
+  pub out : old.out ≤ new.out
+  pub later : old.losses ≤ new.losses
+  pub losses : min (old.losses + lost) (2 ^ 64 - 1) ≤ new.losses
+
+abbrev pub Counted : Counts → Counts → Result ℕ ServeFault → Type 0
+Counted old new (Ok lost) = Rises old new lost
+Counted old new (Err why) = Rises old new 0 × FaultCause why old new
+
+-- ---- one object at a time
+
+-- the text was written, or after a fault a front of it
+abbrev pub SaysPart : Option (List ℕ) → Option (List ℕ) → List ℕ → Type 0
+SaysPart old new text = (front : List ℕ) × (back : List ℕ) × (text ≡ front ++ back) × (new ≡ grown old front)
+
+abbrev pub Says : {T E : Type 0} → Option (List ℕ) → Option (List ℕ) → List ℕ → Result T E → Type 0
+Says old new text (Ok t) = new ≡ grown old text
+Says old new text (Err why) = SaysPart old new text
+
+abbrev pub SayFault : ServeFault → ℕ → ℕ → Type 0
+SayFault fault.LinkFailed old new = ⊥
+SayFault fault.WriteFailed old new = Rose old new
+SayFault fault.OutOfMemory old new = ⊤
+SayFault (fault.TurnsSpent n) old new = ⊥
+
+abbrev pub SayCause : {T : Type 0} → ℕ → ℕ → Result T ServeFault → Type 0
+SayCause old new (Ok t) = old ≤ new
+SayCause old new (Err why) = (old ≤ new) × SayFault why old new
+
+-- each datagram was handed over, so many were lost
+pub record SentAll (old new : Option (List Datagram)) (ds : List Datagram) (lost : ℕ) : Type 0 where
+  pub went : List Bool
+  pub each : length went ≡ length ds
+  pub sent : new ≡ grown old (those_gone went ds)
+  pub lost_are : lost ≡ capped (count_by not went)
+
+-- those at the front were
+pub record SentPart (old new : Option (List Datagram)) (ds : List Datagram) : Type 0 where
+  pub front : List Datagram
+  pub back : List Datagram
+  pub went : List Bool
+  pub parts : ds ≡ front ++ back
+  pub each : length went ≡ length front
+  pub sent : new ≡ grown old (those_gone went front)
+
+abbrev pub Sends : {E : Type 0} → Option (List Datagram) → Option (List Datagram) → List Datagram → Result ℕ E → Type 0
+Sends old new ds (Ok lost) = SentAll old new ds lost
+Sends old new ds (Err why) = SentPart old new ds
+
+abbrev pub SendFault : ServeFault → Type 0
+SendFault fault.LinkFailed = ⊥
+SendFault fault.WriteFailed = ⊥
+SendFault fault.OutOfMemory = ⊤
+SendFault (fault.TurnsSpent n) = ⊥
+
+abbrev pub SendCause : ℕ → ℕ → Result ℕ ServeFault → Type 0
+SendCause old new (Ok lost) = (old ≤ new) × (min (old + lost) (2 ^ 64 - 1) ≤ new)
+SendCause old new (Err why) = (old ≤ new) × SendFault why

@@ -1,0 +1,15 @@
+//! What holds of a node's run.
+
+ghost use Rattle.std.specs.Prelude.{ℕ, List};
+ghost use Rattle.arrayvec.specs.ArrayVec.{ArrayVec as Array};
+ghost use Rattle.ab_loop.specs.declared.setting.Setting.{Setting as TheSetting};
+ghost use Rattle.ab_loop.specs.Folds.{IsOfCore};
+ghost use Rattle.ab_loop.specs.Nodes.{Turn, first_step, run_after};
+
+use crate::party_core::PartyCore;
+
+/// Whatever its turns bring, a node is where its events lead its core, and what it sends are the
+/// datagrams of what the core sends in them.
+pub fn nodes_follow_their_core<K: PartyCore>()
+    ensures { (s : TheSetting) (reading : ℕ) (core : K) (commands : List (Array ℕ)) (turns : List Turn) → IsOfCore K.rules s core (run_after K.rules s (first_step K.rules s reading core commands) turns) }
+{}

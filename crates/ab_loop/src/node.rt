@@ -1,0 +1,489 @@
+//! One party's core with all that its turns need.
+
+ghost use Rattle.std.specs.Prelude.{◌≡◌, ◌==◌, ◌&&◌, ◌+◌, ◌≤◌, ◌<◌, [], drop, slice_get, MatchOption, IfOk, IfErr, OnOk, OnErr, length, if◌then◌else◌};
+ghost use Rattle.std.specs.declared.option.Option.TheVariants.{None, Some};
+ghost use Rattle.ab_msg.specs.Fields.{IsParty};
+ghost use Rattle.ab_piece.specs.Joining.{answer_of, step_of};
+ghost use Rattle.ab_loop.specs.Cores.{event_of};
+ghost use Rattle.ab_loop.specs.Texts.{reply_text};
+ghost use Rattle.ab_loop.specs.Outside.{Does, Counted, Says, SayCause, capped, counts, outside};
+ghost use Rattle.ab_loop.specs.Nodes.{Follows, Takes, with_joiner, turn_step, command_step, reply_step, datagrams_in, deadline_after, next_deadline, event_step, has_expired, is_done, latest, new_node, parcels_of, datagram_step, after_reply, same_timer, node_after, timer_step, trace_text};
+
+use crate::fault::ServeFault;
+use crate::outside::{say, send_all};
+use crate::parcel::{Parcel, count, parcels};
+use crate::party_core::{Commit, Input, PartyCore, Reaction};
+use crate::setting::Setting;
+use crate::texts::{event_line, reply_line};
+use ab_hist::array_of;
+use ab_io::{Got, Link, Sink};
+use ab_num::{OutOfMemory, Party};
+use ab_piece::{Joiner, Taken};
+use ab_text::Items;
+use arrayvec::ArrayVec;
+use std::alloc::Global;
+use std::marker::Model;
+
+/// A core, what was joined for it, its deadline, the commands of a client, and counts.
+#[derive(Drop)]
+pub(crate) struct Node<K: PartyCore> {
+    core: K,
+    joiner: Joiner,
+    deadline: u64,
+    number: u64,
+    commands: Items<ArrayVec<u8, 128>>,
+    done: usize,
+    commit: Option<Commit>,
+    events: u64,
+    sent: u64,
+    spent: u64,
+}
+
+/// It is seen without the commands that are answered.
+impl<K: PartyCore> Model for Node<K> {
+    ghost use Rattle.std.specs.Prelude.{drop, ◌≤◌, length};
+    ghost use Rattle.ab_loop.specs.Nodes.{Node as TheNode};
+
+    ghost Value = { TheNode K };
+
+    ghost view = { λ n. record {
+      core = n.core;
+      joiner = n.joiner;
+      deadline = n.deadline;
+      number = n.number;
+      commands = drop n.done n.commands;
+      commit = n.commit;
+      events = n.events;
+      sent = n.sent;
+      spent = n.spent;
+    } };
+
+    ghost invariant = { λ n. n.done ≤ length n.commands };
+}
+
+/// The later of two commits.
+fn latest(old: Option<Commit>, new: Option<Commit>) -> Option<Commit>
+    ensures { result ≡ latest old new }
+{
+    match new {
+        Some(commit) => Some(commit),
+        None => old,
+    }
+}
+
+/// Whether a timer goes on as it was.
+fn same_timer(old: Option<u64>, new: Option<u64>) -> bool
+    ensures { result ≡ same_timer old new }
+{
+    match (old, new) {
+        (None, None) => true,
+        (Some(a), Some(b)) => a == b,
+        (None, Some(_)) => false,
+        (Some(_), None) => false,
+    }
+}
+
+/// The deadline of a timer that starts now.
+fn next_deadline(setting: &Setting, t: u64) -> u64
+    ensures { result ≡ next_deadline setting.now t }
+{
+    t.saturating_add(u64::from(setting.wait))
+}
+
+/// The deadline after an event.
+fn deadline_after(
+    setting: &Setting,
+    t: u64,
+    deadline: u64,
+    old: Option<u64>,
+    new: Option<u64>,
+) -> u64
+    ensures { result ≡ deadline_after setting.now t deadline old new }
+{
+    if same_timer(old, new) {
+        deadline
+    } else {
+        next_deadline(setting, t)
+    }
+}
+
+/// One more where it holds.
+fn counted(count: u64, holds: bool) -> u64
+    ensures { result ≡ (if holds then capped (count + 1) else count) }
+{
+    if holds {
+        count.saturating_add(1)
+    } else {
+        count
+    }
+}
+
+/// The line of an event, where a trace is wanted.
+fn announce<O: Sink>(
+    alloc: Global,
+    setting: &Setting,
+    input: &Input<'_>,
+    out: &mut O,
+) -> Result<(), ServeFault>
+    ensures says { Says (O.contents out.old) (O.contents out.new) (trace_text setting.now (event_of input.now)) result }
+    ensures counted { SayCause (O.faults out.old) (O.faults out.new) result }
+{
+    if !setting.trace {
+        return Ok(());
+    }
+    match event_line(alloc, setting.me, input) {
+        Ok(line) => say(out, line.as_slice()),
+        Err(OutOfMemory) => Err(ServeFault::OutOfMemory),
+    }
+}
+
+/// The same command.
+fn copied(command: &ArrayVec<u8, 128>) -> ArrayVec<u8, 128>
+    ensures { result ≡ command.now }
+{
+    array_of(command.as_slice())
+}
+
+/// The place after the first that is unanswered.
+#[tactic(auto, using(crate::proofs::TurnLemmas::drop_next, crate::proofs::TurnLemmas::drop_end))]
+fn after(commands: &[ArrayVec<u8, 128>], done: usize) -> usize
+    requires { done ≤ length commands.now }
+    ensures left { drop result commands.now ≡ drop 1 (drop done commands.now) }
+    ensures within { result ≤ length commands.now }
+{
+    if done < commands.len() {
+        done + 1
+    } else {
+        done
+    }
+}
+
+/// Writes a commit's line.
+fn tell<O: Sink>(alloc: Global, commit: &Commit, out: &mut O) -> Result<(), ServeFault>
+    ensures says { Says (O.contents out.old) (O.contents out.new) (reply_text commit.now) result }
+    ensures counted { SayCause (O.faults out.old) (O.faults out.new) result }
+{
+    match reply_line(alloc, commit) {
+        Ok(line) => say(out, line.as_slice()),
+        Err(OutOfMemory) => Err(ServeFault::OutOfMemory),
+    }
+}
+
+impl<K: PartyCore> Node<K> {
+    /// A node before its first event.
+    pub(crate) fn new(
+        alloc: Global,
+        setting: &Setting,
+        t: u64,
+        core: K,
+        commands: Items<ArrayVec<u8, 128>>,
+    ) -> Node<K>
+        ensures { result ≡ new_node setting.now t core commands }
+    {
+        Node {
+            core,
+            joiner: Joiner::new(alloc),
+            deadline: next_deadline(setting, t),
+            number: 0,
+            commands,
+            done: 0,
+            commit: None,
+            events: 0,
+            sent: 0,
+            spent: 0,
+        }
+    }
+
+    /// Whether this is a client whose commands are answered.
+    pub(crate) fn is_done(&self, setting: &Setting) -> bool
+        ensures { result ≡ is_done setting.now self.now }
+    {
+        match setting.me {
+            Party::Replica(_) => false,
+            Party::Client(_) => self.done == self.commands.as_slice().len(),
+        }
+    }
+
+    /// How many commands are unanswered.
+    pub(crate) fn unanswered(&self) -> u64
+        ensures { result ≡ length self.now.commands }
+    {
+        (self.commands.as_slice().len() - self.done) as u64
+    }
+
+    /// How many events were handled.
+    pub(crate) fn events(&self) -> u64
+        ensures { result ≡ self.now.events }
+    {
+        self.events
+    }
+
+    /// How many datagrams were handed to send.
+    pub(crate) fn sent(&self) -> u64
+        ensures { result ≡ self.now.sent }
+    {
+        self.sent
+    }
+
+    /// How many events were spent.
+    pub(crate) fn spent(&self) -> u64
+        ensures { result ≡ self.now.spent }
+    {
+        self.spent
+    }
+
+    /// A copy of the first command that is unanswered.
+    fn first_command(&self) -> Option<ArrayVec<u8, 128>>
+        ensures { result ≡ slice_get self.now.commands 0 }
+    {
+        self.commands.as_slice().get(self.done).map(copied)
+    }
+
+    /// The commit that isn't printed. With it the open command goes.
+    fn take_commit(&mut self) -> Option<Commit>
+        ensures { MatchOption result ((self.old.commit ≡ None) × (self.new ≡ self.old)) (λ c. (self.old.commit ≡ Some c) × (self.new ≡ after_reply self.old)) }
+    {
+        match self.commit.take() {
+            Some(commit) => {
+                self.done = after(self.commands.as_slice(), self.done);
+                Some(commit)
+            }
+            None => None,
+        }
+    }
+
+    /// Takes a datagram.
+    fn join(&mut self, alloc: Global, datagram: &[u8]) -> Result<Taken, OutOfMemory>
+        ensures answer { IfOk result (λ taken. answer_of taken ≡ (step_of self.old.joiner datagram.now).answer) }
+        ensures node { OnOk result (self.new ≡ with_joiner (step_of self.old.joiner datagram.now).after self.old) }
+    {
+        self.joiner.take(alloc, datagram)
+    }
+
+    /// Whether the timer is on and its time has come.
+    fn has_expired(&self, t: u64) -> bool
+        ensures { result ≡ has_expired K.rules t self.now }
+    {
+        self.core.timer().is_some() && self.deadline <= t
+    }
+
+    /// The core handles an event at time t. All messages are cut before any is sent.
+    #[tactic(auto, unfolding(crate::specs::Nodes::event_step))]
+    fn react(
+        &mut self,
+        alloc: Global,
+        setting: &Setting,
+        t: u64,
+        input: &Input<'_>,
+    ) -> Result<Vec<Parcel>, OutOfMemory>
+        requires base { setting.now.base ≤ 65000 }
+        requires me { IsParty setting.now.me }
+        ensures node { OnOk result (self.new ≡ (event_step K.rules setting.now t (event_of input.now) self.old).node) }
+        ensures sends { IfOk result (λ v. v.items ≡ parcels_of setting.now self.old.number (K.rules.step self.old.core (event_of input.now)).sends) }
+    {
+        let before = self.core.timer();
+        let effects = self.core.step(alloc, input)?;
+        let parcels = parcels(alloc, setting, self.number, effects.sends.as_slice())?;
+        let Reaction {
+            sends,
+            commit,
+            spent,
+        } = effects;
+        self.deadline = deadline_after(setting, t, self.deadline, before, self.core.timer());
+        self.number = self.number.saturating_add(sends.len() as u64);
+        self.commit = latest(self.commit.take(), commit);
+        self.events = counted(self.events, true);
+        self.sent = self.sent.saturating_add(count(parcels.as_slice()));
+        self.spent = counted(self.spent, spent);
+        Ok(parcels)
+    }
+
+    /// An event at time t: its line, where a trace is wanted, what the core does, and its datagrams,
+    /// each handed over once. Answers how many were lost.
+    #[tactic(auto, unfolding(crate::specs::Nodes::event_step))]
+    fn handle<L: Link, O: Sink>(
+        &mut self,
+        alloc: Global,
+        setting: &Setting,
+        t: u64,
+        input: &Input<'_>,
+        link: &mut L,
+        out: &mut O,
+    ) -> Result<u64, ServeFault>
+        requires base { setting.now.base ≤ 65000 }
+        requires me { IsParty setting.now.me }
+        ensures follows { Follows self.new (outside (O.contents out.old) (L.sent link.old)) (outside (O.contents out.new) (L.sent link.new)) (counts (L.faults link.old) (O.faults out.old) (L.losses link.old)) (counts (L.faults link.new) (O.faults out.new) (L.losses link.new)) (event_step K.rules setting.now t (event_of input.now) self.old) result }
+        ensures to_come { L.to_come link.new ≡ L.to_come link.old }
+    {
+        if let Err(fault) = announce(alloc, setting, input, out) {
+            return Err(fault);
+        }
+        match self.react(alloc, setting, t, input) {
+            Ok(parcels) => send_all(link, parcels.as_slice()),
+            Err(OutOfMemory) => Err(ServeFault::OutOfMemory),
+        }
+    }
+
+    /// The timer runs out, if it is on and its time has come.
+    #[tactic(auto, unfolding(crate::specs::Nodes::timer_step))]
+    fn time<L: Link, O: Sink>(
+        &mut self,
+        alloc: Global,
+        setting: &Setting,
+        t: u64,
+        link: &mut L,
+        out: &mut O,
+    ) -> Result<u64, ServeFault>
+        requires base { setting.now.base ≤ 65000 }
+        requires me { IsParty setting.now.me }
+        ensures follows { Follows self.new (outside (O.contents out.old) (L.sent link.old)) (outside (O.contents out.new) (L.sent link.new)) (counts (L.faults link.old) (O.faults out.old) (L.losses link.old)) (counts (L.faults link.new) (O.faults out.new) (L.losses link.new)) (timer_step K.rules setting.now t self.old) result }
+        ensures to_come { L.to_come link.new ≡ L.to_come link.old }
+    {
+        if self.has_expired(t) {
+            match self.handle(alloc, setting, t, &Input::Timeout, link, out) {
+                Ok(lost) => {
+                    self.deadline = next_deadline(setting, t);
+                    Ok(lost)
+                }
+                Err(fault) => Err(fault),
+            }
+        } else {
+            Ok(0)
+        }
+    }
+
+    /// A datagram, which may complete a message.
+    #[tactic(auto, unfolding(crate::specs::Nodes::datagram_step))]
+    fn receive<L: Link, O: Sink>(
+        &mut self,
+        alloc: Global,
+        setting: &Setting,
+        t: u64,
+        datagram: &[u8],
+        link: &mut L,
+        out: &mut O,
+    ) -> Result<u64, ServeFault>
+        requires base { setting.now.base ≤ 65000 }
+        requires me { IsParty setting.now.me }
+        ensures follows { Follows self.new (outside (O.contents out.old) (L.sent link.old)) (outside (O.contents out.new) (L.sent link.new)) (counts (L.faults link.old) (O.faults out.old) (L.losses link.old)) (counts (L.faults link.new) (O.faults out.new) (L.losses link.new)) (datagram_step K.rules setting.now t (Some datagram.now) self.old) result }
+        ensures to_come { L.to_come link.new ≡ L.to_come link.old }
+    {
+        match self.join(alloc, datagram) {
+            Ok(Taken::Whole(message)) => {
+                self.handle(
+                    alloc,
+                    setting,
+                    t,
+                    &Input::Message(message.as_slice()),
+                    link,
+                    out,
+                )
+            }
+            Ok(Taken::More) => Ok(0),
+            Ok(Taken::Dropped(_)) => Ok(0),
+            Err(OutOfMemory) => Err(ServeFault::OutOfMemory),
+        }
+    }
+
+    /// The next command, if there is one.
+    #[tactic(auto, unfolding(crate::specs::Nodes::command_step))]
+    pub(crate) fn ask<L: Link, O: Sink>(
+        &mut self,
+        alloc: Global,
+        setting: &Setting,
+        t: u64,
+        link: &mut L,
+        out: &mut O,
+    ) -> Result<u64, ServeFault>
+        requires base { setting.now.base ≤ 65000 }
+        requires me { IsParty setting.now.me }
+        ensures follows { Follows self.new (outside (O.contents out.old) (L.sent link.old)) (outside (O.contents out.new) (L.sent link.new)) (counts (L.faults link.old) (O.faults out.old) (L.losses link.old)) (counts (L.faults link.new) (O.faults out.new) (L.losses link.new)) (command_step K.rules setting.now t self.old) result }
+        ensures to_come { L.to_come link.new ≡ L.to_come link.old }
+    {
+        match self.first_command() {
+            Some(command) => self.handle(
+                alloc,
+                setting,
+                t,
+                &Input::Invoke(command.as_slice()),
+                link,
+                out,
+            ),
+            None => Ok(0),
+        }
+    }
+
+    /// A commit is printed, and the next command invoked.
+    #[tactic(auto, unfolding(crate::specs::Nodes::reply_step))]
+    fn answer<L: Link, O: Sink>(
+        &mut self,
+        alloc: Global,
+        setting: &Setting,
+        t: u64,
+        link: &mut L,
+        out: &mut O,
+    ) -> Result<u64, ServeFault>
+        requires base { setting.now.base ≤ 65000 }
+        requires me { IsParty setting.now.me }
+        ensures follows { Follows self.new (outside (O.contents out.old) (L.sent link.old)) (outside (O.contents out.new) (L.sent link.new)) (counts (L.faults link.old) (O.faults out.old) (L.losses link.old)) (counts (L.faults link.new) (O.faults out.new) (L.losses link.new)) (reply_step K.rules setting.now t self.old) result }
+        ensures to_come { L.to_come link.new ≡ L.to_come link.old }
+    {
+        match self.take_commit() {
+            Some(commit) => match tell(alloc, &commit, out) {
+                Ok(()) => self.ask(alloc, setting, t, link, out),
+                Err(fault) => Err(fault),
+            },
+            None => Ok(0),
+        }
+    }
+
+    /// What the link gives.
+    fn take<L: Link, O: Sink>(
+        &mut self,
+        alloc: Global,
+        setting: &Setting,
+        t: u64,
+        buf: &mut [u8],
+        link: &mut L,
+        out: &mut O,
+    ) -> Result<u64, ServeFault>
+        requires base { setting.now.base ≤ 65000 }
+        requires me { IsParty setting.now.me }
+        requires buf { 8209 ≤ length buf.old }
+        ensures { Takes (λ got. datagram_step K.rules setting.now t got self.old) self.new (outside (O.contents out.old) (L.sent link.old)) (outside (O.contents out.new) (L.sent link.new)) (counts (L.faults link.old) (O.faults out.old) (L.losses link.old)) (counts (L.faults link.new) (O.faults out.new) (L.losses link.new)) (L.to_come link.old) (L.to_come link.new) result }
+    {
+        match link.recv(buf, setting.wait) {
+            Got::Bytes(n) => self.receive(alloc, setting, t, &buf[..n], link, out),
+            Got::Quiet => Ok(0),
+            Got::Failed => Err(ServeFault::LinkFailed),
+        }
+    }
+
+    /// One turn: the clock's reading t, the timer, the link, the message, the reply. Answers how many
+    /// datagrams were lost.
+    pub(crate) fn turn<L: Link, O: Sink>(
+        &mut self,
+        alloc: Global,
+        setting: &Setting,
+        t: u64,
+        buf: &mut [u8],
+        link: &mut L,
+        out: &mut O,
+    ) -> Result<u64, ServeFault>
+        requires base { setting.now.base ≤ 65000 }
+        requires me { IsParty setting.now.me }
+        requires buf { 8209 ≤ length buf.old }
+        ensures { Takes (λ got. turn_step K.rules setting.now (record { reading = t; got = got }) self.old) self.new (outside (O.contents out.old) (L.sent link.old)) (outside (O.contents out.new) (L.sent link.new)) (counts (L.faults link.old) (O.faults out.old) (L.losses link.old)) (counts (L.faults link.new) (O.faults out.new) (L.losses link.new)) (L.to_come link.old) (L.to_come link.new) result }
+    {
+        match self.time(alloc, setting, t, link, out) {
+            Ok(first) => match self.take(alloc, setting, t, buf, link, out) {
+                Ok(second) => match self.answer(alloc, setting, t, link, out) {
+                    Ok(third) => Ok(first.saturating_add(second).saturating_add(third)),
+                    Err(fault) => Err(fault),
+                },
+                Err(fault) => Err(fault),
+            },
+            Err(fault) => Err(fault),
+        }
+    }
+}

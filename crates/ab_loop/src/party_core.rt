@@ -1,0 +1,97 @@
+//! What a node drives.
+
+ghost use Rattle.std.specs.Prelude.{◌≡◌};
+
+use ab_num::{OutOfMemory, Party};
+use arrayvec::ArrayVec;
+use std::alloc::Global;
+use std::marker::Model;
+
+/// What comes to a party's core.
+#[derive(Clone, Copy)]
+pub enum Input<'a> {
+    /// A client's command.
+    Invoke(&'a [u8]),
+    /// The bytes of a message.
+    Message(&'a [u8]),
+    /// Its timer has run out.
+    Timeout,
+}
+
+/// A commit of a client: the request's stamp and instance, its number, and the reply.
+#[derive(Drop)]
+pub struct Commit {
+    pub stamp: u64,
+    pub instance: u32,
+    pub n: u16,
+    pub reply: ArrayVec<u8, 72>,
+}
+
+/// The bytes of a message, with its tags, and to whom it goes.
+#[derive(Drop)]
+pub struct Sealed {
+    to: Party,
+    bytes: Vec<u8>,
+}
+
+/// Its bytes are seen as a list.
+impl Model for Sealed {
+    ghost use Rattle.ab_loop.specs.Cores.{Sealed as Sent};
+
+    ghost Value = { Sent };
+
+    ghost view = { λ m. record { to = m.to; bytes = m.bytes.items } };
+}
+
+impl Sealed {
+    /// These bytes to this party.
+    pub fn new(to: Party, bytes: Vec<u8>) -> Sealed
+        ensures { result ≡ record { to = to; bytes = bytes.items } }
+    {
+        Sealed { to, bytes }
+    }
+
+    /// To whom it goes.
+    pub fn to(&self) -> Party
+        ensures { result ≡ self.now.to }
+    {
+        self.to
+    }
+
+    /// The message.
+    pub fn bytes(&self) -> &[u8]
+        ensures { result.now ≡ self.now.bytes }
+    {
+        self.bytes.as_slice()
+    }
+}
+
+/// What a core sends and shows in one event.
+#[derive(Drop)]
+pub struct Reaction {
+    pub sends: Vec<Sealed>,
+    pub commit: Option<Commit>,
+    pub spent: bool,
+}
+
+/// One party's state, as functions of what comes to it.
+pub trait PartyCore: Sized + Drop {
+    ghost use Rattle.std.specs.Prelude.{◌≡◌, All, IfOk, OnErr};
+    ghost use Rattle.ab_loop.specs.Cores.{Rules, IsSendable, event_of};
+
+    /// What each event leaves, sends and shows.
+    ghost rules: { Rules Self };
+
+    /// Handles an event. After an `Err` it is as before.
+    fn step(&mut self, alloc: Global, input: &Input<'_>) -> Result<Reaction, OutOfMemory>
+        ensures after { IfOk result (λ e. self.new ≡ (rules.step self.old (event_of input.now)).after) }
+        ensures sends { IfOk result (λ e. e.sends.items ≡ (rules.step self.old (event_of input.now)).sends) }
+        ensures commit { IfOk result (λ e. e.commit ≡ (rules.step self.old (event_of input.now)).commit) }
+        ensures spent { IfOk result (λ e. e.spent ≡ (rules.step self.old (event_of input.now)).spent) }
+        ensures sendable { IfOk result (λ e. All IsSendable e.sends.items) }
+        ensures err { OnErr result (self.new ≡ self.old) };
+
+    /// None where its timer is off; else the timer runs anew whenever the number changes.
+    fn timer(&self) -> Option<u64>
+        ensures { result ≡ rules.timer self.now };
+}

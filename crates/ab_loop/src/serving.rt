@@ -1,0 +1,182 @@
+//! A node from its start to its end.
+
+ghost use Rattle.std.specs.Prelude.{◌≡◌, ◌≤◌, ℕ, IfOk, IfErr, length};
+ghost use Rattle.ab_msg.specs.Fields.{IsParty};
+ghost use Rattle.ab_loop.specs.Outside.{Says, SayCause, outside, counts};
+ghost use Rattle.ab_loop.specs.Texts.{end_text};
+ghost use Rattle.ab_loop.specs.Runs.{HasServed, HasBroken, HasRun, ShowsNumbers, ShowsOpen, HasFaultOf, start_of};
+
+use crate::fault::ServeFault;
+use crate::node::Node;
+use crate::outside::say;
+use crate::parcel::port_of;
+use crate::party_core::PartyCore;
+use crate::setting::Setting;
+use crate::texts::end_line;
+use ab_io::{Clock, Failed, LONGEST_DATAGRAM, Link, Sink};
+use ab_num::Party;
+use ab_text::Items;
+use arrayvec::ArrayVec;
+use std::alloc::Global;
+
+/// A client's commands, each of 1 to 128 bytes.
+pub type Commands = Items<ArrayVec<u8, 128>>;
+
+/// What a node has to do: a client has commands, a replica has none, and both have their turns.
+#[derive(Drop)]
+pub struct Job<K: PartyCore> {
+    pub core: K,
+    pub setting: Setting,
+    pub commands: Commands,
+    pub turns: u64,
+}
+
+/// The numbers of a node that has ended.
+#[derive(Clone, Copy, Debug, PartialEq, Eq)]
+pub struct Served {
+    pub events: u64,
+    pub sent: u64,
+    pub lost: u64,
+    pub spent: u64,
+}
+
+/// The first command, and then turns, until the commands are answered or the turns are used. Answers
+/// the node and how many datagrams were lost.
+fn drive<K: PartyCore, L: Link, C: Clock, O: Sink>(
+    alloc: Global,
+    core: K,
+    setting: &Setting,
+    commands: Commands,
+    turns: u64,
+    buf: &mut [u8],
+    link: &mut L,
+    clock: &mut C,
+    out: &mut O,
+) -> Result<(Node<K>, u64), ServeFault>
+    requires base { setting.now.base ≤ 65000 }
+    requires me { IsParty setting.now.me }
+    requires buf { 8209 ≤ length buf.old }
+    ensures ok { IfOk result (λ r. HasRun K.rules (start_of setting.now turns core commands (C.readings clock.old) (L.to_come link.old)) (outside (O.contents out.old) (L.sent link.old)) (outside (O.contents out.new) (L.sent link.new)) (counts (L.faults link.old) (O.faults out.old) (L.losses link.old)) (counts (L.faults link.new) (O.faults out.new) (L.losses link.new)) r.0 r.1) }
+    ensures err { IfErr result (λ why. HasBroken K.rules (start_of setting.now turns core commands (C.readings clock.old) (L.to_come link.old)) (outside (O.contents out.old) (L.sent link.old)) (outside (O.contents out.new) (L.sent link.new)) (counts (L.faults link.old) (O.faults out.old) (L.losses link.old)) (counts (L.faults link.new) (O.faults out.new) (L.losses link.new)) why) }
+{
+    let first = clock.now();
+    let mut node = Node::new(alloc, setting, first, core, commands);
+    let mut lost = match node.ask(alloc, setting, first, link, out) {
+        Ok(lost) => lost,
+        Err(fault) => return Err(fault),
+    };
+    'turns: for _turn in 0..turns {
+        if node.is_done(setting) {
+            return Ok((node, lost));
+        }
+        let t = clock.now();
+        match node.turn(alloc, setting, t, buf, link, out) {
+            Ok(more) => lost = lost.saturating_add(more),
+            Err(fault) => return Err(fault),
+        }
+    }
+    Ok((node, lost))
+}
+
+/// Writes the line of the end.
+fn say_end<K: PartyCore, O: Sink>(
+    alloc: Global,
+    node: &Node<K>,
+    lost: u64,
+    out: &mut O,
+) -> Result<(), ServeFault>
+    ensures says { Says (O.contents out.old) (O.contents out.new) (end_text node.now.events node.now.sent lost node.now.spent) result }
+    ensures counted { SayCause (O.faults out.old) (O.faults out.new) result }
+{
+    match end_line(alloc, node.events(), node.sent(), lost, node.spent()) {
+        Ok(line) => say(out, line.as_bytes()),
+        Err(_) => Err(ServeFault::OutOfMemory),
+    }
+}
+
+/// The turns, and then the line of the end.
+fn run<K: PartyCore, L: Link, C: Clock, O: Sink>(
+    alloc: Global,
+    core: K,
+    setting: &Setting,
+    commands: Commands,
+    turns: u64,
+    buf: &mut [u8],
+    link: &mut L,
+    clock: &mut C,
+    out: &mut O,
+) -> Result<Served, ServeFault>
+    requires base { setting.now.base ≤ 65000 }
+    requires me { IsParty setting.now.me }
+    requires buf { 8209 ≤ length buf.old }
+    ensures ok { IfOk result (λ served. HasServed K.rules (start_of setting.now turns core commands (C.readings clock.old) (L.to_come link.old)) (outside (O.contents out.old) (L.sent link.old)) (outside (O.contents out.new) (L.sent link.new)) (counts (L.faults link.old) (O.faults out.old) (L.losses link.old)) (counts (L.faults link.new) (O.faults out.new) (L.losses link.new)) served) }
+    ensures err { IfErr result (λ why. HasFaultOf K.rules (start_of setting.now turns core commands (C.readings clock.old) (L.to_come link.old)) (outside (O.contents out.old) (L.sent link.old)) (outside (O.contents out.new) (L.sent link.new)) (counts (L.faults link.old) (O.faults out.old) (L.losses link.old)) (counts (L.faults link.new) (O.faults out.new) (L.losses link.new)) why) }
+{
+    match drive(alloc, core, setting, commands, turns, buf, link, clock, out) {
+        Ok((node, lost)) => match say_end(alloc, &node, lost, out) {
+            Ok(()) => ended(setting, &node, lost),
+            Err(fault) => Err(fault),
+        },
+        Err(fault) => Err(fault),
+    }
+}
+
+/// Serves a party: its events are those of the turn rule, its text and its datagrams are those of its
+/// core, and after a fault a front of them.
+pub fn serve<K: PartyCore, L: Link, C: Clock, O: Sink>(
+    alloc: Global,
+    job: Job<K>,
+    link: &mut L,
+    clock: &mut C,
+    out: &mut O,
+) -> Result<Served, ServeFault>
+    requires base { job.setting.base ≤ 65000 }
+    requires me { IsParty job.setting.me }
+    ensures ok { IfOk result (λ served. HasServed K.rules (start_of job.setting job.turns job.core job.commands (C.readings clock.old) (L.to_come link.old)) (outside (O.contents out.old) (L.sent link.old)) (outside (O.contents out.new) (L.sent link.new)) (counts (L.faults link.old) (O.faults out.old) (L.losses link.old)) (counts (L.faults link.new) (O.faults out.new) (L.losses link.new)) served) }
+    ensures err { IfErr result (λ why. HasFaultOf K.rules (start_of job.setting job.turns job.core job.commands (C.readings clock.old) (L.to_come link.old)) (outside (O.contents out.old) (L.sent link.old)) (outside (O.contents out.new) (L.sent link.new)) (counts (L.faults link.old) (O.faults out.old) (L.losses link.old)) (counts (L.faults link.new) (O.faults out.new) (L.losses link.new)) why) }
+{
+    let Job {
+        core,
+        setting,
+        commands,
+        turns,
+    } = job;
+    let Ok(mut buf) = Vec::from_elem(alloc, 0u8, LONGEST_DATAGRAM) else {
+        return Err(ServeFault::OutOfMemory);
+    };
+    match link.open(port_of(setting.base, setting.me)) {
+        Ok(()) => run(
+            alloc, core, &setting, commands, turns, &mut buf, link, clock, out,
+        ),
+        Err(Failed) => Err(ServeFault::LinkFailed),
+    }
+}
+
+/// What is answered at the end.
+fn ended<K: PartyCore>(setting: &Setting, node: &Node<K>, lost: u64) -> Result<Served, ServeFault>
+    ensures ok { IfOk result (λ served. ShowsNumbers setting.now node.now lost served) }
+    ensures err { IfErr result (λ why. ShowsOpen setting.now node.now why) }
+{
+    match setting.me {
+        Party::Replica(_) => Ok(numbers(node, lost)),
+        Party::Client(_) => {
+            let unanswered = node.unanswered();
+            if unanswered == 0 {
+                Ok(numbers(node, lost))
+            } else {
+                Err(ServeFault::TurnsSpent(unanswered))
+            }
+        }
+    }
+}
+
+fn numbers<K: PartyCore>(node: &Node<K>, lost: u64) -> Served
+    ensures { result ≡ record { events = node.now.events; sent = node.now.sent; lost = lost; spent = node.now.spent } }
+{
+    Served {
+        events: node.events(),
+        sent: node.sent(),
+        lost,
+        spent: node.spent(),
+    }
+}

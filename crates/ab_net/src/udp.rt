@@ -1,0 +1,102 @@
+//! Datagrams over the loopback address.
+
+ghost use Rattle.std.specs.Prelude.{◌≤◌, length};
+ghost use Rattle.std.specs.declared.option.Option.TheVariants.{None};
+ghost use Rattle.ab_io.specs.Datagrams.{FitsIn};
+
+use ab_io::{Failed, Got, LONGEST_DATAGRAM, Link, Refused};
+use std::io::ErrorKind;
+use std::net::{Ipv4Addr, Net, SocketAddrV4, UdpSocket};
+use std::time::Duration;
+
+/// A socket on the loopback address, once it is open, how often it has failed, and how many datagrams it
+/// has lost.
+#[derive(Drop)]
+pub struct UdpLink<R: Net + Drop> {
+    net: R,
+    socket: Option<UdpSocket>,
+    faults: u64,
+    losses: u64,
+}
+
+impl<R: Net + Drop> UdpLink<R> {
+    /// A link that isn't open.
+    pub fn new(net: R) -> Self {
+        UdpLink {
+            net,
+            socket: None,
+            faults: 0,
+            losses: 0,
+        }
+    }
+}
+
+/// A port of this machine.
+fn address(port: u16) -> SocketAddrV4 {
+    SocketAddrV4::new(Ipv4Addr::LOCALHOST, port)
+}
+
+/// What comes at a socket within so many milliseconds, but at least one, since a socket takes no wait
+/// of none.
+fn received(socket: &UdpSocket, buf: &mut [u8], wait_ms: u32) -> Got
+    requires { 8209 ≤ length buf.old }
+    ensures { FitsIn 8209 result }
+{
+    let wait = Duration::from_millis(u64::from(wait_ms.max(1)));
+    if socket.set_read_timeout(Some(wait)).is_err() {
+        return Got::Failed;
+    }
+    match socket.recv_from(&mut buf[..LONGEST_DATAGRAM]) {
+        Ok((count, _)) => Got::Bytes(count.min(LONGEST_DATAGRAM)),
+        Err(fault) => match fault.kind() {
+            ErrorKind::WouldBlock | ErrorKind::TimedOut | ErrorKind::Interrupted => Got::Quiet,
+            _ => Got::Failed,
+        },
+    }
+}
+
+impl<R: Net + Drop> Link for UdpLink<R> {
+    ghost to_come = { λ _. None };
+
+    ghost sent = { λ _. None };
+
+    ghost faults = { λ l. l.faults };
+
+    ghost losses = { λ l. l.losses };
+
+    fn open(&mut self, port: u16) -> Result<(), Failed> {
+        match UdpSocket::bind(&self.net, address(port)) {
+            Ok(socket) => {
+                self.socket = Some(socket);
+                Ok(())
+            }
+            Err(_) => {
+                self.faults = self.faults.saturating_add(1);
+                Err(Failed)
+            }
+        }
+    }
+
+    fn recv(&mut self, buf: &mut [u8], wait_ms: u32) -> Got {
+        let got = match &self.socket {
+            Some(socket) => received(socket, buf, wait_ms),
+            None => Got::Failed,
+        };
+        if got == Got::Failed {
+            self.faults = self.faults.saturating_add(1);
+        }
+        got
+    }
+
+    fn send(&mut self, port: u16, bytes: &[u8]) -> Result<(), Refused> {
+        let sent = match &self.socket {
+            Some(socket) => socket.send_to(bytes, address(port)).is_ok(),
+            None => false,
+        };
+        if sent {
+            return Ok(());
+        }
+        self.losses = self.losses.saturating_add(1);
+        Err(Refused::Failed)
+    }
+}
