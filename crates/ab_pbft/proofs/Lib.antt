@@ -4,3 +4,5 @@ pub mod GoodValues
 pub mod Growing
 pub mod Allowed
 pub mod SlotValues
+pub mod ChangeInputs
+pub mod EventSteps
