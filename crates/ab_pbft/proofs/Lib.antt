@@ -6,3 +6,5 @@ pub mod Allowed
 pub mod SlotValues
 pub mod ChangeInputs
 pub mod EventSteps
+pub mod ExecutedLists
+pub mod OneOrder
