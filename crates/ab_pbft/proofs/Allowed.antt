@@ -1,5 +1,5 @@
 -- Whatever a replica is handed, the steps that it takes are allowed. So it executes no more than its slots, and leaves nothing undone.
-use Rattle.std.proofs.Common.{◌≡◌, ℕ, suc, ◌*◌, ◌+◌, ◌<◌, ◌≤◌, None, List, [], ◌∷◌, ◌++◌, inl, inr, length, refl, sym, ap, ◌∙◌, subst}
+use Rattle.std.proofs.Common.{◌≡◌, ℕ, suc, ◌*◌, ◌<◌, ◌≤◌, None, List, [], ◌∷◌, ◌++◌, inl, inr, length, refl, sym, ap, ◌∙◌, subst}
 use Rattle.std.specs.Prelude.{nat_lt}
 use Rattle.std.specs.Str.{bytes_eq}
 use Rattle.std.proofs.lemmas.Bool.{cases_Bool}
@@ -43,9 +43,10 @@ module _ (seat : Seat) where
   settles_on w was =
       let p = w.at.peer in
       let so = subst (λ (s : State Value). Follows slot_digest goes seat.k (settled slot_digest bytes_eq goes seat.f seat.me fuel s p.votes p.commits ++ was.trace)
-      × (state_by (settled slot_digest bytes_eq goes seat.f seat.me fuel s p.votes p.commits) s ≡ state_of (settled slot_digest bytes_eq goes seat.f seat.me fuel s p.votes p.commits ++ was.trace))) (sym was.core)
-      (settled_follows slot_digest bytes_eq goes seat.k seat.f seat.me fuel was.trace p.votes p.commits was.follows,
-      state_by-state_of (settled slot_digest bytes_eq goes seat.f seat.me fuel (state_of was.trace) p.votes p.commits) was.trace) in
+      × (state_by (settled slot_digest bytes_eq goes seat.f seat.me fuel s p.votes p.commits) s ≡ state_of (settled slot_digest bytes_eq goes seat.f seat.me fuel s p.votes p.commits ++ was.trace))) (sym was.core) (
+        settled_follows slot_digest bytes_eq goes seat.k seat.f seat.me fuel was.trace p.votes p.commits was.follows,
+        state_by-state_of (settled slot_digest bytes_eq goes seat.f seat.me fuel (state_of was.trace) p.votes p.commits) was.trace,
+      ) in
       record { trace = settles_by slot_digest bytes_eq goes seat.f seat.me fuel w.at.peer ++ was.trace; follows = so.0; core = so.1 }
 
   pub settle_quiet : (w : Work) → IsAllowed seat w → IsQuiet seat (settle seat w)

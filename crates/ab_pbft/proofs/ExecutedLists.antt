@@ -77,4 +77,3 @@ pub list_rises : (x : Setting) (k : ℕ) (acts : List Act) (h : List Value) → 
 list_rises x k acts [] source fit = λ i j d lt within. absurd (omega (arith, within))
 list_rises x k acts (Base b ∷ h) source fit = log_history slot_digest k b h (source 0 (Base b) refl).1 fit
 list_rises x k acts (Order m ∷ h) source fit = λ i j d lt within. absurd (omega (arith, within))
-

@@ -8,3 +8,7 @@ pub mod ChangeInputs
 pub mod EventSteps
 pub mod ExecutedLists
 pub mod OneOrder
+pub mod LockedActs
+pub mod StandingLaws
+pub mod OrderlyOrderer
+pub mod LawfulOrderer

@@ -41,7 +41,7 @@ lt_of a b h = grind (arith, nat_tests)
 eq_of : (a b : ℕ) → (a == b) ≡ true → a ≡ b
 eq_of a b is = (Decides-eqb a b).0 is
 
-empty_is : {A : Type 0} (xs : List A) → is_empty xs ≡ true → xs ≡ []
+pub empty_is : {A : Type 0} (xs : List A) → is_empty xs ≡ true → xs ≡ []
 empty_is [] is = refl
 empty_is (y ∷ ys) is = absurd (cc (is))
 
