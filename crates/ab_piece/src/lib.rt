@@ -1,0 +1,21 @@
+//! Messages in pieces that fit into datagrams: cut, and joined again.
+#![tactic(auto)]
+
+mod cutting;
+mod datagram;
+mod joiner;
+mod laws;
+mod opened;
+mod reading;
+mod taken;
+
+pub use cutting::{Pieces, cut};
+pub use joiner::Joiner;
+pub use laws::{
+    cut_messages_come_whole, cut_pieces_are_read, open_messages_are_bounded, pieces_are_read,
+    whole_messages_came,
+};
+pub use taken::{Cause, Taken};
+
+#[cfg(test)]
+mod tests;
