@@ -12,3 +12,4 @@ pub mod LockedActs
 pub mod StandingLaws
 pub mod OrderlyOrderer
 pub mod LawfulOrderer
+pub mod Computed

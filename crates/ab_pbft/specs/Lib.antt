@@ -3,3 +3,4 @@ pub mod Traces
 pub mod Locks
 pub mod Rules
 pub mod Standing
+pub mod Examples
