@@ -146,38 +146,53 @@ module _ {V X : Type 0} (digest : V → X) where
               | inr differ ↦ backs_more a acts r step (lawful_backs acts lawful.2 r step (subst (λ (l : List (Step V X)). Contains l step) (steps_other a acts r differ) is))
             ]
 
--- what the acts of one replica or of many made stands in the traces of its makers: then what a replica knows of others is so
-module _ {V X : Type 0} (digest : V → X) (f : ℕ) (faulty : List Party) (traces : ℕ → List (Step V X)) (Made : Content X → Type 0)
-    (signs_in : (r v n : ℕ) (x : X) → Made (Prepare r v n x) → Contains (traces r) (signs v n x))
-    (changes_in : (r w : ℕ) (entries : List (Entry X)) → Made (ViewChange r w entries) → Contains (traces r) (changes w entries))
-    (commits_in : (r v n : ℕ) (x : X) → Made (Commit r v n x) → HasPrepared digest traces r v n x)
-    (acts : List (Act V X)) (r : ℕ) (knows_made : (c : Content X) → is_faulty faulty (Replica (maker_of c)) ≡ false → Knows digest acts r c → Made c) where
-  known_certified : (v n : ℕ) (x : X) → KnowsQuorum digest f acts r (λ q. Prepare q v n x) → IsCertified f faulty traces v n x
-  known_certified v n x many = record {
-    by = many.by;
-    replicas = many.replicas;
-    enough = many.enough;
-    signed = λ q is ok. signs_in q v n x (knows_made (Prepare q v n x) ok.1 (many.each q is));
-  }
+-- a content is made by its maker
+pub maker_made : {V X : Type 0} (digest : V → X) (r : ℕ) (step : Step V X) (c : Content X) → Contains (made digest r step) c → r ≡ maker_of c
+maker_made digest r step (Prepare q v n x) has = (made_prepare digest r q v n x step has).0
+maker_made digest r step (Commit q v n x) has = (made_commit digest r q v n x step has).0
+maker_made digest r step (ViewChange q v l) has = (made_change digest r q v l step has).0
 
-  -- what a step rests on
-  pub backed_rests : (Source Known : ℕ → V → Type 0) → ((n : ℕ) (value : V) → Known n value → Source n value) → (step : Step V X) → Backs digest f Known acts r step → RestsOn digest f faulty traces Source step
-  backed_rests Source Known source (accepts n value) backs = source n value backs
-  backed_rests Source Known source (signs v n x) backs = tt
-  backed_rests Source Known source (prepares v h) backs = λ n value len is. known_certified v n (digest value) (backs n value len is)
-  backed_rests Source Known source (changes w entries) backs = tt
-  backed_rests Source Known source (enters w vcs chosen) backs = record {
-    replicas = backs.replicas;
-    enough = backs.enough;
-    signed = λ c is ok. changes_in c.by w (map (entry_of digest) c.certs) (knows_made (ViewChange c.by w (map (entry_of digest) c.certs)) ok.1 (backs.signed c is));
-    fits = λ c is t cert there. let b = backs.fits c is t cert there in (b.0, known_certified cert.at t (digest cert.value) b.1);
-  }
-  backed_rests Source Known source (executes v n value) backs = record {
-    by = backs.by;
-    replicas = backs.replicas;
-    enough = backs.enough;
-    prepared = λ q is ok. commits_in q v n (digest value) (knows_made (Commit q v n (digest value)) ok.1 (backs.each q is));
-  }
+-- where what was made stands in the traces of its makers, a step rests on what its replica knows
+module _ {V X : Type 0} (digest : V → X) (f : ℕ) (faulty : List Party) (traces : ℕ → List (Step V X)) (Made : Content X → Type 0)
+    (made_by : (c : Content X) → Made c → (step : Step V X) × Contains (traces (maker_of c)) step × Contains (made digest (maker_of c) step) c) where
+  signs_in : (r v n : ℕ) (x : X) → Made (Prepare r v n x) → Contains (traces r) (signs v n x)
+  signs_in r v n x was = let m = made_by (Prepare r v n x) was in subst (λ (z : Step V X). Contains (traces r) z) (made_prepare digest r r v n x m.0 m.2).1 m.1
+
+  changes_in : (r w : ℕ) (entries : List (Entry X)) → Made (ViewChange r w entries) → Contains (traces r) (changes w entries)
+  changes_in r w entries was = let m = made_by (ViewChange r w entries) was in subst (λ (z : Step V X). Contains (traces r) z) (made_change digest r r w entries m.0 m.2).1 m.1
+
+  pub commits_in : (r v n : ℕ) (x : X) → Made (Commit r v n x) → HasPrepared digest traces r v n x
+  commits_in r v n x was =
+      let m = made_by (Commit r v n x) was in
+      let p = (made_commit digest r r v n x m.0 m.2).1 in
+      record { values = p.values; is_in = subst (λ (z : Step V X). Contains (traces r) z) p.is_step m.1; slot = p.slot; is_at = p.is_at }
+
+  module _ (acts : List (Act V X)) (r : ℕ) (knows_made : (c : Content X) → is_faulty faulty (Replica (maker_of c)) ≡ false → Knows digest acts r c → Made c) where
+    known_certified : (v n : ℕ) (x : X) → KnowsQuorum digest f acts r (λ q. Prepare q v n x) → IsCertified f faulty traces v n x
+    known_certified v n x many = record {
+      by = many.by;
+      replicas = many.replicas;
+      enough = many.enough;
+      signed = λ q is ok. signs_in q v n x (knows_made (Prepare q v n x) ok.1 (many.each q is));
+    }
+
+    pub backed_rests : (Known Source : ℕ → V → Type 0) → ((n : ℕ) (value : V) → Known n value → Source n value) → (step : Step V X) → Backs digest f Known acts r step → RestsOn digest f faulty traces Source step
+    backed_rests Known Source source (accepts n value) backs = source n value backs
+    backed_rests Known Source source (signs v n x) backs = tt
+    backed_rests Known Source source (prepares v h) backs = λ n value len is. known_certified v n (digest value) (backs n value len is)
+    backed_rests Known Source source (changes w entries) backs = tt
+    backed_rests Known Source source (enters w vcs chosen) backs = record {
+      replicas = backs.replicas;
+      enough = backs.enough;
+      signed = λ c is ok. changes_in c.by w (map (entry_of digest) c.certs) (knows_made (ViewChange c.by w (map (entry_of digest) c.certs)) ok.1 (backs.signed c is));
+      fits = λ c is t cert there. let b = backs.fits c is t cert there in (b.0, known_certified cert.at t (digest cert.value) b.1);
+    }
+    backed_rests Known Source source (executes v n value) backs = record {
+      by = backs.by;
+      replicas = backs.replicas;
+      enough = backs.enough;
+      prepared = λ q is ok. commits_in q v n (digest value) (knows_made (Commit q v n (digest value)) ok.1 (backs.each q is));
+    }
 
 module _ {V X : Type 0} (digest : V → X) (f : ℕ) (faulty : List Party) (acts : List (Act V X)) (honest : IsHonest digest faulty acts) where
   claim_made : (more : List (Act V X)) → IsHonest digest faulty more → (a : Act V X) → Contains more a → (c : Content X) → Contains a.claims c
@@ -193,8 +208,13 @@ module _ {V X : Type 0} (digest : V → X) (f : ℕ) (faulty : List Party) (acts
   known_made r c ok (taken a is own claims) = claim_made acts honest a is c claims ok
   known_made r c ok (its_own was) = was
 
-  in_trace : (a : Act V X) (r : ℕ) (step : Step V X) → Contains acts a → a.by ≡ r → Contains a.steps step → Contains (steps_of acts r) step
-  in_trace a r step is own has = subst (λ (q : ℕ). Contains (steps_of acts q) step) own (steps_in digest acts a step is has)
+  stepped : (c : Content X) → WasMade digest acts c → (step : Step V X) × Contains (steps_of acts (maker_of c)) step × Contains (made digest (maker_of c) step) c
+  stepped c was =
+      let by = maker_made digest was.act.by was.step c was.makes in (
+        was.step,
+        subst (λ (q : ℕ). Contains (steps_of acts q) was.step) by (steps_in digest acts was.act was.step was.is_in was.is_step),
+        subst (λ (q : ℕ). Contains (made digest q was.step) c) by was.makes,
+      )
 
   -- the premises of Lock, from acts
   pub premises_of : (Source : ℕ → V → Type 0) (goes : List V → V → Bool) (k : ℕ) → count_by is_replica faulty ≤ f → AreLawful digest f Source goes k acts → NoCollision digest f faulty (steps_of acts)
@@ -203,17 +223,6 @@ module _ {V X : Type 0} (digest : V → X) (f : ℕ) (faulty : List Party) (acts
     few = few;
     follows = λ r ok. lawful_follows digest f Source goes k acts lawful r;
     rests = λ r ok step is.
-        backed_rests digest f faulty (steps_of acts) (WasMade digest acts)
-        (λ q v n x was. let m = made_prepare digest was.act.by q v n x was.step was.makes in in_trace was.act q (signs v n x) was.is_in m.0 (subst (λ (z : Step V X). Contains was.act.steps z) m.1 was.is_step))
-        (λ q w entries was. let m = made_change digest was.act.by q w entries was.step was.makes in in_trace was.act q (changes w entries) was.is_in m.0 (subst (λ (z : Step V X). Contains was.act.steps z) m.1 was.is_step))
-        (λ q v n x was.
-        let m = made_commit digest was.act.by q v n x was.step was.makes in
-        record {
-          values = m.1.values;
-          is_in = in_trace was.act q (prepares v m.1.values) was.is_in m.0 (subst (λ (z : Step V X). Contains was.act.steps z) m.1.is_step was.is_step);
-          slot = m.1.slot;
-          is_at = m.1.is_at;
-        })
-        acts r (known_made r) Source Source (λ n value source. source) step (lawful_backs digest f Source goes k acts lawful r step is);
+        backed_rests digest f faulty (steps_of acts) (WasMade digest acts) stepped acts r (known_made r) Source Source (λ n value source. source) step (lawful_backs digest f Source goes k acts lawful r step is);
     apart = apart;
   }

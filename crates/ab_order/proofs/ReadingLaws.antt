@@ -27,7 +27,7 @@ use Rattle.ab_abs.proofs.Lists.{Contains-cons_cases}
 use Rattle.ab_abs.proofs.Statements.{one_of, none_of}
 use Rattle.ab_order.specs.Orders.{values_shown}
 use Rattle.ab_order.specs.Inputs.{Input, request, pre_prepare, prepare, commit, other, ProvedSlot, ChangeInput, slots_claims, change_claims as change_claims_in, change_values, input_claims, input_values, offered_by, IsChange, IsGiven}
-use Rattle.ab_order.specs.Readings.{IsReading, is_of_slot, with_slot, proved_slot, slots_of, with_slots, is_ours, change_by, change_of, with_change, changes_of, read_request, base_offered, read_base, read_offer, read_pre_prepare, read_prepare, read_commit, read_change, read_new_view_of, read_new_view, read_message, read}
+use Rattle.ab_order.specs.Readings.{IsReading, is_own_request, is_of_slot, with_slot, proved_slot, slots_of, with_slots, is_ours, change_by, change_of, with_change, changes_of, read_request, base_offered, read_base, read_offer, read_pre_prepare, read_prepare, read_commit, read_change, read_new_view_of, read_new_view, read_message, read}
 
 pub Contains-filter : {A : Type 0} (p : A → Bool) (xs : List A) (y : A) → Contains xs y → p y ≡ true → Contains (filter p xs) y
 Contains-filter p [] y has is = absurd (none_of y has)
@@ -92,7 +92,7 @@ module _ (c : Cluster) (i : ℕ) where
 
   reads_asked : (q j : ℕ) (m : Request) (values : List (List Value)) → IsReading c i (Req (Client q) j m ∷ []) values None (read_request i (Req (Client q) j m))
   reads_asked q j m values =
-      either_way (IsReading c i (Req (Client q) j m ∷ []) values None) ((j == i) && (q == m.client)) (request m)
+      either_way (IsReading c i (Req (Client q) j m ∷ []) values None) (is_own_request i j q m) (request m)
       (λ is.
       let b = both_of (j == i) (q == m.client) is in
       let same : Req (Client q) j m ≡ Req (Client m.client) i m = ap (λ z. Req (Client z) j m) (eq_of q m.client b.1) ∙ ap (λ z. Req (Client m.client) z m) (eq_of j i b.0) in

@@ -37,10 +37,14 @@ abbrev pub keep_asked : Option Request → List Request → List Request
 keep_asked None kept = kept
 keep_asked (Some m) kept = keep m kept
 
--- the answer to a request, if it stands in the log, where the base has b entries
+-- the number of a request at place n, where the base has b entries
+abbrev pub number_of : ℕ → ℕ → ℕ
+number_of n b = max n b
+
+-- the answer to a request, if it stands in the log
 abbrev pub answer_in : {S : Type 0} → Machine S → ℕ → ℕ → ℕ → List Request → Request → Option ℕ → List Content
 answer_in machine i me b log m None = []
-answer_in machine i me b log m (Some n) = made_of i me m (Some (vote_at machine log m n (max n b)))
+answer_in machine i me b log m (Some n) = made_of i me m (Some (vote_at machine log m n (number_of n b)))
 
 abbrev pub answer_of : {S : Type 0} → Machine S → ℕ → ℕ → ℕ → List Request → Request → List Content
 answer_of machine i me b log m = answer_in machine i me b log m (place_in log m)
