@@ -18,7 +18,7 @@ use Rattle.ab_lock.specs.Events.{state_by, settles_by, entered_peer, with_vote, 
 use Rattle.ab_lock.proofs.VoteLemmas.{IsInView, settled_in_view}
 use Rattle.ab_order.specs.Inputs.{Input, request, pre_prepare_base, pre_prepare, prepare, commit, view_change, new_view, timeout, other, ChangeInput}
 use Rattle.ab_pbft.specs.Traces.{OrderStep}
-use Rattle.ab_pbft.specs.Rules.{offers, Seat, Doing, takes_step, leads, Work, core_of, with_peer, does, is_empty, first_fit, change_of, fits, may_enter, smaller, least_above, keep_request, keep_change, is_done, settle, take_value, offer, offer_base, offer_next, offer_requests, is_primary_of, may_propose, propose, may_lead, lead, leave_to, follow_to, follow, may_take, may_take_base, may_take_request, may_follow, work}
+use Rattle.ab_pbft.specs.Rules.{offers, Seat, Doing, takes_step, leads, Work, core_of, with_peer, does, is_empty, first_fit, change_of, fits, may_enter, smaller, least_above, keep_request, keep_change, is_done, settle, take_value, offer, offer_base, offer_next, offer_requests, is_primary_of, may_propose, propose, may_lead, lead, leave_to, follow_to, follow, may_take, has_room, base_value, is_current, next_view, may_take_base, may_take_request, may_follow, work}
 
 pub and_both : (a b : Bool) → a && b ≡ true → (a ≡ true) × (b ≡ true)
 and_both true b is = (refl, is)
@@ -134,12 +134,12 @@ module _ (seat : Seat) (e : Input) (start : Work) where
     offers_requests : (n : ℕ) (w : Work) → P w → (core_of w).changing ≡ false → P (offer_requests seat n w)
     offers_requests zero w was still = was
     offers_requests (suc n) w was still =
-        elim (cases_Bool (nat_le (length (core_of w).accepted) seat.k)) [
+        elim (cases_Bool (has_room seat w)) [
           | inl room ↦ rw room (of_fit (first_fit (core_of w).accepted w.at.requests) refl room (λ v q. offers_requests n v q))
           | inr full ↦ rw full was
         ]
       where
-        of_fit : (o : Option Request) → first_fit (core_of w).accepted w.at.requests ≡ o → nat_le (length (core_of w).accepted) seat.k ≡ true → ((v : Work) → P v → (core_of v).changing ≡ false → P (offer_requests seat n v)) → P (offer_next seat (offer_requests seat n) w o)
+        of_fit : (o : Option Request) → first_fit (core_of w).accepted w.at.requests ≡ o → has_room seat w ≡ true → ((v : Work) → P v → (core_of v).changing ≡ false → P (offer_requests seat n v)) → P (offer_next seat (offer_requests seat n) w o)
         of_fit None is room rest = was
         of_fit (Some m) is room rest =
             let fits = first_fit_is (core_of w).accepted w.at.requests m is in
@@ -151,7 +151,7 @@ module _ (seat : Seat) (e : Input) (start : Work) where
           | inr full ↦ rw full (was, still)
           | inl opens ↦
               let none = empty_is (core_of w).accepted (and_both (is_empty (core_of w).accepted) (not (is_empty w.at.requests)) opens).0 in
-              rw opens (offer_kept w (Base seat.base) was still (omega (arith, ap length none)) (ap (λ l. goes l (Base seat.base)) none) (λ d. own_base none refl), still)
+              rw opens (offer_kept w (base_value seat) was still (omega (arith, ap length none)) (ap (λ l. goes l (base_value seat)) none) (λ d. own_base none refl), still)
         ]
 
     proposed : (w : Work) → P w → P (if may_propose seat w then offer_requests seat (suc seat.k) (offer_base seat w) else w)
@@ -240,12 +240,12 @@ module _ (seat : Seat) (e : Input) (start : Work) where
           | inl now ↦ rw now (kept.settles (take_value (Order m) start) (takes_request by view slot x m is was now))
         ]
     of_input (prepare by view slot x) is was =
-        elim (cases_Bool (view == (core_of start).view)) [
+        elim (cases_Bool (is_current seat start view)) [
           | inr differs ↦ rw differs was
           | inl same ↦ rw same (kept.settles _ (kept.keeps_vote by slot x (is ∙ ap (λ v. prepare by v slot x) (eq_of view (core_of start).view same)) was))
         ]
     of_input (commit by view slot x) is was =
-        elim (cases_Bool (view == (core_of start).view)) [
+        elim (cases_Bool (is_current seat start view)) [
           | inr differs ↦ rw differs was
           | inl same ↦ rw same (kept.settles _ (kept.keeps_commit by slot x (is ∙ ap (λ v. commit by v slot x) (eq_of view (core_of start).view same)) was))
         ]
@@ -262,7 +262,7 @@ module _ (seat : Seat) (e : Input) (start : Work) where
     of_input timeout is was =
         elim (cases_Bool (is_done seat start || nat_le 4294967295 (core_of start).view)) [
           | inl rests ↦ rw rests was
-          | inr on ↦ rw on (leads_on (leave_to seat (suc (core_of start).view) start) (kept.leaves start (suc (core_of start).view) was (omega arith)))
+          | inr on ↦ rw on (leads_on (leave_to seat (next_view seat start) start) (kept.leaves start (next_view seat start) was (omega arith)))
         ]
     of_input other is was = was
 
@@ -305,12 +305,12 @@ module _ (seat : Seat) (e : Input) (start : Work) where
             | inl now ↦ rw now (settled (take_value (Order m) start) (takes_request by view slot x m is was now))
           ]
       ends_of (prepare by view slot x) is was ends =
-          elim (cases_Bool (view == (core_of start).view)) [
+          elim (cases_Bool (is_current seat start view)) [
             | inr differs ↦ rw differs ends
             | inl same ↦ rw same (settled (with_peer start (with_vote (record { by = by; slot = slot; x = x }) start.at.peer) []) (kept.keeps_vote by slot x (is ∙ ap (λ v. prepare by v slot x) (eq_of view (core_of start).view same)) was))
           ]
       ends_of (commit by view slot x) is was ends =
-          elim (cases_Bool (view == (core_of start).view)) [
+          elim (cases_Bool (is_current seat start view)) [
             | inr differs ↦ rw differs ends
             | inl same ↦ rw same (settled (with_peer start (with_commit (record { by = by; slot = slot; x = x }) start.at.peer) []) (kept.keeps_commit by slot x (is ∙ ap (λ v. commit by v slot x) (eq_of view (core_of start).view same)) was))
           ]
@@ -327,7 +327,7 @@ module _ (seat : Seat) (e : Input) (start : Work) where
       ends_of timeout is was ends =
           elim (cases_Bool (is_done seat start || nat_le 4294967295 (core_of start).view)) [
             | inl rests ↦ rw rests ends
-            | inr on ↦ rw on (leads_end (leave_to seat (suc (core_of start).view) start) (kept.leaves start (suc (core_of start).view) was (omega arith)) (left (suc (core_of start).view) start))
+            | inr on ↦ rw on (leads_end (leave_to seat (next_view seat start) start) (kept.leaves start (next_view seat start) was (omega arith)) (left (next_view seat start) start))
           ]
       ends_of other is was ends = ends
 

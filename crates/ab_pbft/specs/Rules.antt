@@ -144,17 +144,23 @@ module _ (seat : Seat) where
   offer value w = take_value value (does (offers (core_of w).view (length (core_of w).accepted) value) w)
 
   -- its own base in slot 0, if a request waits and nothing is accepted
+  abbrev pub base_value : Value
+  base_value = Base seat.base
+
   abbrev pub offer_base : Work → Work
-  offer_base w = if is_empty (core_of w).accepted && not (is_empty w.at.requests) then offer (Base seat.base) w else w
+  offer_base w = if is_empty (core_of w).accepted && not (is_empty w.at.requests) then offer base_value w else w
 
   -- and then one request after the other, up to slot k
+  abbrev pub has_room : Work → Bool
+  has_room w = nat_le (length (core_of w).accepted) seat.k
+
   abbrev pub offer_next : (Work → Work) → Work → Option Request → Work
   offer_next rest w None = w
   offer_next rest w (Some m) = rest (offer (Order m) w)
 
   abbrev pub offer_requests : ℕ → Work → Work
   offer_requests zero w = w
-  offer_requests (suc n) w = if nat_le (length (core_of w).accepted) seat.k then offer_next (offer_requests n) w (first_fit (core_of w).accepted w.at.requests) else w
+  offer_requests (suc n) w = if has_room w then offer_next (offer_requests n) w (first_fit (core_of w).accepted w.at.requests) else w
 
   abbrev pub may_propose : Work → Bool
   may_propose w = is_primary_of (core_of w).view seat.me && (not (core_of w).changing && not (is_done w))
@@ -209,15 +215,22 @@ module _ (seat : Seat) where
   may_follow w by view changes =
       is_primary_of view by && ((nat_lt (core_of w).view view || ((core_of w).view == view) && (core_of w).changing) && may_enter seat.f view changes)
 
+  -- a vote counts in its own view
+  abbrev pub is_current : Work → ℕ → Bool
+  is_current w view = view == (core_of w).view
+
+  abbrev pub next_view : Work → ℕ
+  next_view w = suc (core_of w).view
+
   abbrev pub work : Input → Work → Work
   work (request m) w = propose (keep_request m w)
   work (pre_prepare_base by view x h) w = if may_take_base w by view x h then settle (take_value (Base h) w) else w
   work (pre_prepare by view slot x m) w = if may_take_request w by view slot x m then settle (take_value (Order m) w) else w
-  work (prepare by view slot x) w = if view == (core_of w).view then settle (with_peer w (with_vote (record { by = by; slot = slot; x = x }) w.at.peer) []) else w
-  work (commit by view slot x) w = if view == (core_of w).view then settle (with_peer w (with_commit (record { by = by; slot = slot; x = x }) w.at.peer) []) else w
+  work (prepare by view slot x) w = if is_current w view then settle (with_peer w (with_vote (record { by = by; slot = slot; x = x }) w.at.peer) []) else w
+  work (commit by view slot x) w = if is_current w view then settle (with_peer w (with_commit (record { by = by; slot = slot; x = x }) w.at.peer) []) else w
   work (view_change change) w = if fits seat.f change then lead (follow (keep_change change w)) else w
   work (new_view by view changes) w = if may_follow w by view changes then enter_view view (map change_of changes) w else w
-  work timeout w = if is_done w || nat_le 4294967295 (core_of w).view then w else lead (leave_to (suc (core_of w).view) w)
+  work timeout w = if is_done w || nat_le 4294967295 (core_of w).view then w else lead (leave_to (next_view w) w)
   work other w = w
 
 -- before an event
