@@ -39,11 +39,10 @@ returns-in-Err-PacketLimit-clause-cause g c =
     let e = c.index-events-i.result in
     let events = c.args.events.now in
     let refused : stepped proto c.loop-i.world e ≡ Err PacketLimit =
-        subst (λ (f : WorldFault). Cause proto f c.loop-i.world e) c.in-Err-PacketLimit.field-0-is c.in-Err-PacketLimit.ensures.cause in
-    let next : drop i events ≡ e ∷ drop (i + 1) events = at_drop_more (λ t. t) events i e c.loop-i-test.true ∙ ap (λ x. x ∷ drop (i + 1) events) (sym c.index-events-i.is) in
-    (
+    subst (λ (f : WorldFault). Cause proto f c.loop-i.world e) c.in-Err-PacketLimit.field-0-is c.in-Err-PacketLimit.ensures.cause in
+    let next : drop i events ≡ e ∷ drop (i + 1) events = at_drop_more (λ t. t) events i e c.loop-i-test.true ∙ ap (λ x. x ∷ drop (i + 1) events) (sym c.index-events-i.is) in (
       i + 1,
       sym c.loop-i.invariant.rest
-      ∙ ap (outcome proto (i + 1) c.loop-i.world) next
-      ∙ ap (λ r. refused_or proto (i + 1) r (λ v. outcome proto (i + 1 + 1) v (drop (i + 1) events))) refused,
+          ∙ ap (outcome proto (i + 1) c.loop-i.world) next
+          ∙ ap (λ r. refused_or proto (i + 1) r (λ v. outcome proto (i + 1 + 1) v (drop (i + 1) events))) refused,
     )
