@@ -1,5 +1,5 @@
 -- A choice between two lawful protocols keeps the laws that a run rests on.
-use Rattle.std.proofs.Common.{◌≡◌, ℕ, Bool, true, false, ◌||◌, None, List, refl}
+use Rattle.std.proofs.Common.{◌≡◌, ℕ, Bool, true, false, ◌||◌, None, List, [], refl}
 use Rattle.std.specs.Prelude.{IsTrue}
 use Rattle.ab_num.specs.declared.plan.Kind.{Kind}
 use Rattle.ab_num.specs.Places.{kind_of}

@@ -1,6 +1,5 @@
 -- What a Backup over PBFT comes to by the messages of the example.
-use Rattle.std.proofs.Common.{◌≡◌, ℕ, true, Some, None, List, [], ◌∷◌, map, refl, ap, ◌∙◌, subst}
-use Rattle.ab_num.specs.Places.{limit_of}
+use Rattle.std.proofs.Common.{◌≡◌, true, Some, List, [], ◌∷◌, map, refl, ap, ◌∙◌}
 use Rattle.ab_svc.specs.Machines.{Machine}
 use Rattle.ab_msg.specs.declared.message.Msg.{Msg}
 use Rattle.ab_abs.specs.Messages.{took}
@@ -9,7 +8,7 @@ use Rattle.ab_order.specs.Readings.{read}
 use Rattle.ab_order.specs.Backups.{Backing, is_done}
 use Rattle.ab_order.specs.Protos.{OrderProto, Obeys, told, backup}
 use Rattle.ab_pbft.specs.Rules.{Pbft, pbft}
-use Rattle.ab_pbft.specs.Examples as orders
+use Rattle.ab_pbft.specs.Examples as inputs
 use Rattle.ab_pbft.specs.Examples.{begun_with, voted}
 use Rattle.ab_pbft.proofs.Computed.{primary_executes, primary_based}
 use Rattle.ab_run.specs.Examples.{one}
@@ -17,7 +16,7 @@ use Rattle.ab_plans.specs.Examples.{cluster, messages, no_pen, after_all, primar
 
 module _ {S P : Type 0} (machine : Machine S) (orders : OrderProto P Pbft) (obeys : Obeys orders pbft) where
   abbrev read_all : List Msg → List Input
-  read_all messages = map (λ m. read cluster 1 (took m)) messages
+  read_all all = map (λ m. read cluster 1 (took m)) all
 
   -- it is in instance 1, of which it orders one request, and the rules see this
   record IsIn (v : Backing P) (p : Pbft) : Type 0 where
@@ -26,14 +25,14 @@ module _ {S P : Type 0} (machine : Machine S) (orders : OrderProto P Pbft) (obey
     instance_is : orders.instance v.order ≡ 1
     view_is : orders.view v.order ≡ p
 
-  reads : (messages : List Msg) (v : Backing P) (p : Pbft) → IsIn v p → IsIn (after_all machine orders v messages) (orders.after_all p (read_all messages))
+  reads : (all : List Msg) (v : Backing P) (p : Pbft) → IsIn v p → IsIn (after_all machine orders v all) (inputs.after_all p (read_all all))
   reads [] v p was = was
-  reads (m ∷ messages) v p was =
+  reads (m ∷ all) v p was =
       let w = (backup orders pbft machine).after no_pen v (took m) in
       let e = read cluster 1 (took m) in
       let told_is : told orders v.order (took m) ≡ e = ap (λ c. read c (orders.instance v.order) (took m)) was.cluster_is ∙ ap (λ i. read cluster i (took m)) was.instance_is in
       let stays = obeys.stays no_pen v.order (took m) in
-      reads messages w (pbft.after p e)
+      reads all w (pbft.after p e)
       (record {
         limit = was.limit;
         cluster_is = stays.0 ∙ was.cluster_is;
@@ -41,7 +40,7 @@ module _ {S P : Type 0} (machine : Machine S) (orders : OrderProto P Pbft) (obey
         view_is = obeys.goes_on no_pen v.order (took m) ∙ (ap (λ q. pbft.after q (told orders v.order (took m))) was.view_is ∙ ap (λ z. pbft.after p z) told_is);
       })
 
-  ends : IsIn (after_all machine orders (primary machine orders) messages) (orders.after_all (begun_with 1 0) (voted one))
+  ends : IsIn (after_all machine orders (primary machine orders) messages) (inputs.after_all (begun_with 1 0) (voted one))
   ends =
       let placed = obeys.placed cluster 1 0 _ in
       reads messages (primary machine orders) (begun_with 1 0) (record { limit = refl; cluster_is = placed.0; instance_is = placed.1; view_is = obeys.begins cluster 1 0 _ })
@@ -54,4 +53,4 @@ module _ {S P : Type 0} (machine : Machine S) (orders : OrderProto P Pbft) (obey
       let v = after_all machine orders (primary machine orders) messages in
       ap (λ k. is_done k (pbft.base (orders.view v.order)) (pbft.ordered (orders.view v.order))) ends.limit
       ∙ (ap (λ p. is_done 1 (pbft.base p) (pbft.ordered p)) ends.view_is
-      ∙ (ap (λ b. is_done 1 b (pbft.ordered (orders.after_all (begun_with 1 0) (voted one)))) (primary_based one) ∙ ap (λ log. is_done 1 (Some []) log) (primary_executes one)))
+      ∙ (ap (λ b. is_done 1 b (pbft.ordered (inputs.after_all (begun_with 1 0) (voted one)))) (primary_based one) ∙ ap (λ log. is_done 1 (Some []) log) (primary_executes one)))

@@ -14,9 +14,7 @@ use Rattle.ab_abs.specs.Order.{Ordered}
 use Rattle.ab_abs.specs.Promises.{ServesAll}
 use Rattle.ab_abs.specs.Ensembles.{Proto}
 use Rattle.ab_abs.proofs.Reach.{reached_abstract, reached_ordered}
-use Rattle.ab_choice.specs.Rules.{either, sound_by, stands_by}
-use Rattle.ab_order.specs.Inputs.{handed, Given}
-use Rattle.ab_order.specs.Backups.{Backing}
+use Rattle.ab_choice.specs.Rules.{sound_by, stands_by}
 use Rattle.ab_order.specs.Protos.{OrderProto, Obeys, is_backup, backup, backup_sound, backup_stands}
 use Rattle.ab_order.proofs.ProtoLaws as laws
 use Rattle.ab_pbft.specs.Traces.{IsPbftSound}
@@ -24,15 +22,13 @@ use Rattle.ab_pbft.specs.Rules.{Pbft, pbft}
 use Rattle.ab_pbft.specs.Standing.{PbftStands}
 use Rattle.ab_pbft.proofs.OrderlyOrderer.{pbft_orderly}
 use Rattle.ab_pbft.proofs.LawfulOrderer.{pbft_lawful}
-use Rattle.ab_quorum.specs.Rules.{is_quorum}
-use Rattle.ab_chain.specs.Rules.{is_chain}
 use Rattle.ab_zlight.specs.Rules.{is_zlight}
 use Rattle.ab_run.specs.Setups.{Setup}
 use Rattle.ab_run.specs.Runs.{Event, run, named_by}
 use Rattle.ab_run.specs.Premises.{RunPremises, AreFormed}
 use Rattle.ab_run.proofs.Events.{whole_run_abstract, whole_run_ordered}
 use Rattle.ab_plans.specs.Lawful.{IsLawfulProto}
-use Rattle.ab_plans.specs.Runs.{with_backup, served}
+use Rattle.ab_plans.specs.Runs.{with_backup, served, is_fast}
 use Rattle.ab_plans.proofs.Choosing.{choice_law}
 
 module _ {S P : Type 0} (machine : Machine S) (proto : Proto P) (serves : Kind → Bool) (sound : Setting → List Act → Type 0) (stands : Setting → P → ℕ → List Act → Type 0) (law : IsLawfulProto machine proto serves sound stands)
@@ -56,7 +52,8 @@ module _ {S Q : Type 0} (machine : Machine S) (orders : OrderProto Q Pbft) (obey
     stands_stays = laws.stays machine orders pbft obeys pbft_orderly IsPbftSound PbftStands pbft_lawful;
     sound_nil = laws.nil machine orders pbft obeys pbft_orderly IsPbftSound PbftStands pbft_lawful;
     lawful_start = laws.start machine orders pbft obeys pbft_orderly IsPbftSound PbftStands pbft_lawful;
-    lawful_on = laws.takes machine orders pbft obeys pbft_orderly IsPbftSound PbftStands pbft_lawful;
+    lawful_on = λ x acts me pen v call seen served may was.
+        laws.takes machine orders pbft obeys pbft_orderly IsPbftSound PbftStands pbft_lawful x acts me pen v call seen may was served;
     lawful_stop = laws.halts machine orders pbft obeys pbft_orderly IsPbftSound PbftStands pbft_lawful;
     lawful_others = laws.others machine orders pbft obeys pbft_orderly IsPbftSound PbftStands pbft_lawful;
     sound_abstract = laws.abstract_of machine orders pbft obeys pbft_orderly IsPbftSound PbftStands pbft_lawful;
@@ -85,10 +82,10 @@ azyzzyva_served c is i one = subst (λ (p : Plan). IsTrue (served is_zlight (kin
     of_test true = refl
     of_test false = refl
 
-pub aliph_served : (c : Cluster) → c.plan ≡ plan.Aliph → ServesAll (served (either is_quorum is_chain)) c
-aliph_served c is i one = subst (λ (p : Plan). IsTrue (served (either is_quorum is_chain) (kind_of p i))) (sym is) (of_tests (nat_eq (i % 3) 1) (nat_eq (i % 3) 2))
+pub aliph_served : (c : Cluster) → c.plan ≡ plan.Aliph → ServesAll (served is_fast) c
+aliph_served c is i one = subst (λ (p : Plan). IsTrue (served is_fast (kind_of p i))) (sym is) (of_tests (nat_eq (i % 3) 1) (nat_eq (i % 3) 2))
   where
-    of_tests : (b d : Bool) → IsTrue (served (either is_quorum is_chain) (if b then kind.Quorum else if d then kind.Chain else kind.Backup))
+    of_tests : (b d : Bool) → IsTrue (served is_fast (if b then kind.Quorum else if d then kind.Chain else kind.Backup))
     of_tests true d = refl
     of_tests false true = refl
     of_tests false false = refl

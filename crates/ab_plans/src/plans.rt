@@ -5,16 +5,12 @@ ghost use Rattle.ab_num.specs.declared.plan.Plan.TheVariants as plan;
 ghost use Rattle.ab_abs.specs.Instances.{EachIsAbstract};
 ghost use Rattle.ab_abs.specs.Order.{Ordered};
 ghost use Rattle.ab_abs.specs.Promises.{ServesAll};
-ghost use Rattle.ab_chain.specs.Rules.{is_chain, chain};
-ghost use Rattle.ab_choice.specs.Rules.{choice, either};
 ghost use Rattle.ab_order.specs.Protos.{OrderProto, Obeys};
 ghost use Rattle.ab_pbft.specs.Rules.{Pbft, pbft};
-ghost use Rattle.ab_quorum.specs.Rules.{is_quorum, quorum};
 ghost use Rattle.ab_run.specs.Setups.{Setup};
 ghost use Rattle.ab_run.specs.Runs.{Event, run, named_by};
 ghost use Rattle.ab_run.specs.Premises.{RunPremises, AreFormed};
-ghost use Rattle.ab_zlight.specs.Rules.{is_zlight, zlight};
-ghost use Rattle.ab_plans.specs.Runs.{with_backup, served};
+ghost use Rattle.ab_plans.specs.Runs.{with_backup, served, azyzzyva, aliph};
 
 use ab_abs::Protocol;
 use ab_chain::Chain;
@@ -41,13 +37,11 @@ pub fn runs_with_backups_are_ordered<S: Service, P: Protocol<S>, Q>()
 /// ordered where it meets the premises, and each instance keeps its own promises.
 pub fn azyzzyva_is_ordered<S: Service, Q>()
     ensures ordered { (orders : OrderProto Q Pbft) (k : Setup) (events : List Event) → Obeys orders pbft → k.cluster.plan ≡ plan.AZyzzyva
-        → let proto = with_backup S.machine (zlight S.machine) is_zlight orders in
-        let w = run k proto events in
-        AreFormed k events → RunPremises k proto events → Ordered S.machine w.seen (named_by k w) k.faulty }
+        → let w = run k (azyzzyva S.machine orders) events in
+        AreFormed k events → RunPremises k (azyzzyva S.machine orders) events → Ordered S.machine w.seen (named_by k w) k.faulty }
     ensures instances { (orders : OrderProto Q Pbft) (k : Setup) (events : List Event) → Obeys orders pbft → k.cluster.plan ≡ plan.AZyzzyva
-        → let proto = with_backup S.machine (zlight S.machine) is_zlight orders in
-        let w = run k proto events in
-        AreFormed k events → RunPremises k proto events → EachIsAbstract S.machine w.seen (named_by k w) k.faulty }
+        → let w = run k (azyzzyva S.machine orders) events in
+        AreFormed k events → RunPremises k (azyzzyva S.machine orders) events → EachIsAbstract S.machine w.seen (named_by k w) k.faulty }
 {
     runs_with_backups_are_ordered::<S, ZLight<S>, Q>()
 }
@@ -56,13 +50,11 @@ pub fn azyzzyva_is_ordered<S: Service, Q>()
 /// ordered where it meets the premises, and each instance keeps its own promises.
 pub fn aliph_is_ordered<S: Service, Q>()
     ensures ordered { (orders : OrderProto Q Pbft) (k : Setup) (events : List Event) → Obeys orders pbft → k.cluster.plan ≡ plan.Aliph
-        → let proto = with_backup S.machine (choice (quorum S.machine) (chain S.machine) is_quorum) (either is_quorum is_chain) orders in
-        let w = run k proto events in
-        AreFormed k events → RunPremises k proto events → Ordered S.machine w.seen (named_by k w) k.faulty }
+        → let w = run k (aliph S.machine orders) events in
+        AreFormed k events → RunPremises k (aliph S.machine orders) events → Ordered S.machine w.seen (named_by k w) k.faulty }
     ensures instances { (orders : OrderProto Q Pbft) (k : Setup) (events : List Event) → Obeys orders pbft → k.cluster.plan ≡ plan.Aliph
-        → let proto = with_backup S.machine (choice (quorum S.machine) (chain S.machine) is_quorum) (either is_quorum is_chain) orders in
-        let w = run k proto events in
-        AreFormed k events → RunPremises k proto events → EachIsAbstract S.machine w.seen (named_by k w) k.faulty }
+        → let w = run k (aliph S.machine orders) events in
+        AreFormed k events → RunPremises k (aliph S.machine orders) events → EachIsAbstract S.machine w.seen (named_by k w) k.faulty }
 {
     runs_with_backups_are_ordered::<S, Choice<Quorum<S>, Chain<S>>, Q>()
 }
