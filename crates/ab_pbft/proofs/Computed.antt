@@ -1,5 +1,5 @@
 -- What a replica comes to by the inputs of the examples.
-use Rattle.std.proofs.Common.{◌≡◌, ℕ, true, false, Option, None, List, [], ◌∷◌, refl, ap, ◌∙◌}
+use Rattle.std.proofs.Common.{◌≡◌, ℕ, true, false, Option, Some, None, List, [], ◌∷◌, refl, ap, ◌∙◌}
 use Rattle.std.specs.Str.{bytes_eq}
 use Rattle.std.proofs.lemmas.Slice.Eq.{bytes_eq-Decides}
 use Rattle.ab_hist.specs.declared.request.Request.{Request}
@@ -107,6 +107,9 @@ module _ (m : Request) where
 
   pub primary_executes : pbft.ordered (after_all (begun_with 1 0) (voted m)) ≡ m ∷ []
   primary_executes = ap (λ (p : Pbft). pbft.ordered p) ends
+
+  pub primary_based : pbft.base (after_all (begun_with 1 0) (voted m)) ≡ Some []
+  primary_based = ap (λ (p : Pbft). pbft.base p) ends
 
   -- the one replica of a cluster in view 1, which it entered from its own VIEW-CHANGE
   abbrev own : Kept Value

@@ -1,5 +1,5 @@
 -- Fitting values are of their slots, comparable ones are comparable logs, and digests that differ tell them apart.
-use Rattle.std.proofs.Common.{◌≡◌, ℕ, zero, suc, ◌≤◌, true, Some, List, [], ◌∷◌, ◌++◌, ◌⊎◌, length, take, slice_get, refl, sym, ap, ◌∙◌, subst, inl, inr, arith, append_assoc, append-nil, false}
+use Rattle.std.proofs.Common.{◌≡◌, ℕ, zero, suc, ◌≤◌, true, Some, List, [], ◌∷◌, ◌++◌, length, take, slice_get, refl, sym, ap, ◌∙◌, subst, arith, append_assoc, append-nil, false}
 use Rattle.std.specs.Prelude.{Contains}
 use Rattle.std.proofs.lemmas.Option.{slice_get_within}
 use mathlib.Core.List.{IsPrefix}
@@ -41,10 +41,6 @@ log_prefix [] ys p = (list_of ys, refl)
 log_prefix (Order m ∷ xs) ys p = (list_of ys, refl)
 log_prefix (Base h ∷ xs) ys p =
     (orders p.0, append_assoc h (orders xs) (orders p.0) ∙ (ap (λ l. h ++ l) (sym (orders-append xs p.0)) ∙ ap (λ l. list_of l) p.1))
-
-pub logs_comparable : (xs ys : List Value) → IsPrefix xs ys ⊎ IsPrefix ys xs → IsPrefix (list_of xs) (list_of ys) ⊎ IsPrefix (list_of ys) (list_of xs)
-logs_comparable xs ys (inl p) = inl (log_prefix xs ys p)
-logs_comparable xs ys (inr p) = inr (log_prefix ys xs p)
 
 -- no two bases and no two requests that stand have one digest: no two values of one slot have
 pub values_apart : (Occurs : ℕ → Value → Type 0) → ((t : ℕ) (a : Value) → Occurs t a → IsOfSlot t a)
