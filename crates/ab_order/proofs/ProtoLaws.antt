@@ -70,7 +70,7 @@ by_equal kind.Quorum f is = absurd (cc (is))
 by_equal kind.ZLight f is = absurd (cc (is))
 by_equal kind.Chain f is = absurd (cc (is))
 
-Contains-map_cases : {A B : Type 0} (g : A → B) (xs : List A) (y : B) → Contains (map g xs) y → (x : A) × Contains xs x × (g x ≡ y)
+pub Contains-map_cases : {A B : Type 0} (g : A → B) (xs : List A) (y : B) → Contains (map g xs) y → (x : A) × Contains xs x × (g x ≡ y)
 Contains-map_cases g [] y has = absurd (none_of y has)
 Contains-map_cases g (x ∷ xs) y has =
     elim (Contains-cons_cases (g x) (map g xs) y has) [
