@@ -1,6 +1,6 @@
 -- A Backup over a lawful orderer is lawful.
 use Rattle.std.proofs.Common.{◌≡◌, ◌≢◌, ℕ, zero, suc, ◌+◌, ◌<◌, ◌≤◌, Bool, true, false, Some, None, Option, List, [], ◌∷◌, ◌++◌, ◌⊎◌, length, refl, sym, ap, ◌∙◌, subst, inl, inr, arith, append-nil, length-append}
-use Rattle.std.specs.Prelude.{Contains, IsTrue, nat_le, nat_lt, slice_get, unwrap_or, if◌then◌else◌}
+use Rattle.std.specs.Prelude.{Contains, IsTrue, nat_le, nat_lt, slice_get, unwrap_or}
 use Rattle.std.proofs.lemmas.Bool.{cases_Bool, cases_lt}
 use Rattle.std.proofs.lemmas.Option.{slice_get_within}
 use Rattle.std.proofs.lemmas.Bool.Decides.{nat_tests}
@@ -31,7 +31,7 @@ use Rattle.ab_abs.proofs.Statements.{one_of, none_of}
 use Rattle.ab_abs.proofs.Orders.{order_promises}
 use Rattle.ab_order.specs.Orders.{OrderPremises, IsOneOrder, IsQuiet, is_ordering}
 use Rattle.ab_order.specs.Orderers.{IsReached, by_input, Handed, Ordering, base_at, begun_empty, IsTurn, IsOrderly, IsLawfulOrderer}
-use Rattle.ab_order.specs.Backups.{Backing, keep, keep_asked, is_done, answer_in, answer_of, asked_list, executed_now, answers_by, backup_begin, backup_after, backup_state, first_answers, later_answers, IsBackupTurn, IsBackupSound, BackupStands}
+use Rattle.ab_order.specs.Backups.{Backing, keep, keep_asked, is_done, answer_in, answer_of, asked_list, executed_now, answers_by, backup_begin, backup_after, backup_state, unless_stopped, first_answers, later_answers, IsBackupTurn, IsBackupSound, BackupStands}
 use Rattle.ab_order.proofs.OwnActs.{own_cases, own_own, own_state, own_within, own_grows, tail_within, claimed_within}
 use Rattle.ab_order.proofs.Answering.{answer_right, answer_later, due, IsDue, kept_asking, executed, place_of}
 
@@ -252,7 +252,7 @@ module _ {S P E : Type 0} (machine : Machine S) (handed : Handed E) (proto : Ord
           → (m : Request) × Contains (asked_list (handed.asked e)) m × Contains (answer_of machine v.instance v.me (length (base_at proto p)) (proto.ordered p) m) s
       first_of {s} has = of_stop (at v).stopped has
         where
-          of_stop : (b : Bool) → Contains (if b then [] else answers_by proto handed machine v (asked_list (handed.asked e))) s
+          of_stop : (b : Bool) → Contains (unless_stopped b (answers_by proto handed machine v (asked_list (handed.asked e)))) s
               → (m : Request) × Contains (asked_list (handed.asked e)) m × Contains (answer_of machine v.instance v.me (length (base_at proto v.order)) (proto.ordered v.order) m) s
           of_stop true none = absurd (none_of s none)
           of_stop false has = flat_map_cases (answer_of machine v.instance v.me (length (base_at proto v.order)) (proto.ordered v.order)) (asked_list (handed.asked e)) s has
@@ -264,7 +264,7 @@ module _ {S P E : Type 0} (machine : Machine S) (handed : Handed E) (proto : Ord
           → (m : Request) × Contains due_now m × Contains (answer_of machine v.instance v.me (length (base_at proto q)) (proto.ordered q) m) s
       later_of {s} has = of_stop (at v).stopped has
         where
-          of_stop : (b : Bool) → Contains (if b then [] else answers_by proto handed machine (next v e) due_now) s
+          of_stop : (b : Bool) → Contains (unless_stopped b (answers_by proto handed machine (next v e) due_now)) s
               → (m : Request) × Contains due_now m × Contains (answer_of machine v.instance v.me (length (base_at proto q)) (proto.ordered q) m) s
           of_stop true none = absurd (none_of s none)
           of_stop false has = flat_map_cases (answer_of machine v.instance v.me (length (base_at proto q)) (proto.ordered q)) due_now s has

@@ -1,6 +1,6 @@
 -- A Backup over a lawful orderer, as a protocol, keeps the laws of one.
-use Rattle.std.proofs.Common.{◌≡◌, ℕ, zero, suc, ◌+◌, ◌-◌, ◌^◌, ◌<◌, ◌≤◌, Bool, true, false, Option, Some, None, List, [], ◌∷◌, ◌++◌, ◌⊎◌, refl, sym, ap, ◌∙◌, subst, inl, inr, arith, map, length}
-use Rattle.std.specs.Prelude.{Contains, IsTrue, if◌then◌else◌, slice_get}
+use Rattle.std.proofs.Common.{◌≡◌, ℕ, zero, suc, ◌+◌, ◌^◌, ◌<◌, ◌≤◌, Bool, true, false, Option, Some, None, List, [], ◌∷◌, ◌++◌, ◌⊎◌, refl, sym, ap, ◌∙◌, subst, inl, inr, arith, map, length}
+use Rattle.std.specs.Prelude.{Contains, IsTrue, slice_get}
 use Rattle.std.proofs.Math.Nat.{pow-le-pow_right}
 use Rattle.std.proofs.lemmas.Option.{none-some, same_Some}
 use Rattle.std.proofs.lemmas.List.Elements.{Contains-append_left, Contains-append_right, Contains-append_cases}
@@ -48,7 +48,7 @@ use Rattle.ab_abs.proofs.Certified.{certificate_is, certificate_written}
 use Rattle.ab_order.specs.Inputs.{Input, handed, offered_by, Given}
 use Rattle.ab_order.specs.Orders.{is_ordering}
 use Rattle.ab_order.specs.Orderers.{Ordering, base_at, IsReached, from_start, by_input, IsOrderly, IsLawfulOrderer}
-use Rattle.ab_order.specs.Backups.{Backing, answer_in, answer_of, asked_list, answers_by, keep_asked, backup_begin, backup_after, backup_state, first_answers, later_answers, IsBackupTurn, BackupStands}
+use Rattle.ab_order.specs.Backups.{Backing, answer_in, answer_of, asked_list, answers_by, keep_asked, backup_begin, backup_after, backup_state, unless_stopped, first_answers, later_answers, IsBackupTurn, BackupStands}
 use Rattle.ab_order.specs.Readings.{IsReading, base_offered, read}
 use Rattle.ab_order.specs.Protos.{is_backup, OrderProto, Obeys, told, viewed, answer_out, backup, backup_sound, backup_stands}
 use Rattle.ab_order.proofs.OwnActs.{own_own}
@@ -70,7 +70,7 @@ by_equal kind.Quorum f is = absurd (cc (is))
 by_equal kind.ZLight f is = absurd (cc (is))
 by_equal kind.Chain f is = absurd (cc (is))
 
-Contains-map_cases : {A B : Type 0} (g : A → B) (xs : List A) (y : B) → Contains (map g xs) y → (x : A) × Contains xs x × (g x ≡ y)
+pub Contains-map_cases : {A B : Type 0} (g : A → B) (xs : List A) (y : B) → Contains (map g xs) y → (x : A) × Contains xs x × (g x ≡ y)
 Contains-map_cases g [] y has = absurd (none_of y has)
 Contains-map_cases g (x ∷ xs) y has =
     elim (Contains-cons_cases (g x) (map g xs) y has) [
@@ -331,7 +331,7 @@ module _ {S P Q : Type 0} (machine : Machine S) (orders : OrderProto P Q) (proto
       of_place None has = absurd (none_of s has)
       of_place (Some n) has = let e = one_of _ s has in (ap maker_of (sym e), ap instance_of (sym e))
 
-  answers_own : (b : Bool) (w : Backing Q) (requests : List Request) (s : Content) → Contains (if b then [] else answers_by proto handed machine w requests) s → (maker_of s ≡ Replica w.me) × (instance_of s ≡ w.instance)
+  answers_own : (b : Bool) (w : Backing Q) (requests : List Request) (s : Content) → Contains (unless_stopped b (answers_by proto handed machine w requests)) s → (maker_of s ≡ Replica w.me) × (instance_of s ≡ w.instance)
   answers_own true w requests s has = absurd (none_of s has)
   answers_own false w requests s has =
       let a = flat_map_cases (answer_of machine w.instance w.me (length (base_at proto w.order)) (proto.ordered w.order)) requests s has in
@@ -401,7 +401,7 @@ module _ {S P Q : Type 0} (machine : Machine S) (orders : OrderProto P Q) (proto
         | inr answer ↦ elim answer [ inl now ↦ absurd (none_then (rule.state v).stopped _ halt now) | inr later ↦ absurd (none_then (rule.state v).stopped _ halt later) ]
       ]
     where
-      none_then : (b : Bool) (answers : List Content) → b ≡ true → Contains (if b then [] else answers) s → ⊥
+      none_then : (b : Bool) (answers : List Content) → b ≡ true → Contains (unless_stopped b answers) s → ⊥
       none_then true answers is has = none_of s has
       none_then false answers is has = cc (is)
 

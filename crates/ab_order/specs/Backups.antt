@@ -73,6 +73,10 @@ abbrev pub is_done : ℕ → Option (List Request) → List Request → Bool
 is_done k None log = false
 is_done k (Some h) log = nat_le (length h + k) (length log)
 
+-- once it is stopped it answers nothing
+abbrev pub unless_stopped : Bool → List Content → List Content
+unless_stopped stopped answers = if stopped then [] else answers
+
 module _ {P E : Type 0} (proto : Ordering P E) where
   abbrev pub backup_begin : Cluster → ℕ → ℕ → List Request → Backing P
   backup_begin c i me base =
@@ -90,16 +94,14 @@ module _ {P E : Type 0} (proto : Ordering P E) where
       abbrev pub answers_by : Backing P → List Request → List Content
       answers_by v requests = flat_map (answer_of machine v.instance v.me (length (base_at proto v.order)) (proto.ordered v.order)) requests
 
-      -- what it answers at once, if the request that was asked stands in its log; and what it answers as it executes. Once it is stopped
-      -- it answers nothing
+      -- what it answers at once, if the request that was asked stands in its log; and what it answers as it executes
       abbrev pub first_answers : Backing P → E → List Content
-      first_answers v e = if (backup_state v).stopped then [] else answers_by v (asked_list (handed.asked e))
+      first_answers v e = unless_stopped (backup_state v).stopped (answers_by v (asked_list (handed.asked e)))
 
       abbrev pub later_answers : Backing P → E → List Content
       later_answers v e =
-          if (backup_state v).stopped
-          then []
-          else answers_by (backup_after v e) (executed_now (proto.base v.order) (proto.base (proto.after v.order e)) (proto.ordered v.order) (proto.ordered (proto.after v.order e)) (keep_asked (handed.asked e) v.kept))
+          unless_stopped (backup_state v).stopped
+          (answers_by (backup_after v e) (executed_now (proto.base v.order) (proto.base (proto.after v.order e)) (proto.ordered v.order) (proto.ordered (proto.after v.order e)) (keep_asked (handed.asked e) v.kept)))
 
       -- an act of replica r is what its value v does as it is handed e: it checks and shows at least what the orderer is told, and makes
       -- what the orderer makes, and answers. What it observes is an init history, and so is the history of a slot 0 that it accepts from
