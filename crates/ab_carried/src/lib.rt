@@ -6,6 +6,3 @@ mod message;
 
 pub use collected::Carried;
 pub use message::carried;
-
-#[cfg(test)]
-mod tests;

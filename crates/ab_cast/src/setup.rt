@@ -270,6 +270,3 @@ impl Setup {
         }
     }
 }
-
-#[cfg(test)]
-mod tests;

@@ -6,6 +6,3 @@ mod route;
 mod trial;
 
 pub use chain::Chain;
-
-#[cfg(test)]
-mod tests;

@@ -9,6 +9,3 @@ mod sending;
 
 pub use client::{Client, InvokeFault};
 pub use laws::clients_act_by_their_cluster;
-
-#[cfg(test)]
-mod tests;

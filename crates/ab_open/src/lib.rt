@@ -28,6 +28,3 @@ pub use opening::open;
 pub use owning::claims;
 pub use stated::Stated;
 pub use stated_bytes::StatedBytes;
-
-#[cfg(test)]
-mod tests;

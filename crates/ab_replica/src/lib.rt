@@ -10,6 +10,3 @@ mod replica;
 
 pub use effects::Effects;
 pub use replica::Replica;
-
-#[cfg(test)]
-mod tests;

@@ -6,16 +6,9 @@
 //! of standard output or standard error, 7 past a limit, and 9 where memory was refused.
 #![tactic(auto)]
 
-mod keys;
-mod replay;
-mod report;
 mod standard;
-mod status;
-mod stream;
-#[cfg(test)]
-mod tests;
-mod top;
 
+use ab_command::{refuse_memory, run};
 use ab_io::{MemClock, MemLink};
 use standard::{StdSink, StdSource};
 use std::alloc::{AllocError, Global};
@@ -48,10 +41,10 @@ fn main(rt: HostRuntime) -> ExitCode {
         Ok(words) => words,
         // A command has no word that isn't UTF-8.
         Err(fault) if fault.kind() == io::ErrorKind::InvalidData => Vec::new(alloc),
-        Err(_) => return ExitCode::from(top::refuse_memory(&mut err)),
+        Err(_) => return ExitCode::from(refuse_memory(&mut err)),
     };
     let Ok(texts) = texts(alloc, words.as_slice()) else {
-        return ExitCode::from(top::refuse_memory(&mut err));
+        return ExitCode::from(refuse_memory(&mut err));
     };
     let mut input = StdSource::new(rt.reader());
     let mut out = StdSink::new(rt.stdout());
@@ -63,7 +56,7 @@ fn main(rt: HostRuntime) -> ExitCode {
         Vec::new(alloc),
     );
     let mut clock = MemClock::new(Vec::new(alloc));
-    let status = top::run(
+    let status = run(
         alloc,
         texts.as_slice(),
         &mut input,

@@ -1,0 +1,165 @@
+-- What follows from the causes of statuses.
+use Rattle.std.proofs.Common.{◌≡◌, ◌↔◌, ℕ, ◌<◌, ◌⊎◌, List, Bool, true, false, IsTrue, Ok, Err, Result, if◌then◌else◌, length, arith, refl, sym, ap, ◌∙◌, subst, inl, inr}
+use Rattle.std.proofs.Common.{Option, Some}
+use Rattle.std.specs.Io.KnownBytes.{Appends, Keeps}
+use Rattle.ab_num.specs.declared.plan.ServiceName.{ServiceName}
+use Rattle.ab_num.specs.declared.plan.ServiceName.TheVariants.{Echo, Kv}
+use Rattle.ab_svc.specs.Machines.{Machine}
+use Rattle.ab_text.specs.declared.fault.TextFault.{TextFault}
+use Rattle.ab_text.specs.declared.line.Premise.{Premise}
+use Rattle.ab_text.specs.declared.line.Premise.TheVariants.{Held, Broken as NotHeld}
+use Rattle.ab_text.specs.Heads.{Script}
+use Rattle.ab_text.specs.Schedules.{ReadsText}
+use Rattle.ab_replay.specs.Protocols.{Any, any}
+use Rattle.ab_command.specs.declared.status.Bound.TheVariants.{Bytes, Events, Packets}
+use Rattle.ab_replay.specs.declared.refusal.Refusal.{Refusal}
+use Rattle.ab_command.specs.declared.status.Status.{Status}
+use Rattle.ab_command.specs.declared.status.Status.TheVariants.{Done, Broken, Usage, Refused, ReadFault, WriteFault, Limit, OutOfMemory}
+use Rattle.ab_command.specs.Texts.{code_of}
+use Rattle.ab_replay.specs.Streams.{IsAllOf, IsTooLong}
+use Rattle.ab_words.specs.declared.command.Command.{Command}
+use Rattle.ab_words.specs.declared.command.Command.TheVariants.{Replay, Keys}
+use Rattle.ab_words.specs.Commands.{KeysCommand}
+use Rattle.ab_command.specs.KeyCommands.{AsksKeys, is_built, key_text}
+use Rattle.ab_io.specs.Causes.{Rose}
+use Rattle.ab_world.specs.declared.fault.WorldFault.{WorldFault}
+use Rattle.ab_world.specs.declared.fault.WorldFault.TheVariants.{PacketLimit}
+use Rattle.ab_world.specs.Worlds.{World, premise_of}
+use Rattle.ab_replay.specs.Replays.{Performs, PerformsAs, IsRefused, RunsTo, proto_of, Runs}
+use Rattle.ab_replay.proofs.RunLemmas.{one_end}
+use Rattle.ab_command.specs.Statuses.{Call, IsReplay, StatusCause, Says, SaysNoMemoryOn, Settles, HasCauseOf, HasFront, HasReport, IsClear, IsClearForKeys, premise_code}
+
+-- a run has one end
+said_at : {S : Type 0} (machine : Machine S) (s : Script) (report : List ℕ) (held : Bool) (end : World Any) → Performs machine s report held → RunsTo (any machine) s (Ok end)
+    → IsTrue held ↔ (premise_of end ≡ Held)
+said_at machine s report held end performs runs =
+    let both : ◌≡◌ {A = Result (World Any) (ℕ × WorldFault)} (Ok performs.end) (Ok end) = one_end (any machine) s (Ok performs.end) (Ok end) (record { cluster = performs.cluster; sized = performs.sized; runs = performs.runs }) runs in
+    let same : performs.end ≡ end = cc (both) in
+    subst (λ (w : World Any). IsTrue held ↔ (premise_of w ≡ Held)) same performs.says
+
+said_of : (service : ServiceName) (s : Script) (report : List ℕ) (held : Bool) (end : World Any) → PerformsAs service s report held
+    → RunsTo (proto_of service) s (Ok end) → IsTrue held ↔ (premise_of end ≡ Held)
+said_of Echo s report held end performs runs = said_at _ s report held end performs runs
+said_of Kv s report held end performs runs = said_at _ s report held end performs runs
+
+code_of_broken : (p : Premise) → (p ≡ Held → IsTrue false) → 1 ≡ premise_code p
+code_of_broken Held never = let e : false ≡ true = never refl in absurd (cc)
+code_of_broken (NotHeld e breach q) never = refl
+
+-- words are not both a replay and a wish for keys
+not_both : (words : List (List ℕ)) (k : KeysCommand) → IsReplay words → AsksKeys words k → ⊥
+not_both words k replay asks = let e : ◌≡◌ {A = Option Command} (Some Replay) (Some (Keys k)) = sym replay ∙ asks in cc
+
+module _ (one : (text : List ℕ) (r q : Result Script TextFault) → ReadsText text r → ReadsText text q → r ≡ q) (c : Call) (clear : IsClear c) where
+  -- the bytes that were read are those that the input tells
+  same_text : (text : List ℕ) → IsAllOf c.left text → text ≡ clear.text
+  same_text text all = sym (subst (λ left. IsAllOf left text) clear.input all)
+
+  not_ended : (text : List ℕ) (s : Script) (n : ℕ) (f : WorldFault) → text ≡ clear.text → ReadsText text (Ok s) → Runs s (Err (n, f)) → ⊥
+  not_ended text s n f same reads ends =
+      let e : Ok s ≡ Ok clear.schedule = one clear.text (Ok s) (Ok clear.schedule) (subst (λ t. ReadsText t (Ok s)) same reads) clear.reads in
+      let is : s ≡ clear.schedule = cc in
+      let o : ◌≡◌ {A = Result (World Any) (ℕ × WorldFault)} (Err (n, f)) (Ok clear.end) = one_end (proto_of clear.schedule.service) clear.schedule (Err (n, f)) (Ok clear.end) (subst (λ (q : Script). Runs q (Err (n, f))) is ends) clear.runs in cc (o)
+
+  not_refused : (text : List ℕ) (r : Refusal) → text ≡ clear.text → IsRefused text r → ⊥
+  not_refused text r same refused =
+      elim refused [
+        | inl bad ↦ let e : Err bad.fault ≡ Ok clear.schedule = one clear.text (Err bad.fault) (Ok clear.schedule) (subst (λ t. ReadsText t (Err bad.fault)) same bad.reads) clear.reads in cc
+        | inr bad ↦ not_ended text bad.schedule bad.event bad.fault same bad.reads bad.runs
+      ]
+
+  -- the report says whether the premises hold at the end of the run that the input tells
+  says_clear : (held : Bool) → HasReport held c → IsTrue held ↔ (premise_of clear.end ≡ Held)
+  says_clear held (report, (text, all, replays), appended) =
+      let s = replays.schedule in
+      let e : Ok s ≡ Ok clear.schedule = one clear.text (Ok s) (Ok clear.schedule) (subst (λ t. ReadsText t (Ok s)) (same_text text all) replays.reads) clear.reads in
+      let is : s ≡ clear.schedule = cc in
+      said_of s.service s report held clear.end replays.performs (subst (λ (q : Script). Runs q (Ok clear.end)) (sym is) clear.runs)
+
+  clear_status : (s : Status) → StatusCause s c → (code_of s ≡ premise_code (premise_of clear.end)) ⊎ (code_of s ≡ 9)
+  clear_status Done (inl (words, report), kept) = inl (ap premise_code (sym ((says_clear true report).0 refl)))
+  clear_status Done (inr (k, asks, written), kept) = absurd (not_both c.words k clear.words asks)
+  clear_status Broken (words, report, kept) = inl (code_of_broken (premise_of clear.end) ((says_clear false report).1))
+  clear_status Usage (others, none, kept, said) = absurd (others clear.words)
+  clear_status (Refused r) (words, (text, all, refused), kept, said) = absurd (not_refused text r (same_text text all) refused)
+  clear_status ReadFault (words, rose, kept, said) = absurd (clear.read rose)
+  clear_status WriteFault (rose, front) = elim rose [
+    | inl out ↦ absurd (clear.out out.0)
+    | inr err ↦ absurd (clear.err err)
+  ]
+  clear_status (Limit Bytes) (words, long, kept, said) =
+      absurd (let above : 67108864 < length clear.text = subst IsTooLong clear.input long in omega (arith, above, clear.short))
+  clear_status (Limit Events) (words, (text, all, (s, reads, many)), kept, said) =
+      absurd (let e : Ok s ≡ Ok clear.schedule = one clear.text (Ok s) (Ok clear.schedule) (subst (λ t. ReadsText t (Ok s)) (same_text text all) reads) clear.reads in
+      let same : s ≡ clear.schedule = cc in
+      omega (arith, many, ap (λ x. length x.events) same, clear.few))
+  clear_status (Limit Packets) (words, (text, all, many), kept, said) =
+      absurd (not_ended text many.schedule many.event PacketLimit (same_text text all) many.reads many.runs)
+  clear_status OutOfMemory cause = inr refl
+
+-- where keys are asked for
+module _ (c : Call) (k : KeysCommand) (clear : IsClearForKeys c k) where
+  keys_status : (s : Status) → StatusCause s c → ((code_of s ≡ 0) × Appends c.out_old c.out_new (key_text k)) ⊎ (code_of s ≡ 9)
+  keys_status Done (inl (words, report), kept) = absurd (not_both c.words k words clear.words)
+  keys_status Done (inr (j, asks, written), kept) =
+      let e : ◌≡◌ {A = Option Command} (Some (Keys j)) (Some (Keys k)) = sym asks ∙ clear.words in
+      let same : j ≡ k = cc in
+      inl (refl, subst (λ (x : KeysCommand). Appends c.out_old c.out_new (key_text x)) same written)
+  keys_status Broken (words, report, kept) = absurd (not_both c.words k words clear.words)
+  keys_status Usage (others, none, kept, said) = absurd (let e : true ≡ false = ap is_built (sym clear.words) ∙ none in cc)
+  keys_status (Refused r) (words, input, kept, said) = absurd (not_both c.words k words clear.words)
+  keys_status ReadFault (words, rose, kept, said) = absurd (not_both c.words k words clear.words)
+  keys_status WriteFault (rose, front) = elim rose [
+    | inl out ↦ absurd (clear.out out.0)
+    | inr err ↦ absurd (clear.err err)
+  ]
+  keys_status (Limit Bytes) (words, long, kept, said) = absurd (not_both c.words k words clear.words)
+  keys_status (Limit Events) (words, input, kept, said) = absurd (not_both c.words k words clear.words)
+  keys_status (Limit Packets) (words, input, kept, said) = absurd (not_both c.words k words clear.words)
+  keys_status OutOfMemory cause = inr refl
+
+-- the number of a status that has its cause
+pub answers : ((text : List ℕ) (r q : Result Script TextFault) → ReadsText text r → ReadsText text q → r ≡ q)
+    → (n : ℕ) (c : Call) (s : Status) → n ≡ code_of s → StatusCause s c → HasCauseOf n c
+answers one n c s code cause = record {
+  status = s;
+  code = code;
+  cause = cause;
+  complete = λ clear. elim (clear_status one c clear s cause) [
+    | inl premise ↦ inl (code ∙ premise)
+    | inr nine ↦ inr (code ∙ nine)
+  ];
+  keys = λ k clear. elim (keys_status c k clear s cause) [
+    | inl whole ↦ inl (code ∙ whole.0, whole.1)
+    | inr nine ↦ inr (code ∙ nine)
+  ];
+}
+
+written_whole : (c : Call) (held : Bool) → IsReplay c.words → HasReport held c → Keeps c.err_old c.err_new → StatusCause (if held then Done else Broken) c
+written_whole c true words report kept = (inl (words, report), kept)
+written_whole c false words report kept = (words, report, kept)
+
+-- a report that was written whole
+pub report_written : (c : Call) (r : Status) (held : Bool) → r ≡ (if held then Done else Broken) → IsReplay c.words → HasReport held c → Keeps c.err_old c.err_new → StatusCause r c
+report_written c r held is words report kept = subst (λ (s : Status). StatusCause s c) (sym is) (written_whole c held words report kept)
+
+-- a status that was to be said has its cause, where it has it once it is said
+pub settled : (c : Call) (r s : Status) → Settles r s c.err_old c.err_new c.err_before c.err_now → (Says s c → StatusCause s c) → HasFront c → StatusCause r c
+settled c r s (inl (e, said)) make front = subst (λ (x : Status). StatusCause x c) (sym e) (make said)
+settled c r s (inr (inl (e, rose))) make front = subst (λ (x : Status). StatusCause x c) (sym e) (inr rose, front)
+settled c r s (inr (inr (e, says))) make front = subst (λ (x : Status). StatusCause x c) (sym e) (front, says)
+
+-- want of memory that was to be said
+pub memory_settled : (c : Call) (r : Status) → Settles r OutOfMemory c.err_old c.err_new c.err_before c.err_now → HasFront c → StatusCause r c
+memory_settled c r how front = settled c r OutOfMemory how (λ said. (front, inl said)) front
+
+-- a fault of out that was to be said
+pub write_settled : (c : Call) (r : Status) → Settles r WriteFault c.err_old c.err_new c.err_before c.err_now → Rose c.out_before c.out_now → HasFront c → StatusCause r c
+write_settled c r how rose front = settled c r WriteFault how (λ said. (inl (rose, said), front)) front
+
+-- want of memory before the command began
+pub refused_memory : (r : Status) (old new : Option (List ℕ)) (before now : ℕ) → Settles r OutOfMemory old new before now
+    → ((code_of r ≡ 9) × SaysNoMemoryOn old new) ⊎ ((code_of r ≡ 5) × Rose before now)
+refused_memory r old new before now (inl (e, said)) = inl (ap code_of e, inl said)
+refused_memory r old new before now (inr (inl (e, rose))) = inr (ap code_of e, rose)
+refused_memory r old new before now (inr (inr (e, says))) = inl (ap code_of e, says)

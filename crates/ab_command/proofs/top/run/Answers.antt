@@ -1,0 +1,22 @@
+use Rattle.std.specs.Prelude.{map}
+use Rattle.ab_command.specs.Statuses.{Call}
+use Rattle.ab_command.proofs.StatusLemmas.{answers}
+use Rattle.ab_command.proofs.top.run.Goals as goal
+
+pub returns-clause-cause : goal.returns-clause-cause
+returns-clause-cause g c =
+    let call : Call = record {
+      words = map (λ w. w.now) c.args.words.now;
+      left = g.I.Source.left c.args.input.now;
+      out_old = g.O.Sink.contents c.args.out.now;
+      out_new = g.O.Sink.contents c.serve-status.new.out;
+      err_old = g.E.Sink.contents c.args.err.now;
+      err_new = g.E.Sink.contents c.serve-status.new.err;
+      read_before = g.I.Source.faults c.args.input.now;
+      read_now = g.I.Source.faults c.serve-status.new.input;
+      out_before = g.O.Sink.faults c.args.out.now;
+      out_now = g.O.Sink.faults c.serve-status.new.out;
+      err_before = g.E.Sink.faults c.args.err.now;
+      err_now = g.E.Sink.faults c.serve-status.new.err;
+    } in
+    answers c.one_reading.ensures c.code.result call c.serve-status.result c.code.ensures c.serve-status.ensures.cause

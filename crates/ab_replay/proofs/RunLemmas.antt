@@ -1,0 +1,270 @@
+-- Runs without a refusal, and what the first refusal says of a text.
+use Rattle.std.proofs.Common.{◌≡◌, ◌↔◌, ℕ, zero, suc, ◌+◌, ◌*◌, ◌≤◌, ◌<◌, List, [], ◌∷◌, Bool, true, false, Option, None, Some, Result, Ok, Err, if◌then◌else◌, length, slice_set, refl, sym, ap, ◌∙◌, subst, inr, arith}
+use Rattle.std.proofs.Math.Bridge.{le_prop}
+use Rattle.std.specs.Prelude.{IfErr}
+use Rattle.std.specs.Result.{IsErrAnd}
+use Rattle.ab_num.specs.Bounds.{IsInBounds}
+use Rattle.ab_num.specs.declared.party.Party.{Party}
+use Rattle.ab_text.specs.declared.event.Event.{Event}
+use Rattle.ab_text.specs.declared.line.Premise.TheVariants.{Held}
+use Rattle.ab_text.specs.Heads.{Script}
+use Rattle.ab_text.specs.Schedules.{ReadsText, script_of}
+use Rattle.ab_text.specs.declared.schedule.Head.{Head}
+use Rattle.ab_open.specs.declared.fault.OpenFault.{OpenFault}
+use Rattle.ab_abs.specs.Ensembles.{Proto}
+use Rattle.ab_num.specs.declared.cluster.Cluster.{Cluster}
+use Rattle.ab_num.specs.declared.plan.Plan.{Plan}
+use Rattle.ab_svc.specs.Machines.{Machine}
+use Rattle.std.proofs.lemmas.List.{length-append}
+use Rattle.std.proofs.lemmas.Bool.{lt-ltb}
+use Rattle.arrayvec.specs.ArrayVec.{ArrayVec}
+use Rattle.ab_text.specs.declared.event.Core.{Core as CoreName}
+use Rattle.ab_text.specs.declared.event.Event.TheVariants.{Invoke, Deliver, Timeout, Inject}
+use Rattle.ab_post.specs.Packets.{Packet, nth}
+use Rattle.ab_cast.specs.declared.fault.CommandFault.{CommandFault}
+use Rattle.ab_cast.specs.declared.fault.CommandFault.TheVariants as command_fault
+use Rattle.ab_cast.specs.declared.place.Place.{Place}
+use Rattle.ab_cast.specs.declared.place.Place.TheVariants as place
+use Rattle.ab_cast.specs.Setups.{Setup, party_at, place_of}
+use Rattle.ab_cast.specs.Cores.{Core, Taken, replica, client, core_after}
+use Rattle.ab_cast.specs.Casts.{Cast, with_core, core_at, command_refusal, first_site, first_sites}
+use Rattle.ab_world.specs.declared.fault.WorldFault.{WorldFault}
+use Rattle.ab_world.specs.declared.fault.WorldFault.TheVariants.{EventLimit, NotBuilt, PacketLimit}
+use Rattle.ab_world.specs.Runs.{outcome, refused_or}
+use Rattle.ab_world.specs.Steps.{Happening, ready, ready_in, happening, asked, asked_at, handed, addressed, delivered, rung, refuse_command, after, after_taking, moved_at, stepped, stepped_by, taken_from}
+use Rattle.ab_world.specs.Worlds.{World, start}
+use Rattle.ab_replay.specs.Protocols.{Any}
+use Rattle.ab_replay.specs.declared.replay.ReplayFault.{ReplayFault}
+use Rattle.ab_replay.specs.declared.replay.ReplayFault.TheVariants.{Read, TooLong, Refused, TooManyEvents, TooManyPackets, OutOfMemory}
+use Rattle.ab_replay.specs.Replays.{IsClusterOf, RunsTo, Runs, run_in, setup_in, proto_of, head_lines, EventsCause, TextCause}
+
+-- ---- how many replicas a world has
+
+-- of the same setup, with as many replicas
+record Stays (x y : Cast Any) : Type 0 where
+  setup : y.setup ≡ x.setup
+  replicas : length y.replicas ≡ length x.replicas
+
+set_length : {A : Type 0} (xs : List A) (r : ℕ) (v : A) → length (slice_set xs r v) ≡ length xs
+set_length [] r v = refl
+set_length (x ∷ xs) zero v = refl
+set_length (x ∷ xs) (suc r) v = ap suc (set_length xs r v)
+
+core_stays : (x : Cast Any) (at : Place) (s : Core Any) → Stays x (with_core x at s)
+core_stays x (place.Replica r) (replica s) = record { setup = refl; replicas = set_length x.replicas r s }
+core_stays x (place.Client c) (replica s) = record { setup = refl; replicas = refl }
+core_stays x (place.ReplicaTwin r n) (replica s) = record { setup = refl; replicas = refl }
+core_stays x (place.ClientTwin c n) (replica s) = record { setup = refl; replicas = refl }
+core_stays x (place.Replica r) (client s) = record { setup = refl; replicas = refl }
+core_stays x (place.Client c) (client s) = record { setup = refl; replicas = refl }
+core_stays x (place.ReplicaTwin r n) (client s) = record { setup = refl; replicas = refl }
+core_stays x (place.ClientTwin c n) (client s) = record { setup = refl; replicas = refl }
+
+stays_still : (w v : World Any) → v ≡ w → Stays w.cast v.cast
+stays_still w v same = record { setup = ap (λ u. u.cast.setup) same; replicas = ap (λ u. length u.cast.replicas) same }
+
+core_events : (x : Cast Any) (at : Place) (s : Core Any) → (with_core x at s).events ≡ x.events
+core_events x (place.Replica r) (replica s) = refl
+core_events x (place.Client c) (replica s) = refl
+core_events x (place.ReplicaTwin r n) (replica s) = refl
+core_events x (place.ClientTwin c n) (replica s) = refl
+core_events x (place.Replica r) (client s) = refl
+core_events x (place.Client c) (client s) = refl
+core_events x (place.ReplicaTwin r n) (client s) = refl
+core_events x (place.ClientTwin c n) (client s) = refl
+
+-- what happens is no limit
+abbrev NoLimit : Result Happening WorldFault → Type 0
+NoLimit r = r ≡ Err EventLimit → ⊥
+
+no_limit_if : (b : Bool) (r q : Result Happening WorldFault) → NoLimit r → NoLimit q → NoLimit (if b then r else q)
+no_limit_if true r q one other = one
+no_limit_if false r q one other = other
+
+refuses_within : (o : Option CommandFault) (at : Place) (bytes : ArrayVec ℕ) → NoLimit (refuse_command o at bytes)
+refuses_within None at bytes e = cc (e)
+refuses_within (Some command_fault.Busy) at bytes e = cc (e)
+refuses_within (Some command_fault.NoClient) at bytes e = cc (e)
+refuses_within (Some command_fault.OutOfMemory) at bytes e = cc (e)
+
+asks_within : (at : Place) (bytes : ArrayVec ℕ) (o : Option (Core Any)) → NoLimit (asked_at at bytes o)
+asks_within at bytes None e = cc (e)
+asks_within at bytes (Some s) e = refuses_within (command_refusal s) at bytes e
+
+asked_within : (w : World Any) (bytes : ArrayVec ℕ) (o : Option Place) → NoLimit (asked w bytes o)
+asked_within w bytes None e = cc (e)
+asked_within w bytes (Some at) e = asks_within at bytes (core_at w.cast at) e
+
+handed_within : (bytes : List ℕ) (o : Option Place) → NoLimit (handed bytes o)
+handed_within bytes None e = cc (e)
+handed_within bytes (Some at) e = cc (e)
+
+rung_within : (o : Option Place) → NoLimit (rung o)
+rung_within None e = cc (e)
+rung_within (Some at) e = cc (e)
+
+delivered_within : (x : Setup) (o : Option Packet) (core : Option CoreName) → NoLimit (delivered x o core)
+delivered_within x None core e = cc (e)
+delivered_within x (Some packet) core e = handed_within packet.bytes (addressed x packet.to core) e
+
+happens_within : (w : World Any) (e : Event) → NoLimit (happening w e)
+happens_within w (Invoke core bytes) = no_limit_if _ (asked w bytes (place_of w.cast.setup core.party core.twin)) (Err NotBuilt) (asked_within w bytes (place_of w.cast.setup core.party core.twin)) (λ e. cc (e))
+happens_within w (Deliver packet core) = delivered_within w.cast.setup (nth w.packets packet) core
+happens_within w (Timeout core) = rung_within (place_of w.cast.setup core.party core.twin)
+happens_within w (Inject core bytes) = handed_within bytes (place_of w.cast.setup core.party core.twin)
+
+sites_length : (proto : Proto Any) (x : Setup) (n : ℕ) → length (first_sites x proto n) ≡ n
+sites_length proto x zero = refl
+sites_length proto x (suc n) = length-append (first_sites x proto n) (first_site x proto n ∷ []) ∙ omega (arith, sites_length proto x n)
+
+module _ (proto : Proto Any) where
+  move_stays : (w : World Any) (at : Place) (t : Taken) (s : Option (Core Any)) → Stays w.cast (moved_at proto w at t s).cast
+  move_stays w at t None = record { setup = refl; replicas = refl }
+  move_stays w at t (Some s) =
+      let stays = core_stays w.cast at (core_after w.cast.setup proto (party_at at) s t) in record { setup = stays.setup; replicas = stays.replicas }
+
+  taking_stays : (w : World Any) (at : Place) (t : Result Taken OpenFault) → Stays w.cast (after_taking proto w at t).cast
+  taking_stays w at (Ok t) = move_stays w at t (core_at w.cast at)
+  taking_stays w at (Err fault) = record { setup = refl; replicas = refl }
+
+  -- a step is one event more at most, and ends no world
+  record Steps (w v : World Any) : Type 0 where
+    events : v.cast.events ≤ w.cast.events + 1
+    ended : v.ended ≡ w.ended
+
+  move_steps : (w : World Any) (at : Place) (t : Taken) (s : Option (Core Any)) → Steps w (moved_at proto w at t s)
+  move_steps w at t None = record { events = omega arith; ended = refl }
+  move_steps w at t (Some s) = record { events = omega (arith, core_events w.cast at (core_after w.cast.setup proto (party_at at) s t)); ended = refl }
+
+  taking_steps : (w : World Any) (at : Place) (t : Result Taken OpenFault) → Steps w (after_taking proto w at t)
+  taking_steps w at (Ok t) = move_steps w at t (core_at w.cast at)
+  taking_steps w at (Err fault) = record { events = omega arith; ended = refl }
+
+  kept_within : (w v : World Any) (fits : Bool) → (if fits then Ok w else Err PacketLimit) ≡ Ok v → v ≡ w
+  kept_within w v true is = cc
+  kept_within w v false is = absurd (cc)
+
+  step_stays : (w v : World Any) (h : Result Happening WorldFault) → stepped_by proto w h ≡ Ok v → Stays w.cast v.cast
+  step_stays w v (Ok h) is =
+      let u = after proto w h in
+      let same = stays_still u v (kept_within u v _ is) in
+      let stays = taking_stays w h.place (taken_from w.cast.setup (party_at h.place) h.given) in
+      record { setup = same.setup ∙ stays.setup; replicas = same.replicas ∙ stays.replicas }
+  step_stays w v (Err fault) is = absurd (cc)
+
+  stepped_steps : (w v : World Any) (h : Result Happening WorldFault) → stepped_by proto w h ≡ Ok v → Steps w v
+  stepped_steps w v (Ok h) is =
+      let same = kept_within (after proto w h) v _ is in
+      subst (Steps w) (sym same) (taking_steps w h.place (taken_from w.cast.setup (party_at h.place) h.given))
+  stepped_steps w v (Err fault) is = absurd (cc (is))
+
+  pub step_steps : (w v : World Any) (e : Event) → stepped proto w e ≡ Ok v → (v.cast.events ≤ w.cast.events + 1) × (v.ended ≡ w.ended)
+  step_steps w v e is = let steps = stepped_steps w v (ready w e) is in (steps.events, steps.ended)
+
+  within_other : (w : World Any) (fits : Bool) → ◌≡◌ {A = Result (World Any) WorldFault} (if fits then Ok w else Err PacketLimit) (Err EventLimit) → ⊥
+  within_other w true is = cc (is)
+  within_other w false is = cc (is)
+
+  -- before the limit of events it is not the answer
+  pub no_limit : (w : World Any) (e : Event) → w.ended ≡ None → w.cast.events < 100000 → stepped proto w e ≡ Err EventLimit → ⊥
+  no_limit w e goes few is =
+      let here : ready w e ≡ happening w e = (λ j. ready_in w e (goes j)) ∙ ap (λ (b : Bool). if b then happening w e else Err EventLimit) (lt-ltb w.cast.events 100000 few) in
+      by (happening w e) refl (ap (stepped_by proto w) (sym here) ∙ is)
+    where
+      by : (r : Result Happening WorldFault) → happening w e ≡ r → stepped_by proto w (happening w e) ≡ Err EventLimit → ⊥
+      by (Ok h) e' limit = within_other (after proto w h) _ (ap (stepped_by proto w) (sym e') ∙ limit)
+      by (Err f) e' limit = let both : ◌≡◌ {A = Result (World Any) WorldFault} (Err f) (Err EventLimit) = ap (stepped_by proto w) (sym e') ∙ limit in let same : f ≡ EventLimit = cc (both) in happens_within w e (e' ∙ ap Err same)
+
+  rest_stays : (w t : World Any) (n : ℕ) (r : Result (World Any) WorldFault) (rest : World Any → Result (World Any) (ℕ × WorldFault))
+      → ((v : World Any) → r ≡ Ok v → Stays w.cast v.cast) → ((v : World Any) → rest v ≡ Ok t → Stays v.cast t.cast)
+      → refused_or proto n r rest ≡ Ok t → Stays w.cast t.cast
+  rest_stays w t n (Ok v) rest first later is =
+      let a = first v refl in
+      let b = later v is in
+      record { setup = b.setup ∙ a.setup; replicas = b.replicas ∙ a.replicas }
+  rest_stays w t n (Err fault) rest first later is = absurd (cc)
+
+  run_stays : (es : List Event) (n : ℕ) (w t : World Any) → outcome proto n w es ≡ Ok t → Stays w.cast t.cast
+  run_stays [] n w t is = stays_still w t (cc)
+  run_stays (e ∷ es) n w t is =
+      rest_stays w t n (stepped proto w e) (λ v. outcome proto (n + 1) v es) (λ v. step_stays w v (ready w e)) (λ v. run_stays es (n + 1) v t) is
+
+  -- a world at the end of a run has the replicas of its cluster
+  pub all_replicas : (c : Cluster) (s : Script) (end : World Any) → run_in proto c s ≡ Ok end → length end.cast.replicas ≡ 3 * end.cast.setup.cluster.f + 1
+  all_replicas c s end runs =
+      let stays = run_stays s.events 1 (start proto (setup_in c s)) end runs in
+      stays.replicas ∙ sites_length proto (setup_in c s) (3 * c.f + 1) ∙ ap (λ (x : Setup). 3 * x.cluster.f + 1) (sym stays.setup)
+
+-- ---- clusters of one size
+
+bounds_once : (f n : ℕ) (a b : IsInBounds f n) → a ≡ b
+bounds_once f n a b = λ j. record { some_faulty = le_prop a.some_faulty b.some_faulty j; few_faulty = le_prop a.few_faulty b.few_faulty j; some_client = le_prop a.some_client b.some_client j; few_clients = le_prop a.few_clients b.few_clients j }
+
+abbrev of_size : (f n : ℕ) → Plan → IsInBounds f n → Cluster
+of_size f n plan bounds = record { f = f; clients = n; plan = plan; in_bounds = bounds }
+
+one_cluster : (c d : Cluster) → c.f ≡ d.f → c.clients ≡ d.clients → c.plan ≡ d.plan → c ≡ d
+one_cluster c d f n plan =
+    subst (λ (g : ℕ). (b : IsInBounds g d.clients) → c ≡ of_size g d.clients d.plan b) f
+    (subst (λ (m : ℕ). (b : IsInBounds c.f m) → c ≡ of_size c.f m d.plan b) n
+    (subst (λ (q : Plan). (b : IsInBounds c.f c.clients) → c ≡ of_size c.f c.clients q b) plan
+    (λ b. ap (of_size c.f c.clients c.plan) (bounds_once c.f c.clients c.in_bounds b)))) d.in_bounds
+
+-- the run of a schedule has one end
+pub one_end : (proto : Proto Any) (s : Script) (r q : Result (World Any) (ℕ × WorldFault)) → RunsTo proto s r → RunsTo proto s q → r ≡ q
+one_end proto s r q a b =
+    sym a.runs
+    ∙ ap (λ (c : Cluster). run_in proto c s) (one_cluster a.cluster b.cluster (a.sized.f ∙ sym b.sized.f) (a.sized.clients ∙ sym b.sized.clients) (a.sized.plan ∙ sym b.sized.plan))
+    ∙ b.runs
+
+-- ---- the run of a schedule
+
+-- a run from the world that the head of a schedule sets up, through its events
+pub runs_schedule : (proto : Proto Any) (head : Head) (events es : List Event) (found : List (Party × ℕ)) (x : Setup) (w : World Any) (end : Result (World Any) (ℕ × WorldFault))
+    → found ≡ head.faulty → x ≡ record { cluster = head.cluster; faulty = found; lms = head.lms } → w ≡ start proto x → es ≡ events
+    → outcome proto 1 w es ≡ end → run_in proto head.cluster (script_of head events) ≡ end
+runs_schedule proto head events es found x w end faulty sets starts same is =
+    let begins : (ys : List (Party × ℕ)) → Setup = λ ys. record { cluster = head.cluster; faulty = ys; lms = head.lms } in
+    ap (λ y. outcome proto 1 (start proto y) events) (sym (sets ∙ ap begins faulty))
+    ∙ ap (λ v. outcome proto 1 v events) (sym starts)
+    ∙ ap (outcome proto 1 w) (sym same)
+    ∙ is
+
+pub sized_so : (head : Head) (events : List Event) → IsClusterOf head.cluster (script_of head events)
+sized_so head events = record { f = refl; clients = refl; plan = refl }
+
+-- ---- refusals
+
+-- what stops the events of a schedule stops the text
+pub stops_text : (e : ReplayFault) (text : List ℕ) (s : Script) (c : Cluster) (line : ℕ) → IsClusterOf c s → ReadsText text (Ok s) → length s.events < 100001 → line ≡ head_lines s
+    → EventsCause e line (run_in (proto_of s.service) c s) → TextCause e text
+stops_text (Refused r) text s c line sized reads few at (n, f, stopped, refuses) = inr (record {
+  schedule = s;
+  event = n;
+  fault = f;
+  reads = reads;
+  few = few;
+  runs = record { cluster = c; sized = sized; runs = stopped };
+  refuses = rw at at refuses;
+})
+stops_text TooManyPackets text s c line sized reads few at (n, stopped) = record {
+  schedule = s;
+  event = n;
+  reads = reads;
+  few = few;
+  runs = record { cluster = c; sized = sized; runs = stopped };
+}
+stops_text OutOfMemory text s c line sized reads few at cause = tt
+stops_text TooManyEvents text s c line sized reads few at cause = absurd cause
+stops_text Read text s c line sized reads few at cause = absurd cause
+stops_text TooLong text s c line sized reads few at cause = absurd cause
+
+-- ---- errors that are handed on
+
+pub kept_err : {T E : Type 0} (r : Result T E) (x : E) (Q : E → Type 0) → IsErrAnd r (λ e. e ≡ x) → Q x → IfErr r Q
+kept_err (Ok t) x Q is q = tt
+kept_err (Err e) x Q is q = subst Q (sym is) q
+
+pub if_err_then : {T E : Type 0} (r : Result T E) (P Q : E → Type 0) → ((e : E) → P e → Q e) → IfErr r P → IfErr r Q
+if_err_then (Ok t) P Q each is = tt
+if_err_then (Err e) P Q each is = each e is

@@ -1,0 +1,12 @@
+use Rattle.std.proofs.Common.{◌-◌, ◌≤◌, vec_len}
+use Rattle.std.specs.Io.KnownBytes.{Consumes}
+use Rattle.ab_replay.proofs.stream.read_all.Given as goal
+
+abbrev pub invariant-reading : goal.invariant-reading
+invariant-reading g l = record {
+  taken : Consumes (g.I.Source.left l.initial.input) (g.I.Source.left l.input) l.all.items;
+  later : g.I.Source.faults l.initial.input ≤ g.I.Source.faults l.input;
+}
+
+abbrev pub decreases-reading : goal.decreases-reading
+decreases-reading g l = 67108865 - vec_len l.all

@@ -1,0 +1,202 @@
+-- Replays of schedules.
+use Rattle.std.specs.Prelude.{◌≡◌, ◌⊎◌, ◌↔◌, ⊤, ℕ, ◌+◌, ◌*◌, ◌<◌, ◌≤◌, Bool, IsTrue, if◌then◌else◌, Option, None, Some, List, [], ◌∷◌, Result, Ok, Err, length}
+use Rattle.ab_num.specs.declared.party.Party.TheVariants.{Replica}
+use Rattle.ab_num.specs.declared.plan.ServiceName.{ServiceName}
+use Rattle.ab_num.specs.declared.plan.ServiceName.TheVariants.{Echo, Kv}
+use Rattle.ab_text.specs.declared.fault.TextFault.{TextFault}
+use Rattle.ab_text.specs.declared.fault.TextFault.TheVariants as text_fault
+use Rattle.ab_text.specs.declared.line.Premise.TheVariants.{Held}
+use Rattle.ab_text.specs.Heads.{Script}
+use Rattle.ab_text.specs.Reports.{Log, report_text}
+use Rattle.ab_text.specs.Schedules.{ReadsText}
+use Rattle.ab_svc.specs.Machines.{Machine}
+use Rattle.ab_svc.specs.Echoes.{echo_machine}
+use Rattle.ab_kv.specs.KvMachines.{kv_machine}
+use Rattle.ab_num.specs.declared.cluster.Cluster.{Cluster}
+use Rattle.ab_text.specs.declared.line.Premise.{Premise}
+use Rattle.ab_msg.specs.Contents.{spell_content}
+use Rattle.ab_abs.specs.Ensembles.{Proto}
+use Rattle.ab_abs.specs.Instances.{EachIsAbstract}
+use Rattle.ab_abs.specs.Order.{Ordered}
+use Rattle.ab_replica.specs.Sites.{Site}
+use Rattle.ab_run.specs.Stages.{all_seen, named_on, stage_over}
+use Rattle.ab_premise.specs.Premises.{IsPremise}
+use Rattle.ab_cast.specs.Setups.{Setup, run_setup, is_bad}
+use Rattle.ab_world.specs.declared.fault.WorldFault.{WorldFault}
+use Rattle.ab_world.specs.declared.fault.WorldFault.TheVariants as world_fault
+use Rattle.ab_world.specs.Lines.{entries_of}
+use Rattle.ab_world.specs.Runs.{outcome, inputs_of, came_to}
+use Rattle.ab_world.specs.Worlds.{World, start, opener, premise_of}
+use Rattle.ab_replay.specs.declared.refusal.Cause.TheVariants.{BadLine, NoEnd, NotBuilt, NoPacket, BadParty, Busy}
+use Rattle.ab_replay.specs.declared.refusal.Refusal.{Refusal}
+use Rattle.ab_replay.specs.declared.replay.ReplayFault.{ReplayFault}
+use Rattle.ab_replay.specs.declared.replay.ReplayFault.TheVariants as replaying
+use Rattle.ab_replay.specs.Protocols.{Any, any}
+use Rattle.ab_replay.specs.Streams.{IsAllOf, IsTooLong}
+use Rattle.ab_io.specs.Causes.{Rose}
+
+-- ---- runs
+
+-- the protocol of replicas that serve this
+abbrev pub proto_of : ServiceName → Proto Any
+proto_of Echo = any echo_machine
+proto_of Kv = any kv_machine
+
+-- the cluster of a schedule
+pub record IsClusterOf (c : Cluster) (s : Script) : Type 0 where
+  pub f : c.f ≡ s.f
+  pub clients : c.clients ≡ s.clients
+  pub plan : c.plan ≡ s.plan
+
+abbrev pub setup_in : Cluster → Script → Setup
+setup_in c s = record { cluster = c; faulty = s.faulty; lms = s.lms }
+
+-- the world after all events of a schedule in a cluster, under a protocol, or the first refusal with its event's number
+abbrev pub run_in : Proto Any → Cluster → Script → Result (World Any) (ℕ × WorldFault)
+run_in proto c s = outcome proto 1 (start proto (setup_in c s)) s.events
+
+-- the run of a schedule, in its cluster, comes to this
+pub record RunsTo (proto : Proto Any) (s : Script) (r : Result (World Any) (ℕ × WorldFault)) : Type 0 where
+  pub cluster : Cluster
+  pub sized : IsClusterOf cluster s
+  pub runs : run_in proto cluster s ≡ r
+
+abbrev pub Runs : Script → Result (World Any) (ℕ × WorldFault) → Type 0
+Runs s r = RunsTo (proto_of s.service) s r
+
+-- ---- reports
+
+abbrev pub log_of : Proto Any → ℕ → Site Any → Log
+log_of proto r s = record { replica = r; instance = s.rep.at; entries = entries_of (proto.state s.rep.value).log }
+
+-- the logs of the correct replicas from number r on
+abbrev pub logs_from : Proto Any → Setup → ℕ → List (Site Any) → List Log
+logs_from proto x r [] = []
+logs_from proto x r (s ∷ rest) = if is_bad x (Replica r) then logs_from proto x (r + 1) rest else log_of proto r s ∷ logs_from proto x (r + 1) rest
+
+abbrev pub report_of : Proto Any → World Any → List ℕ
+report_of proto w = report_text w.lines (logs_from proto w.cast.setup 0 w.cast.replicas) (premise_of w) w.cast.events (length w.packets)
+
+-- ---- what a run promises
+
+-- the observations of the run are ordered, and each instance keeps what Abstract promises of the service, under the last log of each
+-- replica in each instance. In its cluster the run is that of the stage
+pub record KeepsPromises {S : Type 0} (machine : Machine S) (c : Cluster) (s : Script) : Type 0 where
+  pub ordered : let x = setup_in c s in
+      let end = stage_over (run_setup x) (any machine) spell_content (opener x) (inputs_of (any machine) (start (any machine) x) s.events) in
+      Ordered machine (all_seen end) (named_on (run_setup x) end) (run_setup x).faulty
+  pub instances : let x = setup_in c s in
+      let end = stage_over (run_setup x) (any machine) spell_content (opener x) (inputs_of (any machine) (start (any machine) x) s.events) in
+      EachIsAbstract machine (all_seen end) (named_on (run_setup x) end) (run_setup x).faulty
+
+-- the run of a schedule with a service leads here, and this is its report. Its premise line is that of the run, to the letter, and
+-- where it says `held` the run keeps what Abstract promises
+pub record Performs {S : Type 0} (machine : Machine S) (s : Script) (report : List ℕ) (held : Bool) : Type 0 where
+  pub cluster : Cluster
+  pub sized : IsClusterOf cluster s
+  pub end : World Any
+  pub runs : run_in (any machine) cluster s ≡ Ok end
+  pub reports : report ≡ report_of (any machine) end
+  pub says : IsTrue held ↔ (premise_of end ≡ Held)
+  pub exact : (line : Premise) → (premise_of end ≡ line)
+      ↔ IsPremise (run_setup (setup_in cluster s)) (any machine) (opener (setup_in cluster s)) s.faulty (came_to (any machine) (setup_in cluster s) s.events) line
+  pub promises : premise_of end ≡ Held → KeepsPromises machine cluster s
+
+-- the same with the service that is named
+abbrev pub PerformsAs : ServiceName → Script → List ℕ → Bool → Type 0
+PerformsAs Echo s report held = Performs echo_machine s report held
+PerformsAs Kv s report held = Performs kv_machine s report held
+
+-- the text is a schedule within the limits that runs, this is the report of its run, and its run keeps what Abstract promises
+-- of the service that the schedule names
+pub record Replays (text report : List ℕ) (held : Bool) : Type 0 where
+  pub schedule : Script
+  pub reads : ReadsText text (Ok schedule)
+  pub performs : PerformsAs schedule.service schedule report held
+
+-- ---- refusals
+
+-- a refusal as a fault. Where nothing is refused, memory was
+abbrev pub fault_from : Option Refusal → ReplayFault
+fault_from None = replaying.OutOfMemory
+fault_from (Some r) = replaying.Refused r
+
+-- the refusal of a text that is no schedule
+abbrev pub text_refusal : TextFault → Option Refusal
+text_refusal (text_fault.BadLine n) = Some (record { line = n; cause = BadLine })
+text_refusal (text_fault.NotBuilt n) = Some (record { line = n; cause = NotBuilt })
+text_refusal (text_fault.NoEnd n) = Some (record { line = n; cause = NoEnd })
+text_refusal text_fault.OutOfMemory = None
+
+-- the refusal of an event in this line
+abbrev pub step_refusal : ℕ → WorldFault → Option Refusal
+step_refusal line world_fault.NotBuilt = Some (record { line = line; cause = NotBuilt })
+step_refusal line world_fault.NoPacket = Some (record { line = line; cause = NoPacket })
+step_refusal line world_fault.BadParty = Some (record { line = line; cause = BadParty })
+step_refusal line world_fault.Busy = Some (record { line = line; cause = Busy })
+step_refusal line world_fault.EventLimit = None
+step_refusal line world_fault.PacketLimit = None
+step_refusal line world_fault.OutOfMemory = None
+
+-- the line before that of the first event
+abbrev pub head_lines : Script → ℕ
+head_lines s = 7 + length s.faulty
+
+-- a line is out of form, not built or missing
+pub record IsBadText (text : List ℕ) (r : Refusal) : Type 0 where
+  pub fault : TextFault
+  pub reads : ReadsText text (Err fault)
+  pub refuses : text_refusal fault ≡ Some r
+
+-- the schedule is read, and an event is refused
+pub record IsBadEvent (text : List ℕ) (r : Refusal) : Type 0 where
+  pub schedule : Script
+  pub event : ℕ
+  pub fault : WorldFault
+  pub reads : ReadsText text (Ok schedule)
+  pub few : length schedule.events < 100001
+  pub runs : Runs schedule (Err (event, fault))
+  pub refuses : step_refusal (head_lines schedule + event) fault ≡ Some r
+
+-- the first line that is refused, and why
+abbrev pub IsRefused : List ℕ → Refusal → Type 0
+IsRefused text r = IsBadText text r ⊎ IsBadEvent text r
+
+-- the text is a schedule of more events than a world takes
+abbrev pub HasTooManyEvents : List ℕ → Type 0
+HasTooManyEvents text = (s : Script) × ReadsText text (Ok s) × (100000 < length s.events)
+
+-- the text is a schedule whose packets would have more bytes than a world keeps
+pub record HasTooManyBytes (text : List ℕ) : Type 0 where
+  pub schedule : Script
+  pub event : ℕ
+  pub reads : ReadsText text (Ok schedule)
+  pub few : length schedule.events < 100001
+  pub runs : Runs schedule (Err (event, world_fault.PacketLimit))
+
+-- when each fault of a run over events comes, where the first of them stands in the line after this one
+abbrev pub EventsCause : ReplayFault → ℕ → Result (World Any) (ℕ × WorldFault) → Type 0
+EventsCause (replaying.Refused r) line o = (n : ℕ) × (f : WorldFault) × (o ≡ Err (n, f)) × (step_refusal (line + n) f ≡ Some r)
+EventsCause replaying.OutOfMemory line o = ⊤
+EventsCause replaying.TooManyPackets line o = (n : ℕ) × (o ≡ Err (n, world_fault.PacketLimit))
+EventsCause replaying.TooManyEvents line o = ⊥
+EventsCause replaying.Read line o = ⊥
+EventsCause replaying.TooLong line o = ⊥
+
+-- when each fault of a replay of a text comes
+abbrev pub TextCause : ReplayFault → List ℕ → Type 0
+TextCause (replaying.Refused r) text = IsRefused text r
+TextCause replaying.TooManyEvents text = HasTooManyEvents text
+TextCause replaying.TooManyPackets text = HasTooManyBytes text
+TextCause replaying.OutOfMemory text = ⊤
+TextCause replaying.Read text = ⊥
+TextCause replaying.TooLong text = ⊥
+
+-- when each fault of a replay of an input comes: by what was left of it, and its count of faults
+abbrev pub ReplayCause : ReplayFault → Option (List ℕ) → ℕ → ℕ → Type 0
+ReplayCause (replaying.Refused r) left before now = (text : List ℕ) × IsAllOf left text × IsRefused text r
+ReplayCause replaying.TooManyEvents left before now = (text : List ℕ) × IsAllOf left text × HasTooManyEvents text
+ReplayCause replaying.TooManyPackets left before now = (text : List ℕ) × IsAllOf left text × HasTooManyBytes text
+ReplayCause replaying.OutOfMemory left before now = ⊤
+ReplayCause replaying.Read left before now = Rose before now
+ReplayCause replaying.TooLong left before now = IsTooLong left

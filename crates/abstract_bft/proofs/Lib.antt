@@ -1,6 +1,0 @@
--- The lemmas that the proofs of this crate share.
-pub mod ReportLemmas
-pub mod RunLemmas
-pub mod StatusLemmas
-pub mod StreamLemmas
-pub mod TextLemmas
