@@ -18,4 +18,6 @@ mod opening;
 #[cfg(test)]
 mod replicas;
 #[cfg(test)]
+mod routes;
+#[cfg(test)]
 mod setups;
