@@ -9,8 +9,8 @@ ghost use Rattle.ab_replay.specs.Protocols.{any, is_served};
 ghost use Rattle.ab_replay.specs.Replays.{run_in, Performs, Replays, EventsCause, TextCause, ReplayCause, fault_from, text_refusal, step_refusal};
 ghost use Rattle.ab_replay.specs.Streams.{IsAllOf};
 
-use crate::report::report;
 use crate::refusal::{Cause, Refusal};
+use crate::report::report;
 use crate::stream::{ReadFault, read_all};
 use ab_cast::Setup;
 use ab_chain::Chain;
@@ -48,7 +48,7 @@ pub enum ReplayFault {
 
 impl From<OutOfMemory> for ReplayFault {
     ghost use Rattle.std.specs.Prelude.{◌≡◌};
-    ghost use Rattle.ab_replay.specs.declared.replay.ReplayFault.TheVariants.{OutOfMemory as NoMemory};
+    ghost use Rattle.ab_replay.specs.declared.running.ReplayFault.TheVariants.{OutOfMemory as NoMemory};
 
     ghost from_gives = { λ _ e. e ≡ NoMemory };
 
