@@ -27,6 +27,3 @@ pub use seat::Seat;
 pub use slots::Slots;
 pub use turn::Turn;
 pub use vote::Vote;
-
-#[cfg(test)]
-mod tests;
