@@ -10,6 +10,3 @@ mod parts;
 pub use asked::asked_in;
 pub use backup::Backup;
 pub use orderer::Orderer;
-
-#[cfg(test)]
-mod tests;
