@@ -30,17 +30,17 @@ use Rattle.ab_replay.proofs.RunLemmas.{one_end}
 use Rattle.ab_command.specs.Statuses.{Call, IsReplay, StatusCause, Says, SaysNoMemoryOn, Settles, HasCauseOf, HasFront, HasReport, IsClear, IsClearForKeys, premise_code}
 
 -- a run has one end
-said_at : {S : Type 0} (machine : Machine S) (s : Script) (report : List ℕ) (held : Bool) (end : World Any) → Performs machine s report held → RunsTo (any machine) s (Ok end)
+said_at : {S : Type 0} (machine : Machine S) (told : World Any → List ℕ) (s : Script) (report : List ℕ) (held : Bool) (end : World Any) → Performs machine told s report held → RunsTo (any machine) s (Ok end)
     → IsTrue held ↔ (premise_of end ≡ Held)
-said_at machine s report held end performs runs =
+said_at machine told s report held end performs runs =
     let both : ◌≡◌ {A = Result (World Any) (ℕ × WorldFault)} (Ok performs.end) (Ok end) = one_end (any machine) s (Ok performs.end) (Ok end) (record { cluster = performs.cluster; sized = performs.sized; runs = performs.runs }) runs in
     let same : performs.end ≡ end = cc (both) in
     subst (λ (w : World Any). IsTrue held ↔ (premise_of w ≡ Held)) same performs.says
 
 said_of : (service : ServiceName) (s : Script) (report : List ℕ) (held : Bool) (end : World Any) → PerformsAs service s report held
     → RunsTo (proto_of service) s (Ok end) → IsTrue held ↔ (premise_of end ≡ Held)
-said_of Echo s report held end performs runs = said_at _ s report held end performs runs
-said_of Kv s report held end performs runs = said_at _ s report held end performs runs
+said_of Echo s report held end performs runs = said_at _ _ s report held end performs runs
+said_of Kv s report held end performs runs = said_at _ _ s report held end performs runs
 
 code_of_broken : (p : Premise) → (p ≡ Held → IsTrue false) → 1 ≡ premise_code p
 code_of_broken Held never = let e : false ≡ true = never refl in absurd (cc)

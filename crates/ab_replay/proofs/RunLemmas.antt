@@ -203,7 +203,7 @@ bounds_once f n a b = λ j. record { some_faulty = le_prop a.some_faulty b.some_
 abbrev of_size : (f n : ℕ) → Plan → IsInBounds f n → Cluster
 of_size f n plan bounds = record { f = f; clients = n; plan = plan; in_bounds = bounds }
 
-one_cluster : (c d : Cluster) → c.f ≡ d.f → c.clients ≡ d.clients → c.plan ≡ d.plan → c ≡ d
+pub one_cluster : (c d : Cluster) → c.f ≡ d.f → c.clients ≡ d.clients → c.plan ≡ d.plan → c ≡ d
 one_cluster c d f n plan =
     subst (λ (g : ℕ). (b : IsInBounds g d.clients) → c ≡ of_size g d.clients d.plan b) f
     (subst (λ (m : ℕ). (b : IsInBounds c.f m) → c ≡ of_size c.f m d.plan b) n

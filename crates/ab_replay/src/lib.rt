@@ -7,5 +7,5 @@ mod report;
 mod stream;
 
 pub use refusal::{Cause, Refusal, refusal_line};
-pub use replay::{AnyProtocol, AnyWorld, Replayed, ReplayFault, replay};
+pub use replay::{AnyProtocol, AnyWorld, Replayed, ReplayFault, is_held, replay};
 pub use stream::{ReadFault, WriteFault, read_all, write_all};
