@@ -70,10 +70,11 @@ pub record StormsTo (k : StormCommand) (r : Result (World Any) (ℕ × WorldFaul
   pub sized : IsClusterOf cluster (storm_script k [])
   pub runs : run_in kv cluster (storm_script k (events_in cluster k)) ≡ r
 
--- the storm that is asked for has a run with this summary, which keeps what a replay of its events would
+-- the storm that is asked for has a run of all its events with this summary, of which is told what is told of a replay
 pub record Storms (k : StormCommand) (summary : List ℕ) (held : Bool) : Type 0 where
   pub cluster : Cluster
   pub sized : IsClusterOf cluster (storm_script k [])
+  pub all : length (events_in cluster k) ≡ k.events
   pub performs : Performs kv_machine summary_of (storm_script k (events_in cluster k)) summary held
 
 -- the packets of the storm would have more bytes than a world keeps

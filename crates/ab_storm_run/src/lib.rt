@@ -7,6 +7,3 @@ mod summary;
 
 pub use laws::storms_are_not_refused;
 pub use running::{StormFault, Stormed, storm, takes_plan};
-
-#[cfg(test)]
-mod tests;

@@ -1,7 +1,8 @@
 //! The summary of a storm.
 
-ghost use Rattle.std.specs.Prelude.{◌≡◌, ◌*◌, ◌+◌, ◌++◌, IfOk, OnOk, length, string_bytes};
+ghost use Rattle.std.specs.Prelude.{◌≡◌, ◌<◌, ◌*◌, ◌+◌, ◌++◌, IfOk, Some, length, slice_get, string_bytes};
 ghost use Rattle.std.specs.List.{count_by};
+ghost use Rattle.std.specs.Option.{option_map};
 ghost use Rattle.ab_storm_run.specs.Summaries.{is_of, highest, count_of, numbers_text, summary_of};
 
 use ab_num::OutOfMemory;
@@ -44,6 +45,17 @@ impl Counted {
     }
 }
 
+/// The instance in which a replica is.
+fn instance_of<S: Service>(world: &AnyWorld<S>, r: u8) -> u32
+    requires { r < length world.now.cast.replicas }
+    ensures { Some result ≡ option_map (λ s. s.rep.at) (slice_get world.now.cast.replicas r) }
+{
+    match world.instance_of(r) {
+        Some(instance) => instance,
+        None => unreachable!(),
+    }
+}
+
 /// The highest instance in which a replica is.
 fn top<S: Service>(world: &AnyWorld<S>) -> u32
     requires { length world.now.cast.replicas ≡ 3 * world.now.cast.setup.cluster.f + 1 }
@@ -51,10 +63,7 @@ fn top<S: Service>(world: &AnyWorld<S>) -> u32
 {
     let mut top = 0;
     for r in 0..world.setup().cluster().replicas() {
-        let Some(instance) = world.instance_of(r) else {
-            unreachable!()
-        };
-        top = top.max(instance);
+        top = top.max(instance_of(world, r));
     }
     top
 }

@@ -1,0 +1,115 @@
+-- The run of a storm.
+use Rattle.std.proofs.Common.{◌≡◌, ◌↔◌, ℕ, zero, suc, ◌+◌, ◌-◌, ◌*◌, ◌≤◌, ◌<◌, Bool, IsTrue, List, [], ◌∷◌, Result, Ok, Err, length, refl, sym, ap, ◌∙◌, subst, arith}
+use Rattle.std.specs.Prelude.{IfErr}
+use Rattle.ab_num.specs.declared.cluster.Cluster.{Cluster}
+use Rattle.ab_text.specs.declared.event.Event.{Event}
+use Rattle.ab_text.specs.declared.line.Premise.{Premise}
+use Rattle.ab_text.specs.declared.line.Premise.TheVariants.{Held}
+use Rattle.ab_words.specs.Commands.{StormCommand}
+use Rattle.ab_storm.specs.Storms.{Storm}
+use Rattle.ab_world.specs.declared.fault.WorldFault.{WorldFault}
+use Rattle.ab_world.specs.declared.fault.WorldFault.TheVariants.{PacketLimit}
+use Rattle.ab_world.specs.Steps.{stepped}
+use Rattle.ab_world.specs.Runs.{outcome, refused_or}
+use Rattle.ab_world.specs.Worlds.{World, premise_of, start}
+use Rattle.ab_replay.specs.Protocols.{Any}
+use Rattle.ab_replay.specs.Replays.{IsClusterOf, run_in}
+use Rattle.ab_replay.proofs.RunLemmas.{one_cluster, step_steps}
+use Rattle.ab_storm_run.specs.declared.running.StormFault.{StormFault}
+use Rattle.ab_storm_run.specs.declared.running.StormFault.TheVariants.{TooManyPackets, OutOfMemory}
+use Rattle.ab_storm_run.specs.Standing.{Goes}
+use Rattle.ab_storm_run.specs.Summaries.{summary_of}
+use Rattle.ab_storm_run.specs.Runs.{kv, drawn_at, drawn_behind, drawn_events, storm_script, events_in, StormsTo, Storms, StepCause, EndCause}
+use Rattle.ab_storm_run.proofs.Drawing.{refused_for, goes_on, storm_goes}
+
+-- ---- one end
+
+abbrev storm_run : StormCommand → Cluster → Result (World Any) (ℕ × WorldFault)
+storm_run k c = run_in kv c (storm_script k (events_in c k))
+
+pub one_storm_end : (k : StormCommand) (r q : Result (World Any) (ℕ × WorldFault)) → StormsTo k r → StormsTo k q → r ≡ q
+one_storm_end k r q a b =
+    sym a.runs
+    ∙ ap (storm_run k) (one_cluster a.cluster b.cluster (a.sized.f ∙ sym b.sized.f) (a.sized.clients ∙ sym b.sized.clients) (a.sized.plan ∙ sym b.sized.plan))
+    ∙ b.runs
+
+-- a summary is that of a run of the storm
+pub storm_runs : (k : StormCommand) (summary : List ℕ) (held : Bool) (storms : Storms k summary held) → StormsTo k (Ok storms.performs.end)
+storm_runs k summary held storms =
+    let p = storms.performs in
+    let same : storms.cluster ≡ p.cluster =
+    one_cluster storms.cluster p.cluster (storms.sized.f ∙ sym p.sized.f) (storms.sized.clients ∙ sym p.sized.clients) (storms.sized.plan ∙ sym p.sized.plan) in
+    record {
+      cluster = p.cluster;
+      sized = record { f = p.sized.f; clients = p.sized.clients; plan = p.sized.plan };
+      runs = ap (λ (c : Cluster). run_in kv p.cluster (storm_script k (events_in c k))) (sym same) ∙ p.runs;
+    }
+
+-- where the run of the storm comes to an end, the summary is that of the end, and says whether the premises hold there
+pub storm_end : (k : StormCommand) (summary : List ℕ) (held : Bool) (end : World Any) → Storms k summary held → StormsTo k (Ok end)
+    → (summary ≡ summary_of end) × (IsTrue held ↔ (premise_of end ≡ Held))
+storm_end k summary held end storms runs =
+    let both : ◌≡◌ {A = Result (World Any) (ℕ × WorldFault)} (Ok storms.performs.end) (Ok end) = one_storm_end k _ _ (storm_runs k summary held storms) runs in
+    let same : storms.performs.end ≡ end = cc (both) in
+    (storms.performs.reports ∙ ap summary_of same, subst (λ (w : World Any). IsTrue held ↔ (premise_of w ≡ Held)) same storms.performs.says)
+
+-- ---- event by event
+
+-- the events from here on: one, and those behind it
+pub more_drawn : (n i : ℕ) (s : Storm) (w : World Any) → i < n
+    → drawn_events kv (n - i) s w ≡ (drawn_at s w).0 ∷ drawn_behind (stepped kv w (drawn_at s w).0) (λ v. drawn_events kv (n - (i + 1)) (drawn_at s w).1 v)
+more_drawn n i s w lt = let next : n - i ≡ suc (n - (i + 1)) = omega (arith, lt) in ap (λ m. drawn_events kv m s w) next
+
+-- the run from an event on is that from the next one on
+pub run_goes_on : (n i : ℕ) (s : Storm) (w v : World Any) → i < n → stepped kv w (drawn_at s w).0 ≡ Ok v
+    → outcome kv (i + 1) w (drawn_events kv (n - i) s w) ≡ outcome kv (i + 1 + 1) v (drawn_events kv (n - (i + 1)) (drawn_at s w).1 v)
+run_goes_on n i s w v lt takes =
+    ap (outcome kv (i + 1) w) (more_drawn n i s w lt)
+    ∙ ap (λ (r : Result (World Any) WorldFault). refused_or kv (i + 1) (stepped kv w (drawn_at s w).0) (λ u. outcome kv (i + 1 + 1) u (drawn_behind r (λ t. drawn_events kv (n - (i + 1)) (drawn_at s w).1 t)))) takes
+    ∙ ap (λ (r : Result (World Any) WorldFault). refused_or kv (i + 1) r (λ u. outcome kv (i + 1 + 1) u (drawn_events kv (n - (i + 1)) (drawn_at s w).1 v))) takes
+
+-- or the event is the first that is refused
+pub run_ends : (n i : ℕ) (s : Storm) (w : World Any) (f : WorldFault) → i < n → stepped kv w (drawn_at s w).0 ≡ Err f
+    → outcome kv (i + 1) w (drawn_events kv (n - i) s w) ≡ Err (i + 1, f)
+run_ends n i s w f lt refused =
+    ap (outcome kv (i + 1) w) (more_drawn n i s w lt)
+    ∙ ap (λ (r : Result (World Any) WorldFault). refused_or kv (i + 1) r (λ u. outcome kv (i + 1 + 1) u (drawn_behind (stepped kv w (drawn_at s w).0) (λ t. drawn_events kv (n - (i + 1)) (drawn_at s w).1 t)))) refused
+
+-- what ends an event ends the run
+pub ends_run : (e : StormFault) (n i : ℕ) (s : Storm) (w : World Any) → i < n → StepCause e (stepped kv w (drawn_at s w).0)
+    → EndCause e (outcome kv (i + 1) w (drawn_events kv (n - i) s w))
+ends_run TooManyPackets n i s w lt refused = (i + 1, run_ends n i s w PacketLimit lt refused)
+ends_run OutOfMemory n i s w lt cause = tt
+
+-- ---- whole runs
+
+-- one event of a run is refused, or the rest of the run is one from where it leads
+abbrev Rest : ℕ → ℕ → Storm → World Any → Result (World Any) WorldFault → Result (World Any) (ℕ × WorldFault)
+Rest n i s w r = refused_or kv i r (λ u. outcome kv (i + 1) u (drawn_behind r (λ v. drawn_events kv n (drawn_at s w).1 v)))
+
+taken_by : (n i : ℕ) (s : Storm) (w : World Any) → Goes s w → w.cast.events < 100000 → (e : ℕ) (f : WorldFault) (r : Result (World Any) WorldFault) → stepped kv w (drawn_at s w).0 ≡ r
+    → ((v : World Any) → stepped kv w (drawn_at s w).0 ≡ Ok v → outcome kv (i + 1) v (drawn_events kv n (drawn_at s w).1 v) ≡ Err (e, f) → f ≡ PacketLimit)
+    → Rest n i s w r ≡ Err (e, f) → f ≡ PacketLimit
+taken_by n i s w goes few e f (Ok v) takes more stops = more v takes stops
+taken_by n i s w goes few e f (Err g) takes more stops = let same : f ≡ g = cc (stops) in same ∙ refused_for s w goes few g takes
+
+-- over a world with few events, no event that is drawn is refused but for the limit of bytes
+pub drawn_taken : (n i : ℕ) (s : Storm) (w : World Any) → Goes s w → w.cast.events + n ≤ 100000 → (e : ℕ) (f : WorldFault)
+    → outcome kv i w (drawn_events kv n s w) ≡ Err (e, f) → f ≡ PacketLimit
+drawn_taken zero i s w goes few e f is = absurd (cc (is))
+drawn_taken (suc n) i s w goes few e f is =
+    let some : w.cast.events < 100000 = omega (arith, few) in
+    taken_by n i s w goes some e f (stepped kv w (drawn_at s w).0) refl
+    (λ v takes rest. drawn_taken n (i + 1) (drawn_at s w).1 v (goes_on s w goes some v takes) (omega (arith, few, (step_steps kv w v (drawn_at s w).0 takes).0)) e f rest)
+    is
+
+whole_by : (n i : ℕ) (s : Storm) (w end : World Any) (r : Result (World Any) WorldFault)
+    → ((v : World Any) → outcome kv (i + 1) v (drawn_events kv n (drawn_at s w).1 v) ≡ Ok end → length (drawn_events kv n (drawn_at s w).1 v) ≡ n)
+    → Rest n i s w r ≡ Ok end → length (drawn_behind r (λ v. drawn_events kv n (drawn_at s w).1 v)) ≡ n
+whole_by n i s w end (Ok v) more is = more v is
+whole_by n i s w end (Err f) more is = absurd (cc (is))
+
+-- where no event is refused, all are drawn
+pub all_drawn : (n i : ℕ) (s : Storm) (w end : World Any) → outcome kv i w (drawn_events kv n s w) ≡ Ok end → length (drawn_events kv n s w) ≡ n
+all_drawn zero i s w end is = refl
+all_drawn (suc n) i s w end is = ap suc (whole_by n i s w end (stepped kv w (drawn_at s w).0) (λ v rest. all_drawn n (i + 1) (drawn_at s w).1 v end rest) is)
