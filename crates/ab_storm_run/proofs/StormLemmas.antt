@@ -1,15 +1,15 @@
 -- The run of a storm.
 use Rattle.std.proofs.Common.{◌≡◌, ◌↔◌, ℕ, zero, suc, ◌+◌, ◌-◌, ◌*◌, ◌≤◌, ◌<◌, Bool, IsTrue, List, [], ◌∷◌, Result, Ok, Err, length, refl, sym, ap, ◌∙◌, subst, arith}
-use Rattle.std.specs.Prelude.{IfErr}
+use Rattle.std.specs.Prelude.{IsSome, Some}
 use Rattle.ab_num.specs.declared.cluster.Cluster.{Cluster}
 use Rattle.ab_text.specs.declared.event.Event.{Event}
 use Rattle.ab_text.specs.declared.line.Premise.{Premise}
 use Rattle.ab_text.specs.declared.line.Premise.TheVariants.{Held}
 use Rattle.ab_words.specs.Commands.{StormCommand}
-use Rattle.ab_storm.specs.Storms.{Storm}
+use Rattle.ab_storm.specs.Storms.{Storm, next_of}
 use Rattle.ab_world.specs.declared.fault.WorldFault.{WorldFault}
-use Rattle.ab_world.specs.declared.fault.WorldFault.TheVariants.{PacketLimit}
-use Rattle.ab_world.specs.Steps.{stepped}
+use Rattle.ab_world.specs.declared.fault.WorldFault.TheVariants.{PacketLimit, EventLimit, NotBuilt, NoPacket, BadParty, Busy, OutOfMemory as NoMemory}
+use Rattle.ab_world.specs.Steps.{Cause, stepped}
 use Rattle.ab_world.specs.Runs.{outcome, refused_or}
 use Rattle.ab_world.specs.Worlds.{World, premise_of, start}
 use Rattle.ab_replay.specs.Protocols.{Any}
@@ -19,7 +19,7 @@ use Rattle.ab_storm_run.specs.declared.running.StormFault.{StormFault}
 use Rattle.ab_storm_run.specs.declared.running.StormFault.TheVariants.{TooManyPackets, OutOfMemory}
 use Rattle.ab_storm_run.specs.Standing.{Goes}
 use Rattle.ab_storm_run.specs.Summaries.{summary_of}
-use Rattle.ab_storm_run.specs.Runs.{kv, drawn_at, drawn_behind, drawn_events, storm_script, events_in, StormsTo, Storms, StepCause, EndCause}
+use Rattle.ab_storm_run.specs.Runs.{kv, end_of, idle_of, drawn_at, drawn_behind, drawn_events, storm_script, events_in, StormsTo, Storms, StepCause, EndCause}
 use Rattle.ab_storm_run.proofs.Drawing.{refused_for, goes_on, storm_goes}
 
 -- ---- one end
@@ -54,6 +54,37 @@ storm_end k summary held end storms runs =
     (storms.performs.reports ∙ ap summary_of same, subst (λ (w : World Any). IsTrue held ↔ (premise_of w ≡ Held)) same storms.performs.says)
 
 -- ---- event by event
+
+-- what the generator answers is what is drawn where the world stands
+pub drawn_so : (s t : Storm) (w : World Any) (e : Event) (packets : ℕ) (idle : List Bool) → packets ≡ length w.packets → idle ≡ idle_of w → (e, t) ≡ next_of packets idle s
+    → (e ≡ (drawn_at s w).0) × (t ≡ (drawn_at s w).1)
+drawn_so s t w e packets idle sent free is =
+    let so : ◌≡◌ {A = Event × Storm} (e, t) (drawn_at s w) = is ∙ (λ j. next_of (sent j) (free j) s) in (ap (λ d. d.0) so, ap (λ d. d.1) so)
+
+-- a fault of an event that was drawn ends the storm
+pub fault_ends : (s : Storm) (w : World Any) (f : WorldFault) → Goes s w → w.cast.events < 100000 → Cause kv f w (drawn_at s w).0 → IsSome (end_of f)
+fault_ends s w PacketLimit goes few cause = tt
+fault_ends s w NoMemory goes few cause = tt
+fault_ends s w EventLimit goes few cause = absurd (cc (refused_for s w goes few EventLimit cause))
+fault_ends s w NotBuilt goes few cause = absurd (cc (refused_for s w goes few NotBuilt cause))
+fault_ends s w NoPacket goes few cause = absurd (cc (refused_for s w goes few NoPacket cause))
+fault_ends s w BadParty goes few cause = absurd (cc (refused_for s w goes few BadParty cause))
+fault_ends s w Busy goes few cause = absurd (cc (refused_for s w goes few Busy cause))
+
+-- and has its cause
+pub end_caused : (w : World Any) (event : Event) (f : WorldFault) (e : StormFault) → Some e ≡ end_of f → Cause kv f w event → StepCause e (stepped kv w event)
+end_caused w event PacketLimit TooManyPackets is cause = cause
+end_caused w event f OutOfMemory is cause = tt
+end_caused w event NoMemory TooManyPackets is cause = absurd (cc (is))
+end_caused w event EventLimit TooManyPackets is cause = absurd (cc (is))
+end_caused w event NotBuilt TooManyPackets is cause = absurd (cc (is))
+end_caused w event NoPacket TooManyPackets is cause = absurd (cc (is))
+end_caused w event BadParty TooManyPackets is cause = absurd (cc (is))
+end_caused w event Busy TooManyPackets is cause = absurd (cc (is))
+
+-- no event is left
+pub run_done : (n i : ℕ) (s : Storm) (w : World Any) → i ≡ n → outcome kv (i + 1) w (drawn_events kv (n - i) s w) ≡ Ok w
+run_done n i s w all = let none : n - i ≡ 0 = omega (arith, all) in ap (λ m. outcome kv (i + 1) w (drawn_events kv m s w)) none
 
 -- the events from here on: one, and those behind it
 pub more_drawn : (n i : ℕ) (s : Storm) (w : World Any) → i < n

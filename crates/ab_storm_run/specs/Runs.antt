@@ -1,5 +1,5 @@
 -- Storms that are run: events that are drawn one after another, each from where the world stands then.
-use Rattle.std.specs.Prelude.{◌≡◌, ⊤, ℕ, zero, suc, ◌≤◌, Bool, List, [], ◌∷◌, length, map, slice_get, Result, Ok, Err}
+use Rattle.std.specs.Prelude.{◌≡◌, ⊤, ℕ, zero, suc, ◌≤◌, Bool, List, [], ◌∷◌, length, map, slice_get, Option, None, Some, Result, Ok, Err}
 use Rattle.std.specs.List.{range_with_len}
 use Rattle.ab_num.specs.declared.cluster.Cluster.{Cluster}
 use Rattle.ab_num.specs.declared.plan.ServiceName.TheVariants.{Kv}
@@ -82,6 +82,16 @@ abbrev pub PassesBytes : StormCommand → Type 0
 PassesBytes k = (n : ℕ) × StormsTo k (Err (n, world_fault.PacketLimit))
 
 -- ---- faults
+
+-- what ends a storm: no refusal of an event does
+abbrev pub end_of : WorldFault → Option StormFault
+end_of world_fault.PacketLimit = Some storm_fault.TooManyPackets
+end_of world_fault.OutOfMemory = Some storm_fault.OutOfMemory
+end_of world_fault.EventLimit = None
+end_of world_fault.NotBuilt = None
+end_of world_fault.NoPacket = None
+end_of world_fault.BadParty = None
+end_of world_fault.Busy = None
 
 -- when each fault of one event comes
 abbrev pub StepCause : StormFault → Result (World Any) WorldFault → Type 0

@@ -1,11 +1,11 @@
 //! A storm is run.
 
-ghost use Rattle.std.specs.Prelude.{◌≡◌, ◌<◌, ◌≤◌, IsTrue, IfOk, IfErr, OnOk, Ok, None};
+ghost use Rattle.std.specs.Prelude.{◌≡◌, ◌<◌, ◌≤◌, IsTrue, IsSome, IfOk, IfErr, OnOk, Ok, Some};
 ghost use Rattle.ab_text.specs.Built.{plan_is_built};
 ghost use Rattle.ab_world.specs.Runs.{outcome};
 ghost use Rattle.ab_world.specs.Steps.{stepped};
 ghost use Rattle.ab_storm_run.specs.Standing.{Goes};
-ghost use Rattle.ab_storm_run.specs.Runs.{kv, idle_of, drawn_at, drawn_events, Storms, StepCause, EndCause, StormCause};
+ghost use Rattle.ab_storm_run.specs.Runs.{kv, idle_of, drawn_at, drawn_events, end_of, Storms, StepCause, EndCause, StormCause};
 
 use crate::summary::summary;
 use ab_cast::Setup;
@@ -61,6 +61,19 @@ fn idle_clients(world: &AnyWorld<Kv>) -> [bool; 16]
     world.idle()
 }
 
+/// What ends a storm, where an event that it drew was not taken.
+fn ended_by(fault: WorldFault) -> StormFault
+    requires { IsSome (end_of fault) }
+    ensures { Some result ≡ end_of fault }
+{
+    match fault {
+        WorldFault::PacketLimit => StormFault::TooManyPackets,
+        WorldFault::OutOfMemory => StormFault::OutOfMemory,
+        WorldFault::EventLimit | WorldFault::NotBuilt | WorldFault::NoPacket => unreachable!(),
+        WorldFault::BadParty | WorldFault::Busy => unreachable!(),
+    }
+}
+
 /// One event more, drawn where the world stands.
 fn step(alloc: Global, storm: &mut Storm, world: &mut AnyWorld<Kv>) -> Result<(), StormFault>
     requires goes { Goes storm.old world.old }
@@ -72,13 +85,7 @@ fn step(alloc: Global, storm: &mut Storm, world: &mut AnyWorld<Kv>) -> Result<()
     let event = storm.next(world.packets(), &idle_clients(world));
     match world.step(alloc, &event) {
         Ok(()) => Ok(()),
-        Err(WorldFault::PacketLimit) => Err(StormFault::TooManyPackets),
-        Err(WorldFault::OutOfMemory) => Err(StormFault::OutOfMemory),
-        Err(WorldFault::EventLimit) => unreachable!(),
-        Err(WorldFault::NotBuilt) => unreachable!(),
-        Err(WorldFault::NoPacket) => unreachable!(),
-        Err(WorldFault::BadParty) => unreachable!(),
-        Err(WorldFault::Busy) => unreachable!(),
+        Err(fault) => Err(ended_by(fault)),
     }
 }
 

@@ -19,3 +19,5 @@ mod opening;
 mod replicas;
 #[cfg(test)]
 mod setups;
+#[cfg(test)]
+mod storms;
