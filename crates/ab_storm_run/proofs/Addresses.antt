@@ -73,14 +73,14 @@ module _ (c : Cluster) where
   -- ---- what a message names
 
   -- the client that asks in it, or stops its replica
-  abbrev pub asker : Msg → ℕ
-  asker (msg.Req content tags) = client_of (maker_of content)
-  asker (msg.Panic content tag) = client_of (maker_of content)
-  asker _ = 0
+  abbrev pub asker_of : Msg → ℕ
+  asker_of (msg.Req content tags) = client_of (maker_of content)
+  asker_of (msg.Panic content tag) = client_of (maker_of content)
+  asker_of _ = 0
 
   -- the clients that it names are of the cluster
   pub record Names (m : Msg) : Type 0 where
-    pub asker : asker m < c.clients
+    pub asker : asker_of m < c.clients
     pub requests : list_all (λ (q : Request). nat_lt q.client c.clients) (requests_in m) ≡ true
 
   abbrev pub CallNames : Call → Type 0

@@ -45,7 +45,7 @@ pub idle_is : (w : World Any) (xs : List Bool) → length xs ≡ 16 → ((c : �
 idle_is w xs sized tells =
     let free : ℕ → Bool = λ c. is_free (slice_get w.cast.clients c) in
     ext_get_or false xs (idle_of w) (sized ∙ sym (length-map-range_with_len free 0 16))
-    (λ i within. let lt : i < 16 = omega (arith, within, sized) in get_or_from_slice_get xs i (free i) false (tells i lt) ∙ sym (get_or-map-range_with_len free 0 16 i i false lt refl))
+    (λ i within. let lt : i < 16 = omega (arith, within, sized) in get_or_from_slice_get xs i (free i) false (tells i lt) ∙ sym (get_or-map-range_with_len free 0 16 i i false lt (omega arith)))
 
 free_at : (g : ℕ → Bool) (c : ℕ) (o : Option ℕ) → slice_get (range_with_len 0 16) c ≡ o → option_map g o ≡ Some true → g c ≡ true
 free_at g c None at e = absurd (cc (e))

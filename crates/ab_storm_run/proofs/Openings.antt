@@ -26,7 +26,7 @@ use Rattle.ab_cast.specs.Setups.{Setup, judge_at}
 use Rattle.ab_cast.specs.Cores.{Taken, command, message, time}
 use Rattle.ab_world.specs.Steps.{Given, ask, hand, ring, messages, taken_from}
 use Rattle.ab_world.specs.Worlds.{opening_at}
-use Rattle.ab_storm_run.proofs.Addresses.{and_first, and_second, asker, Names}
+use Rattle.ab_storm_run.proofs.Addresses.{and_first, and_second, asker_of, Names}
 
 -- ---- what opens is taken
 
@@ -80,7 +80,7 @@ module _ (c : Cluster) (p : Party) where
   abbrev ClaimsHere : Msg → Type 0
   ClaimsHere m = list_all here (flat_map parties_of_content (claims c.f p m)) ≡ true
 
-  asker_here : (m : Msg) → ClaimsHere m → asker c m < c.clients
+  asker_here : (m : Msg) → ClaimsHere m → asker_of c m < c.clients
   asker_here (msg.Req content tags) all = asks_here c (maker_of content) (one_maker here content all)
   asker_here (msg.Panic content tag) all = asks_here c (maker_of content) (one_maker here content all)
   asker_here _ all = c.in_bounds.some_client
