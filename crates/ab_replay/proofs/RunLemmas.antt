@@ -34,8 +34,8 @@ use Rattle.ab_world.specs.Runs.{outcome, refused_or}
 use Rattle.ab_world.specs.Steps.{Happening, ready, ready_in, happening, asked, asked_at, handed, addressed, delivered, rung, refuse_command, after, after_taking, moved_at, stepped, stepped_by, taken_from}
 use Rattle.ab_world.specs.Worlds.{World, start}
 use Rattle.ab_replay.specs.Protocols.{Any}
-use Rattle.ab_replay.specs.declared.replay.ReplayFault.{ReplayFault}
-use Rattle.ab_replay.specs.declared.replay.ReplayFault.TheVariants.{Read, TooLong, Refused, TooManyEvents, TooManyPackets, OutOfMemory}
+use Rattle.ab_replay.specs.declared.running.ReplayFault.{ReplayFault}
+use Rattle.ab_replay.specs.declared.running.ReplayFault.TheVariants.{Read, TooLong, Refused, TooManyEvents, TooManyPackets, OutOfMemory}
 use Rattle.ab_replay.specs.Replays.{IsClusterOf, RunsTo, Runs, run_in, setup_in, proto_of, head_lines, EventsCause, TextCause}
 
 -- ---- how many replicas a world has

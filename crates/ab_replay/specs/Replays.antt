@@ -29,8 +29,8 @@ use Rattle.ab_world.specs.Runs.{outcome, inputs_of, came_to}
 use Rattle.ab_world.specs.Worlds.{World, start, opener, premise_of}
 use Rattle.ab_replay.specs.declared.refusal.Cause.TheVariants.{BadLine, NoEnd, NotBuilt, NoPacket, BadParty, Busy}
 use Rattle.ab_replay.specs.declared.refusal.Refusal.{Refusal}
-use Rattle.ab_replay.specs.declared.replay.ReplayFault.{ReplayFault}
-use Rattle.ab_replay.specs.declared.replay.ReplayFault.TheVariants as replaying
+use Rattle.ab_replay.specs.declared.running.ReplayFault.{ReplayFault}
+use Rattle.ab_replay.specs.declared.running.ReplayFault.TheVariants as replaying
 use Rattle.ab_replay.specs.Protocols.{Any, any}
 use Rattle.ab_replay.specs.Streams.{IsAllOf, IsTooLong}
 use Rattle.ab_io.specs.Causes.{Rose}

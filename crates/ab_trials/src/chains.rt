@@ -3,8 +3,8 @@
 ghost use Rattle.std.specs.Prelude.{◌≤◌, IsTrue};
 ghost use Rattle.ab_num.specs.Places.{kind_of};
 
-use ab_chain::Chain;
 use ab_abs::{Entry, Protocol, ReplyRule};
+use ab_chain::Chain;
 use ab_hist::History;
 use ab_kv::Kv;
 use ab_msg::Mute;

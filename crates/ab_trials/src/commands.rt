@@ -1,11 +1,11 @@
 //! Runs over objects in memory.
 
-use ab_command::run;
-use ab_replay::AnyWorld;
 use ab_cast::Setup;
+use ab_command::run;
 use ab_hist::array_of;
 use ab_io::{MemClock, MemLink, MemSink, MemSource, SureSink, SureSource};
 use ab_num::{Cluster, Height, Party, Plan};
+use ab_replay::AnyWorld;
 use ab_svc::Echo;
 use ab_text::{Core, Event};
 use std::alloc::Global;
@@ -346,4 +346,19 @@ fn a_world_shows_itself(rt: HostRuntime) -> Result<(), Fail> {
     assert_eq!(rt; world.observations().len(), 1);
     assert_eq!(rt; world.ended(), false);
     Ok(())
+}
+
+/// Each of the head's two cores is handed one client's request, and the chain goes on with the first.
+#[test]
+fn twins_of_a_head_commit_one_request(rt: HostRuntime) -> Result<(), Fail> {
+    expect_after(
+        &rt,
+        rt.alloc(),
+        "abstract 1\nf 1\nplan chain\nclients 2\nservice kv\nlms 5\nfaulty r0 2\n",
+        &["replay"],
+        "run\ninvoke c0 put a 1\ninvoke c1 put b 2\ndeliver 1 r0.1\ndeliver 2 r0.2\ndeliver 3\ndeliver 4\ndeliver 5\ndeliver 6\ndeliver 7\nend\n",
+        0,
+        "invoked 1 c0 1 1\ninvoked 2 c1 1 1\ncommit 9 c0 1 1 1 ok\nlog r1 1 c0.1\nlog r2 1 c0.1\nlog r3 1 c0.1\npremise held\nend 9 7\n",
+        "",
+    )
 }

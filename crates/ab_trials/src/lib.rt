@@ -18,6 +18,8 @@ mod opening;
 #[cfg(test)]
 mod replicas;
 #[cfg(test)]
+mod routes;
+#[cfg(test)]
 mod setups;
 #[cfg(test)]
 mod storms;

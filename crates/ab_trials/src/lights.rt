@@ -4,13 +4,13 @@
 ghost use Rattle.std.specs.Prelude.{◌≤◌, IsTrue};
 ghost use Rattle.ab_num.specs.Places.{kind_of};
 
-use ab_zlight::ZLight;
 use ab_abs::{Entry, Protocol, ReplyRule};
 use ab_hist::History;
 use ab_msg::Mute;
 use ab_num::{Cluster, Kind, OutOfMemory, Plan};
 use ab_read::read;
 use ab_svc::Echo;
+use ab_zlight::ZLight;
 use std::alloc::Global;
 
 /// Client 0's request `put a 1` of stamp 1 in instance 1, with a tag for replica 0.

@@ -1,10 +1,10 @@
 //! Messages opened by a checker that answers the same to everything.
 
-use ab_open::{OpenFault, claims, open};
 use ab_check::Checker;
 use ab_keys::is_party;
 use ab_msg::Tag;
 use ab_num::{Cluster, Party, Plan};
+use ab_open::{OpenFault, claims, open};
 use std::alloc::Global;
 use std::test::Fail;
 

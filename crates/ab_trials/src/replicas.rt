@@ -5,12 +5,12 @@ ghost use Rattle.std.specs.Prelude.{◌≡◌, ◌+◌, ◌≤◌, false, IfSome
 ghost use Rattle.ab_abs.specs.Promises.{ServesAll};
 ghost use Rattle.ab_replica.specs.Sites.{IsPenOf};
 
-use ab_replica::{Effects, Replica};
 use ab_abs::Protocol;
 use ab_msg::{Content, Msg, Notary, Sig, SignFault};
 use ab_null::Null;
 use ab_num::{Cluster, OutOfMemory, Party, Plan};
 use ab_read::read;
+use ab_replica::{Effects, Replica};
 use ab_svc::Echo;
 use std::alloc::{AllocError, Global};
 

@@ -48,7 +48,7 @@ pub enum ReplayFault {
 
 impl From<OutOfMemory> for ReplayFault {
     ghost use Rattle.std.specs.Prelude.{◌≡◌};
-    ghost use Rattle.ab_replay.specs.declared.replay.ReplayFault.TheVariants.{OutOfMemory as NoMemory};
+    ghost use Rattle.ab_replay.specs.declared.running.ReplayFault.TheVariants.{OutOfMemory as NoMemory};
 
     ghost from_gives = { λ _ e. e ≡ NoMemory };
 
