@@ -8,6 +8,7 @@ use Rattle.ab_svc.specs.Machines.{Machine}
 use Rattle.ab_text.specs.declared.fault.TextFault.{TextFault}
 use Rattle.ab_text.specs.declared.line.Premise.{Premise}
 use Rattle.ab_text.specs.declared.line.Premise.TheVariants.{Held, Broken as NotHeld}
+use Rattle.ab_text.specs.Built.{plan_is_built}
 use Rattle.ab_text.specs.Heads.{Script}
 use Rattle.ab_text.specs.Schedules.{ReadsText}
 use Rattle.ab_replay.specs.Protocols.{Any, any}
@@ -30,8 +31,8 @@ use Rattle.ab_replay.specs.Replays.{Performs, PerformsAs, IsRefused, RunsTo, pro
 use Rattle.ab_replay.proofs.RunLemmas.{one_end}
 use Rattle.ab_storm_run.specs.Runs.{Storms, StormsTo, PassesBytes}
 use Rattle.ab_storm_run.specs.Summaries.{summary_of}
-use Rattle.ab_storm_run.proofs.StormLemmas.{one_storm_end, storm_end, storm_runs}
-use Rattle.ab_command.specs.Statuses.{Call, IsReplay, StatusCause, Says, SaysNoMemoryOn, Settles, HasCauseOf, HasFront, HasReport, HasSummary, StormPasses, IsClear, IsClearForKeys, IsClearForStorm, premise_code}
+use Rattle.ab_storm_run.proofs.StormLemmas.{err_ok, ok_err, one_storm_end, storm_end, storm_runs}
+use Rattle.ab_command.specs.Statuses.{Call, IsReplay, StatusCause, Says, SaysNoMemoryOn, Settles, HasCauseOf, HasFront, HasReport, HasSummary, KeepsOut, StormPasses, IsClear, IsClearForKeys, IsClearForStorm, premise_code}
 
 -- a run has one end
 said_at : {S : Type 0} (machine : Machine S) (told : World Any → List ℕ) (s : Script) (report : List ℕ) (held : Bool) (end : World Any) → Performs machine told s report held → RunsTo (any machine) s (Ok end)
@@ -180,12 +181,12 @@ module _ (c : Call) (k : StormCommand) (clear : IsClearForStorm c k) where
       let so = storm_end k summary held end storms runs in
       inl (is ∙ held_code held (premise_of end) so.1, subst (λ (text : List ℕ). Appends c.out_old c.out_new text) so.0 written)
   told_end n end runs (passed m is (e, passes)) =
-      absurd (let both : ◌≡◌ {A = Result (World Any) (ℕ × WorldFault)} (Err (e, PacketLimit)) (Ok end) = one_storm_end k _ _ passes runs in cc (both))
+      absurd (let both : ◌≡◌ {A = Result (World Any) (ℕ × WorldFault)} (Err (e, PacketLimit)) (Ok end) = one_storm_end k _ _ passes runs in err_ok end (e, PacketLimit) both)
   told_end n end runs (refused m is) = inr is
 
   told_limit : (n e : ℕ) → StormsTo k (Err (e, PacketLimit)) → Told n → (n ≡ 7) ⊎ (n ≡ 9)
   told_limit n e runs (summed held m is summary storms written) =
-      absurd (let both : ◌≡◌ {A = Result (World Any) (ℕ × WorldFault)} (Ok storms.performs.end) (Err (e, PacketLimit)) = one_storm_end k _ _ (storm_runs k summary held storms) runs in cc (both))
+      absurd (let both : ◌≡◌ {A = Result (World Any) (ℕ × WorldFault)} (Ok storms.performs.end) (Err (e, PacketLimit)) = one_storm_end k _ _ (storm_runs k summary held storms) runs in ok_err storms.performs.end (e, PacketLimit) both)
   told_limit n e runs (passed m is passes) = inl is
   told_limit n e runs (refused m is) = inr is
 
@@ -235,6 +236,14 @@ pub settled : (c : Call) (r s : Status) → Settles r s c.err_old c.err_new c.er
 settled c r s (inl (e, said)) make front = subst (λ (x : Status). StatusCause x c) (sym e) (make said)
 settled c r s (inr (inl (e, rose))) make front = subst (λ (x : Status). StatusCause x c) (sym e) (inr rose, front)
 settled c r s (inr (inr (e, says))) make front = subst (λ (x : Status). StatusCause x c) (sym e) (front, says)
+
+-- a storm under a plan that isn't built is no command
+pub usage_settled : (c : Call) (k : StormCommand) (r : Status) → Settles r Usage c.err_old c.err_new c.err_before c.err_now → AsksStorm c.words k → plan_is_built k.plan ≡ false → KeepsOut c → StatusCause r c
+usage_settled c k r how asks unbuilt kept = settled c r Usage how (λ said. (λ replay. not_replay c.words k replay asks, ap is_built asks ∙ unbuilt, kept, said)) (inl kept)
+
+-- a storm that passes the limit of bytes
+pub limit_settled : (c : Call) (k : StormCommand) (r : Status) → Settles r (Limit Packets) c.err_old c.err_new c.err_before c.err_now → AsksStorm c.words k → PassesBytes k → KeepsOut c → StatusCause r c
+limit_settled c k r how asks passes kept = settled c r (Limit Packets) how (λ said. (inr (k, asks, passes), kept, said)) (inl kept)
 
 -- want of memory that was to be said
 pub memory_settled : (c : Call) (r : Status) → Settles r OutOfMemory c.err_old c.err_new c.err_before c.err_now → HasFront c → StatusCause r c

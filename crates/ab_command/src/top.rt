@@ -194,11 +194,10 @@ fn serve_storm<O: Sink, E: Sink>(
       err_now = E.faults err.new;
     }) }
 {
-    if takes_plan(asked.cluster().plan) {
-        run_storm(alloc, asked, out, err)
-    } else {
-        say(err, USAGE, Status::Usage)
+    if !takes_plan(asked.cluster().plan) {
+        return say(err, USAGE, Status::Usage);
     }
+    run_storm(alloc, asked, out, err)
 }
 
 /// What the program does.

@@ -7,5 +7,5 @@ mod running;
 mod stream;
 
 pub use refusal::{Cause, Refusal, refusal_line};
-pub use running::{AnyProtocol, AnyWorld, Replayed, ReplayFault, is_held, replay};
+pub use running::{AnyProtocol, AnyWorld, ReplayFault, Replayed, is_held, replay};
 pub use stream::{ReadFault, WriteFault, read_all, write_all};

@@ -9,8 +9,8 @@ ghost use Rattle.ab_replay.specs.Protocols.{any, is_served};
 ghost use Rattle.ab_replay.specs.Replays.{run_in, report_of, Performs, Replays, EventsCause, TextCause, ReplayCause, fault_from, text_refusal, step_refusal};
 ghost use Rattle.ab_replay.specs.Streams.{IsAllOf};
 
-use crate::report::report;
 use crate::refusal::{Cause, Refusal};
+use crate::report::report;
 use crate::stream::{ReadFault, read_all};
 use ab_cast::Setup;
 use ab_chain::Chain;

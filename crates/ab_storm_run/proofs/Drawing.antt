@@ -79,7 +79,7 @@ module _ (w : World Any) (sound : IsSound IsSized w) where
   x = w.cast.setup
 
   seat_asked : (c : ℕ) (bytes : ArrayVec ℕ) (o : Option Seat) → is_free o ≡ true
-      → asked_at (own_place (Client c)) bytes (option_map client o) ≡ Ok (record { place = own_place (Client c); given = ask bytes })
+      → asked_at {P = Any} (own_place (Client c)) bytes (option_map client o) ≡ Ok (record { place = own_place (Client c); given = ask bytes })
   seat_asked c bytes None e = absurd (cc (e))
   seat_asked c bytes (Some s) e = ap (λ b. refuse_command (if b then None else Some command_fault.Busy) (own_place (Client c)) bytes) e
 

@@ -1,6 +1,6 @@
 -- Each protocol that is built sends to parties of its cluster alone.
 use Rattle.std.proofs.Common.{◌≡◌, ℕ, zero, suc, ◌+◌, ◌*◌, ◌≤◌, ◌<◌, Bool, true, false, Option, None, Some, List, [], ◌∷◌, ◌++◌, length, refl, sym, ap, ◌∙◌, subst, arith}
-use Rattle.std.specs.Prelude.{⊤, ◌&&◌, ◌==◌, not, nat_le, nat_lt, if◌then◌else◌, map}
+use Rattle.std.specs.Prelude.{⊤, ◌&&◌, ◌==◌, not, nat_le, nat_lt, if◌then◌else◌, map, replicate}
 use Rattle.std.specs.List.{list_all}
 use Rattle.std.proofs.lemmas.Bool.{ltb-true}
 use Rattle.std.proofs.lemmas.Nat.{mod_below}
@@ -48,7 +48,7 @@ module _ (c : Cluster) where
 
   respond_here : (i r : ℕ) (m : Request) (o : Option Vote) → Here m → ToParties c (respond i r m o)
   respond_here i r m None is = refl
-  respond_here i r m (Some vote) is = to_client c m.client _ is
+  respond_here i r m (Some vote) is = to_client c m.client (msg.Resp (Resp (Replica r) i m.client m.stamp vote.n vote.d vote.reply) (replicate 32 0)) is
 
   -- ---- Quorum
 
@@ -170,7 +170,7 @@ module _ (c : Cluster) where
 
     link_sends : (i p : ℕ) (t : link.Task) → IsLink t → ToParties c (link.sends_with c.f i p t)
     link_sends i p link.idle is = refl
-    link_sends i p (link.passes m vote reply tags) is = next_here (p == (3 * c.f + 1)) i p m.client _ is
+    link_sends i p (link.passes m vote reply tags) is = next_here (p == (3 * c.f + 1)) i p m.client (msg.Chain i m vote.n vote.d reply tags) is
 
     link_addresses : Addresses c (chain machine) (λ q. q.f ≡ c.f)
     link_addresses = record {

@@ -74,9 +74,9 @@ module _ {P : Type 0} (proto : Proto P) (Fits : ℕ → P → Type 0) (is : (c :
   SiteFits f s = Fits f s.rep.value
 
   -- a sound world of the same setup
-  record Keeps (w v : World P) : Type 0 where
-    sound : IsSound Fits v
-    setup : v.cast.setup ≡ w.cast.setup
+  pub record Keeps (w v : World P) : Type 0 where
+    pub sound : IsSound Fits v
+    pub setup : v.cast.setup ≡ w.cast.setup
 
   module _ (w : World P) (sound : IsSound Fits w) where
     abbrev x : Setup
@@ -151,7 +151,7 @@ module _ {P : Type 0} (proto : Proto P) (Fits : ℕ → P → Type 0) (is : (c :
   -- ---- before the first event
 
   sites_fit : (y : Setup) (n : ℕ) → Each (SiteFits y.cluster.f) (first_sites y proto n)
-  sites_fit y zero i s e = absurd (cc (e))
+  sites_fit y zero = λ i s e. absurd (cc (e))
   sites_fit y (suc n) = push_fit (SiteFits y.cluster.f) (first_sites y proto n) (first_site y proto n) ((is y.cluster).begins 1 n _) (sites_fit y n)
 
   seats_length : (c : Cluster) (n : ℕ) → length (first_seats c n) ≡ n

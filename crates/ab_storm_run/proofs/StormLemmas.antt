@@ -1,7 +1,12 @@
 -- The run of a storm.
-use Rattle.std.proofs.Common.{◌≡◌, ◌↔◌, ℕ, zero, suc, ◌+◌, ◌-◌, ◌*◌, ◌≤◌, ◌<◌, Bool, IsTrue, List, [], ◌∷◌, Result, Ok, Err, length, refl, sym, ap, ◌∙◌, subst, arith}
-use Rattle.std.specs.Prelude.{IsSome, Some}
+use Rattle.std.proofs.Common.{◌≡◌, ◌↔◌, ℕ, zero, suc, ◌+◌, ◌-◌, ◌*◌, ◌≤◌, ◌<◌, Bool, IsTrue, Option, None, Some, List, [], ◌∷◌, Result, Ok, Err, length, refl, sym, ap, ◌∙◌, subst, arith}
+use Rattle.std.specs.Prelude.{IsSome}
 use Rattle.ab_num.specs.declared.cluster.Cluster.{Cluster}
+use Rattle.ab_num.specs.declared.plan.Plan.{Plan}
+use Rattle.ab_num.specs.Places.{kind_of}
+use Rattle.ab_text.specs.Built.{plan_is_built}
+use Rattle.ab_abs.specs.Promises.{ServesAll}
+use Rattle.ab_cast.specs.Setups.{Setup}
 use Rattle.ab_text.specs.declared.event.Event.{Event}
 use Rattle.ab_text.specs.declared.line.Premise.{Premise}
 use Rattle.ab_text.specs.declared.line.Premise.TheVariants.{Held}
@@ -12,19 +17,34 @@ use Rattle.ab_world.specs.declared.fault.WorldFault.TheVariants.{PacketLimit, Ev
 use Rattle.ab_world.specs.Steps.{Cause, stepped}
 use Rattle.ab_world.specs.Runs.{outcome, refused_or}
 use Rattle.ab_world.specs.Worlds.{World, premise_of, start}
-use Rattle.ab_replay.specs.Protocols.{Any}
+use Rattle.ab_replay.specs.Protocols.{Any, is_served}
+use Rattle.ab_replay.proofs.TextLemmas.{built_serves}
 use Rattle.ab_replay.specs.Replays.{IsClusterOf, run_in}
 use Rattle.ab_replay.proofs.RunLemmas.{one_cluster, step_steps}
 use Rattle.ab_storm_run.specs.declared.running.StormFault.{StormFault}
 use Rattle.ab_storm_run.specs.declared.running.StormFault.TheVariants.{TooManyPackets, OutOfMemory}
 use Rattle.ab_storm_run.specs.Standing.{Goes}
 use Rattle.ab_storm_run.specs.Summaries.{summary_of}
-use Rattle.ab_storm_run.specs.Runs.{kv, end_of, idle_of, drawn_at, drawn_behind, drawn_events, storm_script, events_in, StormsTo, Storms, StepCause, EndCause}
+use Rattle.ab_storm_run.specs.Runs.{kv, end_of, idle_of, drawn_at, drawn_behind, drawn_events, storm_setup, storm_of, storm_script, events_in, StormsTo, Storms, StepCause, EndCause, StormCause}
 use Rattle.ab_storm_run.proofs.Drawing.{refused_for, goes_on, storm_goes}
+
+-- ---- results
+
+pub ok_err : {A E : Type 0} (a : A) (e : E) → ◌≡◌ {A = Result A E} (Ok a) (Err e) → ⊥
+ok_err a e is = cc (is)
+
+pub err_ok : {A E : Type 0} (a : A) (e : E) → ◌≡◌ {A = Result A E} (Err e) (Ok a) → ⊥
+err_ok a e is = cc (is)
+
+pub ok_same : {A E : Type 0} (a b : A) → ◌≡◌ {A = Result A E} (Ok a) (Ok b) → a ≡ b
+ok_same a b is = cc (is)
+
+fault_same : {A : Type 0} (m n : ℕ) (f g : WorldFault) → ◌≡◌ {A = Result A (ℕ × WorldFault)} (Err (m, f)) (Err (n, g)) → f ≡ g
+fault_same m n f g is = cc (is)
 
 -- ---- one end
 
-abbrev storm_run : StormCommand → Cluster → Result (World Any) (ℕ × WorldFault)
+abbrev pub storm_run : StormCommand → Cluster → Result (World Any) (ℕ × WorldFault)
 storm_run k c = run_in kv c (storm_script k (events_in c k))
 
 pub one_storm_end : (k : StormCommand) (r q : Result (World Any) (ℕ × WorldFault)) → StormsTo k r → StormsTo k q → r ≡ q
@@ -50,7 +70,7 @@ pub storm_end : (k : StormCommand) (summary : List ℕ) (held : Bool) (end : Wor
     → (summary ≡ summary_of end) × (IsTrue held ↔ (premise_of end ≡ Held))
 storm_end k summary held end storms runs =
     let both : ◌≡◌ {A = Result (World Any) (ℕ × WorldFault)} (Ok storms.performs.end) (Ok end) = one_storm_end k _ _ (storm_runs k summary held storms) runs in
-    let same : storms.performs.end ≡ end = cc (both) in
+    let same : storms.performs.end ≡ end = ok_same storms.performs.end end both in
     (storms.performs.reports ∙ ap summary_of same, subst (λ (w : World Any). IsTrue held ↔ (premise_of w ≡ Held)) same storms.performs.says)
 
 -- ---- event by event
@@ -61,26 +81,35 @@ pub drawn_so : (s t : Storm) (w : World Any) (e : Event) (packets : ℕ) (idle :
 drawn_so s t w e packets idle sent free is =
     let so : ◌≡◌ {A = Event × Storm} (e, t) (drawn_at s w) = is ∙ (λ j. next_of (sent j) (free j) s) in (ap (λ d. d.0) so, ap (λ d. d.1) so)
 
+limit_is_end : (f : WorldFault) → f ≡ PacketLimit → IsSome (end_of f)
+limit_is_end f is = subst (λ (g : WorldFault). IsSome (end_of g)) (sym is) tt
+
 -- a fault of an event that was drawn ends the storm
 pub fault_ends : (s : Storm) (w : World Any) (f : WorldFault) → Goes s w → w.cast.events < 100000 → Cause kv f w (drawn_at s w).0 → IsSome (end_of f)
 fault_ends s w PacketLimit goes few cause = tt
 fault_ends s w NoMemory goes few cause = tt
-fault_ends s w EventLimit goes few cause = absurd (cc (refused_for s w goes few EventLimit cause))
-fault_ends s w NotBuilt goes few cause = absurd (cc (refused_for s w goes few NotBuilt cause))
-fault_ends s w NoPacket goes few cause = absurd (cc (refused_for s w goes few NoPacket cause))
-fault_ends s w BadParty goes few cause = absurd (cc (refused_for s w goes few BadParty cause))
-fault_ends s w Busy goes few cause = absurd (cc (refused_for s w goes few Busy cause))
+fault_ends s w EventLimit goes few cause = limit_is_end EventLimit (refused_for s w goes few EventLimit cause)
+fault_ends s w NotBuilt goes few cause = limit_is_end NotBuilt (refused_for s w goes few NotBuilt cause)
+fault_ends s w NoPacket goes few cause = limit_is_end NoPacket (refused_for s w goes few NoPacket cause)
+fault_ends s w BadParty goes few cause = limit_is_end BadParty (refused_for s w goes few BadParty cause)
+fault_ends s w Busy goes few cause = limit_is_end Busy (refused_for s w goes few Busy cause)
+
+apart : ◌≡◌ {A = Option StormFault} (Some TooManyPackets) (Some OutOfMemory) → ⊥
+apart is = cc (is)
+
+some_none : {A : Type 0} (a : A) → ◌≡◌ {A = Option A} (Some a) None → ⊥
+some_none a is = cc (is)
 
 -- and has its cause
 pub end_caused : (w : World Any) (event : Event) (f : WorldFault) (e : StormFault) → Some e ≡ end_of f → Cause kv f w event → StepCause e (stepped kv w event)
-end_caused w event PacketLimit TooManyPackets is cause = cause
 end_caused w event f OutOfMemory is cause = tt
-end_caused w event NoMemory TooManyPackets is cause = absurd (cc (is))
-end_caused w event EventLimit TooManyPackets is cause = absurd (cc (is))
-end_caused w event NotBuilt TooManyPackets is cause = absurd (cc (is))
-end_caused w event NoPacket TooManyPackets is cause = absurd (cc (is))
-end_caused w event BadParty TooManyPackets is cause = absurd (cc (is))
-end_caused w event Busy TooManyPackets is cause = absurd (cc (is))
+end_caused w event PacketLimit TooManyPackets is cause = cause
+end_caused w event NoMemory TooManyPackets is cause = absurd (apart is)
+end_caused w event EventLimit TooManyPackets is cause = absurd (some_none TooManyPackets is)
+end_caused w event NotBuilt TooManyPackets is cause = absurd (some_none TooManyPackets is)
+end_caused w event NoPacket TooManyPackets is cause = absurd (some_none TooManyPackets is)
+end_caused w event BadParty TooManyPackets is cause = absurd (some_none TooManyPackets is)
+end_caused w event Busy TooManyPackets is cause = absurd (some_none TooManyPackets is)
 
 -- no event is left
 pub run_done : (n i : ℕ) (s : Storm) (w : World Any) → i ≡ n → outcome kv (i + 1) w (drawn_events kv (n - i) s w) ≡ Ok w
@@ -106,6 +135,20 @@ run_ends n i s w f lt refused =
     ap (outcome kv (i + 1) w) (more_drawn n i s w lt)
     ∙ ap (λ (r : Result (World Any) WorldFault). refused_or kv (i + 1) r (λ u. outcome kv (i + 1 + 1) u (drawn_behind (stepped kv w (drawn_at s w).0) (λ t. drawn_events kv (n - (i + 1)) (drawn_at s w).1 t)))) refused
 
+-- what one event more leaves of the run, the count and the storm
+pub record GoesOn (n i : ℕ) (t : Storm) (w v : World Any) (whole : Result (World Any) (ℕ × WorldFault)) : Type 0 where
+  pub rest : outcome kv (i + 1 + 1) v (drawn_events kv (n - (i + 1)) t v) ≡ whole
+  pub events : v.cast.events ≤ w.cast.events + 1
+  pub goes : Goes t v
+
+pub goes_next : (n i : ℕ) (s t : Storm) (w v : World Any) (whole : Result (World Any) (ℕ × WorldFault)) → i < n → Goes s w → w.cast.events < 100000 → t ≡ (drawn_at s w).1
+    → stepped kv w (drawn_at s w).0 ≡ Ok v → outcome kv (i + 1) w (drawn_events kv (n - i) s w) ≡ whole → GoesOn n i t w v whole
+goes_next n i s t w v whole lt goes few next takes so = record {
+  rest = ap (λ (u : Storm). outcome kv (i + 1 + 1) v (drawn_events kv (n - (i + 1)) u v)) next ∙ sym (run_goes_on n i s w v lt takes) ∙ so;
+  events = (step_steps kv w v (drawn_at s w).0 takes).0;
+  goes = subst (λ (u : Storm). Goes u v) (sym next) (goes_on s w goes few v takes);
+}
+
 -- what ends an event ends the run
 pub ends_run : (e : StormFault) (n i : ℕ) (s : Storm) (w : World Any) → i < n → StepCause e (stepped kv w (drawn_at s w).0)
     → EndCause e (outcome kv (i + 1) w (drawn_events kv (n - i) s w))
@@ -122,12 +165,12 @@ taken_by : (n i : ℕ) (s : Storm) (w : World Any) → Goes s w → w.cast.event
     → ((v : World Any) → stepped kv w (drawn_at s w).0 ≡ Ok v → outcome kv (i + 1) v (drawn_events kv n (drawn_at s w).1 v) ≡ Err (e, f) → f ≡ PacketLimit)
     → Rest n i s w r ≡ Err (e, f) → f ≡ PacketLimit
 taken_by n i s w goes few e f (Ok v) takes more stops = more v takes stops
-taken_by n i s w goes few e f (Err g) takes more stops = let same : f ≡ g = cc (stops) in same ∙ refused_for s w goes few g takes
+taken_by n i s w goes few e f (Err g) takes more stops = sym (fault_same i e g f stops) ∙ refused_for s w goes few g takes
 
 -- over a world with few events, no event that is drawn is refused but for the limit of bytes
 pub drawn_taken : (n i : ℕ) (s : Storm) (w : World Any) → Goes s w → w.cast.events + n ≤ 100000 → (e : ℕ) (f : WorldFault)
     → outcome kv i w (drawn_events kv n s w) ≡ Err (e, f) → f ≡ PacketLimit
-drawn_taken zero i s w goes few e f is = absurd (cc (is))
+drawn_taken zero i s w goes few e f is = absurd (ok_err w (e, f) is)
 drawn_taken (suc n) i s w goes few e f is =
     let some : w.cast.events < 100000 = omega (arith, few) in
     taken_by n i s w goes some e f (stepped kv w (drawn_at s w).0) refl
@@ -138,9 +181,38 @@ whole_by : (n i : ℕ) (s : Storm) (w end : World Any) (r : Result (World Any) W
     → ((v : World Any) → outcome kv (i + 1) v (drawn_events kv n (drawn_at s w).1 v) ≡ Ok end → length (drawn_events kv n (drawn_at s w).1 v) ≡ n)
     → Rest n i s w r ≡ Ok end → length (drawn_behind r (λ v. drawn_events kv n (drawn_at s w).1 v)) ≡ n
 whole_by n i s w end (Ok v) more is = more v is
-whole_by n i s w end (Err f) more is = absurd (cc (is))
+whole_by n i s w end (Err f) more is = absurd (err_ok end (i, f) is)
 
 -- where no event is refused, all are drawn
 pub all_drawn : (n i : ℕ) (s : Storm) (w end : World Any) → outcome kv i w (drawn_events kv n s w) ≡ Ok end → length (drawn_events kv n s w) ≡ n
 all_drawn zero i s w end is = refl
 all_drawn (suc n) i s w end is = ap suc (whole_by n i s w end (stepped kv w (drawn_at s w).0) (λ v rest. all_drawn n (i + 1) (drawn_at s w).1 v end rest) is)
+
+-- ---- the storm that is asked for
+
+-- where this is its cluster, set up, and the storm and the world are those before the first event
+module _ (c : Cluster) (x : Setup) (w : World Any) (s : Storm) (seed : ℕ) (sets : x ≡ storm_setup c) (starts : w ≡ start kv x) (from : s ≡ storm_of c seed) where
+  starts_so : w ≡ start kv (storm_setup c)
+  starts_so = starts ∙ ap (start kv) sets
+
+  pub begins_going : Goes s w
+  begins_going = subst (λ (v : World Any). Goes s v) (sym starts_so) (subst (λ (u : Storm). Goes u (start kv (storm_setup c))) (sym from) (storm_goes c seed))
+
+  pub begins_early : w.cast.events ≡ 0
+  begins_early = ap (λ (v : World Any). v.cast.events) starts_so
+
+  -- its run is that of the storm
+  pub runs_storm : (k : StormCommand) (events : ℕ) (r : Result (World Any) (ℕ × WorldFault)) → seed ≡ k.seed → events ≡ k.events
+      → outcome kv 1 w (drawn_events kv events s w) ≡ r → storm_run k c ≡ r
+  runs_storm k events r seeded many is =
+      let begins : s ≡ storm_of c k.seed = from ∙ ap (storm_of c) seeded in
+      sym (λ j. outcome kv 1 (starts_so j) (drawn_events kv (many j) (begins j) (starts_so j))) ∙ is
+
+-- what ends its run ends the storm
+pub ends_storm : (k : StormCommand) (c : Cluster) (e : StormFault) → IsClusterOf c (storm_script k []) → EndCause e (storm_run k c) → StormCause e k
+ends_storm k c TooManyPackets sized (n, runs) = (n, record { cluster = c; sized = sized; runs = runs })
+ends_storm k c OutOfMemory sized cause = tt
+
+-- a plan that is built serves each instance
+pub storm_serves : (c : Cluster) (plan : Plan) → c.plan ≡ plan → IsTrue (plan_is_built plan) → ServesAll is_served c
+storm_serves c plan same built = λ i one. subst (λ (p : Plan). IsTrue (is_served (kind_of p i))) (sym same) (built_serves plan i built)
