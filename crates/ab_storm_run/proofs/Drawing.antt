@@ -18,7 +18,7 @@ use Rattle.ab_text.specs.declared.event.Event.TheVariants.{Invoke, Deliver, Time
 use Rattle.ab_storm.specs.Storms as storms
 use Rattle.ab_storm.specs.Storms.{Storm, CanHappen, IsAsked, IsParty, next_of, turned, drawn, deliver, client_timeout, replica_timeout, in_turn, put, put_or, fresh, first_idle, any_packet, late_packet, chosen}
 use Rattle.ab_storm.proofs.Happenings.{next_can}
-use Rattle.ab_kv.specs.KvMachines.{kv_machine}
+use Rattle.ab_abs.specs.Ensembles.{Proto}
 use Rattle.ab_client.specs.Clients.{Seat}
 use Rattle.ab_post.specs.Packets.{Packet, nth}
 use Rattle.ab_cast.specs.declared.fault.CommandFault.{CommandFault}
@@ -31,11 +31,10 @@ use Rattle.ab_world.specs.declared.fault.WorldFault.TheVariants.{EventLimit, Pac
 use Rattle.ab_world.specs.Steps.{Happening, Given, ask, hand, ring, refuse_command, asked_at, asked, handed, rung, delivered, happening, ready_in, ready, after, within_limit, stepped_by, stepped}
 use Rattle.ab_world.specs.Runs.{outcome, refused_or}
 use Rattle.ab_world.specs.Worlds.{World, start}
-use Rattle.ab_replay.specs.Protocols.{Any, any}
+use Rattle.ab_replay.specs.Protocols.{Any}
 use Rattle.ab_storm_run.specs.Standing.{IsSound, IsSized, Goes}
-use Rattle.ab_storm_run.specs.Runs.{kv, idle_of, drawn_at, drawn_behind, drawn_events, storm_of, storm_setup}
-use Rattle.ab_storm_run.proofs.Addresses.{and_first, and_second}
-use Rattle.ab_storm_run.proofs.Protocols.{any_addresses}
+use Rattle.ab_storm_run.specs.Runs.{idle_of, drawn_at, storm_of, storm_setup}
+use Rattle.ab_storm_run.proofs.Addresses.{Addresses, and_first, and_second}
 use Rattle.ab_storm_run.proofs.Stepping.{given_keeps, starts_sound}
 
 -- ---- idle clients
@@ -203,30 +202,32 @@ limit_faults : (w : World Any) (f : WorldFault) (b : Bool) → ◌≡◌ {A = Re
 limit_faults w f true e = absurd (cc (e))
 limit_faults w f false e = cc (e)
 
-module _ (s : Storm) (w : World Any) (goes : Goes s w) (few : w.cast.events < 100000) where
-  abbrev given : Gives (happening w (drawn_at s w).0)
-  given = draws s w goes
+-- whatever protocol of this kind sends to parties of its cluster alone
+module _ (proto : Proto Any) (sends : (c : Cluster) → Addresses c proto (IsSized c.f)) where
+  module _ (s : Storm) (w : World Any) (goes : Goes s w) (few : w.cast.events < 100000) where
+    abbrev given : Gives (happening w (drawn_at s w).0)
+    given = draws s w goes
 
-  abbrev happened : Happening
-  happened = record { place = own_place given.party; given = given.given }
+    abbrev happened : Happening
+    happened = record { place = own_place given.party; given = given.given }
 
-  taken : stepped kv w (drawn_at s w).0 ≡ within_limit kv (after kv w happened)
-  taken = ap (stepped_by kv w) (ready_now w (drawn_at s w).0 goes.sound.ended few ∙ given.gives)
+    taken : stepped proto w (drawn_at s w).0 ≡ within_limit proto (after proto w happened)
+    taken = ap (stepped_by proto w) (ready_now w (drawn_at s w).0 goes.sound.ended few ∙ given.gives)
 
-  -- it is refused for the limit of bytes alone
-  pub refused_for : (f : WorldFault) → stepped kv w (drawn_at s w).0 ≡ Err f → f ≡ PacketLimit
-  refused_for f e = sym (limit_faults (after kv w happened) f _ (sym taken ∙ e))
+    -- an event that is drawn is refused for the limit of bytes alone
+    pub refused_for : (f : WorldFault) → stepped proto w (drawn_at s w).0 ≡ Err f → f ≡ PacketLimit
+    refused_for f e = sym (limit_faults (after proto w happened) f _ (sym taken ∙ e))
 
-  -- the storm goes on over the world after it
-  pub goes_on : (v : World Any) → stepped kv w (drawn_at s w).0 ≡ Ok v → Goes (drawn_at s w).1 v
-  goes_on v e =
-      let same : after kv w happened ≡ v = limit_ends (after kv w happened) v _ (sym taken ∙ e) in
-      let keeps = given_keeps kv IsSized (λ c. any_addresses c kv_machine) w goes.sound given.party given.given in
-      record {
-        sound = subst (IsSound IsSized) same keeps.sound;
-        cluster = next_same (length w.packets) (idle_of w) s ∙ goes.cluster ∙ sym (ap (λ (u : World Any). u.cast.setup.cluster) (sym same) ∙ ap (λ (y : Setup). y.cluster) keeps.setup);
-      }
+    -- the storm goes on over the world after it
+    pub goes_on : (v : World Any) → stepped proto w (drawn_at s w).0 ≡ Ok v → Goes (drawn_at s w).1 v
+    goes_on v e =
+        let same : after proto w happened ≡ v = limit_ends (after proto w happened) v _ (sym taken ∙ e) in
+        let keeps = given_keeps proto IsSized sends w goes.sound given.party given.given in
+        record {
+          sound = subst (IsSound IsSized) same keeps.sound;
+          cluster = next_same (length w.packets) (idle_of w) s ∙ goes.cluster ∙ sym (ap (λ (u : World Any). u.cast.setup.cluster) (sym same) ∙ ap (λ (y : Setup). y.cluster) keeps.setup);
+        }
 
--- a storm goes over its cluster before the first event
-pub storm_goes : (c : Cluster) (seed : ℕ) → Goes (storm_of c seed) (start kv (storm_setup c))
-storm_goes c seed = record { sound = starts_sound kv IsSized (λ d. any_addresses d kv_machine) (storm_setup c); cluster = refl }
+  -- a storm goes over its cluster before the first event
+  pub storm_goes : (c : Cluster) (seed : ℕ) → Goes (storm_of c seed) (start proto (storm_setup c))
+  storm_goes c seed = record { sound = starts_sound proto IsSized sends (storm_setup c); cluster = refl }

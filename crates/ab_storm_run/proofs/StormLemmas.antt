@@ -5,6 +5,8 @@ use Rattle.ab_num.specs.declared.cluster.Cluster.{Cluster}
 use Rattle.ab_num.specs.declared.plan.Plan.{Plan}
 use Rattle.ab_num.specs.Places.{kind_of}
 use Rattle.ab_text.specs.Built.{plan_is_built}
+use Rattle.ab_kv.specs.KvMachines.{kv_machine}
+use Rattle.ab_abs.specs.Ensembles.{Proto}
 use Rattle.ab_abs.specs.Promises.{ServesAll}
 use Rattle.ab_cast.specs.Setups.{Setup}
 use Rattle.ab_text.specs.declared.event.Event.{Event}
@@ -23,9 +25,11 @@ use Rattle.ab_replay.specs.Replays.{IsClusterOf, run_in}
 use Rattle.ab_replay.proofs.RunLemmas.{one_cluster, step_steps}
 use Rattle.ab_storm_run.specs.declared.running.StormFault.{StormFault}
 use Rattle.ab_storm_run.specs.declared.running.StormFault.TheVariants.{TooManyPackets, OutOfMemory}
-use Rattle.ab_storm_run.specs.Standing.{Goes}
+use Rattle.ab_storm_run.specs.Standing.{IsSized, Goes}
 use Rattle.ab_storm_run.specs.Summaries.{summary_of}
 use Rattle.ab_storm_run.specs.Runs.{kv, end_of, idle_of, drawn_at, drawn_behind, drawn_events, storm_setup, storm_of, storm_script, events_in, StormsTo, Storms, StepCause, EndCause, StormCause}
+use Rattle.ab_storm_run.proofs.Addresses.{Addresses}
+use Rattle.ab_storm_run.proofs.Protocols.{any_addresses}
 use Rattle.ab_storm_run.proofs.Drawing.{refused_for, goes_on, storm_goes}
 
 -- ---- results
@@ -84,111 +88,116 @@ drawn_so s t w e packets idle sent free is =
 limit_is_end : (f : WorldFault) → f ≡ PacketLimit → IsSome (end_of f)
 limit_is_end f is = subst (λ (g : WorldFault). IsSome (end_of g)) (sym is) tt
 
--- a fault of an event that was drawn ends the storm
-pub fault_ends : (s : Storm) (w : World Any) (f : WorldFault) → Goes s w → w.cast.events < 100000 → Cause kv f w (drawn_at s w).0 → IsSome (end_of f)
-fault_ends s w PacketLimit goes few cause = tt
-fault_ends s w NoMemory goes few cause = tt
-fault_ends s w EventLimit goes few cause = limit_is_end EventLimit (refused_for s w goes few EventLimit cause)
-fault_ends s w NotBuilt goes few cause = limit_is_end NotBuilt (refused_for s w goes few NotBuilt cause)
-fault_ends s w NoPacket goes few cause = limit_is_end NoPacket (refused_for s w goes few NoPacket cause)
-fault_ends s w BadParty goes few cause = limit_is_end BadParty (refused_for s w goes few BadParty cause)
-fault_ends s w Busy goes few cause = limit_is_end Busy (refused_for s w goes few Busy cause)
-
 apart : ◌≡◌ {A = Option StormFault} (Some TooManyPackets) (Some OutOfMemory) → ⊥
 apart is = cc (is)
 
 some_none : {A : Type 0} (a : A) → ◌≡◌ {A = Option A} (Some a) None → ⊥
 some_none a is = cc (is)
 
--- and has its cause
-pub end_caused : (w : World Any) (event : Event) (f : WorldFault) (e : StormFault) → Some e ≡ end_of f → Cause kv f w event → StepCause e (stepped kv w event)
-end_caused w event f OutOfMemory is cause = tt
-end_caused w event PacketLimit TooManyPackets is cause = cause
-end_caused w event NoMemory TooManyPackets is cause = absurd (apart is)
-end_caused w event EventLimit TooManyPackets is cause = absurd (some_none TooManyPackets is)
-end_caused w event NotBuilt TooManyPackets is cause = absurd (some_none TooManyPackets is)
-end_caused w event NoPacket TooManyPackets is cause = absurd (some_none TooManyPackets is)
-end_caused w event BadParty TooManyPackets is cause = absurd (some_none TooManyPackets is)
-end_caused w event Busy TooManyPackets is cause = absurd (some_none TooManyPackets is)
+-- whatever protocol of this kind sends to parties of its cluster alone
+module _ (proto : Proto Any) (sends : (c : Cluster) → Addresses c proto (IsSized c.f)) where
+  -- a fault of an event that was drawn ends the storm
+  pub fault_ends : (s : Storm) (w : World Any) (f : WorldFault) → Goes s w → w.cast.events < 100000 → Cause proto f w (drawn_at s w).0 → IsSome (end_of f)
+  fault_ends s w PacketLimit goes few cause = tt
+  fault_ends s w NoMemory goes few cause = tt
+  fault_ends s w EventLimit goes few cause = limit_is_end EventLimit (refused_for proto sends s w goes few EventLimit cause)
+  fault_ends s w NotBuilt goes few cause = limit_is_end NotBuilt (refused_for proto sends s w goes few NotBuilt cause)
+  fault_ends s w NoPacket goes few cause = limit_is_end NoPacket (refused_for proto sends s w goes few NoPacket cause)
+  fault_ends s w BadParty goes few cause = limit_is_end BadParty (refused_for proto sends s w goes few BadParty cause)
+  fault_ends s w Busy goes few cause = limit_is_end Busy (refused_for proto sends s w goes few Busy cause)
 
--- no event is left
-pub run_done : (n i : ℕ) (s : Storm) (w : World Any) → i ≡ n → outcome kv (i + 1) w (drawn_events kv (n - i) s w) ≡ Ok w
-run_done n i s w all = let none : n - i ≡ 0 = omega (arith, all) in ap (λ m. outcome kv (i + 1) w (drawn_events kv m s w)) none
+  -- and has its cause
+  pub end_caused : (w : World Any) (event : Event) (f : WorldFault) (e : StormFault) → Some e ≡ end_of f → Cause proto f w event → StepCause e (stepped proto w event)
+  end_caused w event f OutOfMemory is cause = tt
+  end_caused w event PacketLimit TooManyPackets is cause = cause
+  end_caused w event NoMemory TooManyPackets is cause = absurd (apart is)
+  end_caused w event EventLimit TooManyPackets is cause = absurd (some_none TooManyPackets is)
+  end_caused w event NotBuilt TooManyPackets is cause = absurd (some_none TooManyPackets is)
+  end_caused w event NoPacket TooManyPackets is cause = absurd (some_none TooManyPackets is)
+  end_caused w event BadParty TooManyPackets is cause = absurd (some_none TooManyPackets is)
+  end_caused w event Busy TooManyPackets is cause = absurd (some_none TooManyPackets is)
 
--- the events from here on: one, and those behind it
-pub more_drawn : (n i : ℕ) (s : Storm) (w : World Any) → i < n
-    → drawn_events kv (n - i) s w ≡ (drawn_at s w).0 ∷ drawn_behind (stepped kv w (drawn_at s w).0) (λ v. drawn_events kv (n - (i + 1)) (drawn_at s w).1 v)
-more_drawn n i s w lt = let next : n - i ≡ suc (n - (i + 1)) = omega (arith, lt) in ap (λ m. drawn_events kv m s w) next
+  -- no event is left
+  pub run_done : (n i : ℕ) (s : Storm) (w : World Any) → i ≡ n → outcome proto (i + 1) w (drawn_events proto (n - i) s w) ≡ Ok w
+  run_done n i s w all = let none : n - i ≡ 0 = omega (arith, all) in ap (λ m. outcome proto (i + 1) w (drawn_events proto m s w)) none
 
--- the run from an event on is that from the next one on
-pub run_goes_on : (n i : ℕ) (s : Storm) (w v : World Any) → i < n → stepped kv w (drawn_at s w).0 ≡ Ok v
-    → outcome kv (i + 1) w (drawn_events kv (n - i) s w) ≡ outcome kv (i + 1 + 1) v (drawn_events kv (n - (i + 1)) (drawn_at s w).1 v)
-run_goes_on n i s w v lt takes =
-    ap (outcome kv (i + 1) w) (more_drawn n i s w lt)
-    ∙ ap (λ (r : Result (World Any) WorldFault). refused_or kv (i + 1) (stepped kv w (drawn_at s w).0) (λ u. outcome kv (i + 1 + 1) u (drawn_behind r (λ t. drawn_events kv (n - (i + 1)) (drawn_at s w).1 t)))) takes
-    ∙ ap (λ (r : Result (World Any) WorldFault). refused_or kv (i + 1) r (λ u. outcome kv (i + 1 + 1) u (drawn_events kv (n - (i + 1)) (drawn_at s w).1 v))) takes
+  -- the events from here on: one, and those behind it
+  pub more_drawn : (n i : ℕ) (s : Storm) (w : World Any) → i < n
+      → drawn_events proto (n - i) s w ≡ (drawn_at s w).0 ∷ drawn_behind (stepped proto w (drawn_at s w).0) (λ v. drawn_events proto (n - (i + 1)) (drawn_at s w).1 v)
+  more_drawn n i s w lt = let next : n - i ≡ suc (n - (i + 1)) = omega (arith, lt) in ap (λ m. drawn_events proto m s w) next
 
--- or the event is the first that is refused
-pub run_ends : (n i : ℕ) (s : Storm) (w : World Any) (f : WorldFault) → i < n → stepped kv w (drawn_at s w).0 ≡ Err f
-    → outcome kv (i + 1) w (drawn_events kv (n - i) s w) ≡ Err (i + 1, f)
-run_ends n i s w f lt refused =
-    ap (outcome kv (i + 1) w) (more_drawn n i s w lt)
-    ∙ ap (λ (r : Result (World Any) WorldFault). refused_or kv (i + 1) r (λ u. outcome kv (i + 1 + 1) u (drawn_behind (stepped kv w (drawn_at s w).0) (λ t. drawn_events kv (n - (i + 1)) (drawn_at s w).1 t)))) refused
+  -- the run from an event on is that from the next one on
+  pub run_goes_on : (n i : ℕ) (s : Storm) (w v : World Any) → i < n → stepped proto w (drawn_at s w).0 ≡ Ok v
+      → outcome proto (i + 1) w (drawn_events proto (n - i) s w) ≡ outcome proto (i + 1 + 1) v (drawn_events proto (n - (i + 1)) (drawn_at s w).1 v)
+  run_goes_on n i s w v lt takes =
+      ap (outcome proto (i + 1) w) (more_drawn n i s w lt)
+      ∙ ap (λ (r : Result (World Any) WorldFault). refused_or proto (i + 1) (stepped proto w (drawn_at s w).0) (λ u. outcome proto (i + 1 + 1) u (drawn_behind r (λ t. drawn_events proto (n - (i + 1)) (drawn_at s w).1 t)))) takes
+      ∙ ap (λ (r : Result (World Any) WorldFault). refused_or proto (i + 1) r (λ u. outcome proto (i + 1 + 1) u (drawn_events proto (n - (i + 1)) (drawn_at s w).1 v))) takes
 
--- what one event more leaves of the run, the count and the storm
-pub record GoesOn (n i : ℕ) (t : Storm) (w v : World Any) (whole : Result (World Any) (ℕ × WorldFault)) : Type 0 where
-  pub rest : outcome kv (i + 1 + 1) v (drawn_events kv (n - (i + 1)) t v) ≡ whole
-  pub events : v.cast.events ≤ w.cast.events + 1
-  pub goes : Goes t v
+  -- or the event is the first that is refused
+  pub run_ends : (n i : ℕ) (s : Storm) (w : World Any) (f : WorldFault) → i < n → stepped proto w (drawn_at s w).0 ≡ Err f
+      → outcome proto (i + 1) w (drawn_events proto (n - i) s w) ≡ Err (i + 1, f)
+  run_ends n i s w f lt refused =
+      ap (outcome proto (i + 1) w) (more_drawn n i s w lt)
+      ∙ ap (λ (r : Result (World Any) WorldFault). refused_or proto (i + 1) r (λ u. outcome proto (i + 1 + 1) u (drawn_behind (stepped proto w (drawn_at s w).0) (λ t. drawn_events proto (n - (i + 1)) (drawn_at s w).1 t)))) refused
 
-pub goes_next : (n i : ℕ) (s t : Storm) (w v : World Any) (whole : Result (World Any) (ℕ × WorldFault)) → i < n → Goes s w → w.cast.events < 100000 → t ≡ (drawn_at s w).1
-    → stepped kv w (drawn_at s w).0 ≡ Ok v → outcome kv (i + 1) w (drawn_events kv (n - i) s w) ≡ whole → GoesOn n i t w v whole
-goes_next n i s t w v whole lt goes few next takes so = record {
-  rest = ap (λ (u : Storm). outcome kv (i + 1 + 1) v (drawn_events kv (n - (i + 1)) u v)) next ∙ sym (run_goes_on n i s w v lt takes) ∙ so;
-  events = (step_steps kv w v (drawn_at s w).0 takes).0;
-  goes = subst (λ (u : Storm). Goes u v) (sym next) (goes_on s w goes few v takes);
-}
+  -- what one event more leaves of the run, the count and the storm
+  pub record GoesOn (n i : ℕ) (t : Storm) (w v : World Any) (whole : Result (World Any) (ℕ × WorldFault)) : Type 0 where
+    pub rest : outcome proto (i + 1 + 1) v (drawn_events proto (n - (i + 1)) t v) ≡ whole
+    pub events : v.cast.events ≤ w.cast.events + 1
+    pub goes : Goes t v
 
--- what ends an event ends the run
-pub ends_run : (e : StormFault) (n i : ℕ) (s : Storm) (w : World Any) → i < n → StepCause e (stepped kv w (drawn_at s w).0)
-    → EndCause e (outcome kv (i + 1) w (drawn_events kv (n - i) s w))
-ends_run TooManyPackets n i s w lt refused = (i + 1, run_ends n i s w PacketLimit lt refused)
-ends_run OutOfMemory n i s w lt cause = tt
+  pub goes_next : (n i : ℕ) (s t : Storm) (w v : World Any) (whole : Result (World Any) (ℕ × WorldFault)) → i < n → Goes s w → w.cast.events < 100000 → t ≡ (drawn_at s w).1
+      → stepped proto w (drawn_at s w).0 ≡ Ok v → outcome proto (i + 1) w (drawn_events proto (n - i) s w) ≡ whole → GoesOn n i t w v whole
+  goes_next n i s t w v whole lt goes few next takes so = record {
+    rest = ap (λ (u : Storm). outcome proto (i + 1 + 1) v (drawn_events proto (n - (i + 1)) u v)) next ∙ sym (run_goes_on n i s w v lt takes) ∙ so;
+    events = (step_steps proto w v (drawn_at s w).0 takes).0;
+    goes = subst (λ (u : Storm). Goes u v) (sym next) (goes_on proto sends s w goes few v takes);
+  }
 
--- ---- whole runs
+  -- what ends an event ends the run
+  pub ends_run : (e : StormFault) (n i : ℕ) (s : Storm) (w : World Any) → i < n → StepCause e (stepped proto w (drawn_at s w).0)
+      → EndCause e (outcome proto (i + 1) w (drawn_events proto (n - i) s w))
+  ends_run TooManyPackets n i s w lt refused = (i + 1, run_ends n i s w PacketLimit lt refused)
+  ends_run OutOfMemory n i s w lt cause = tt
 
--- one event of a run is refused, or the rest of the run is one from where it leads
-abbrev Rest : ℕ → ℕ → Storm → World Any → Result (World Any) WorldFault → Result (World Any) (ℕ × WorldFault)
-Rest n i s w r = refused_or kv i r (λ u. outcome kv (i + 1) u (drawn_behind r (λ v. drawn_events kv n (drawn_at s w).1 v)))
+  -- ---- whole runs
 
-taken_by : (n i : ℕ) (s : Storm) (w : World Any) → Goes s w → w.cast.events < 100000 → (e : ℕ) (f : WorldFault) (r : Result (World Any) WorldFault) → stepped kv w (drawn_at s w).0 ≡ r
-    → ((v : World Any) → stepped kv w (drawn_at s w).0 ≡ Ok v → outcome kv (i + 1) v (drawn_events kv n (drawn_at s w).1 v) ≡ Err (e, f) → f ≡ PacketLimit)
-    → Rest n i s w r ≡ Err (e, f) → f ≡ PacketLimit
-taken_by n i s w goes few e f (Ok v) takes more stops = more v takes stops
-taken_by n i s w goes few e f (Err g) takes more stops = sym (fault_same i e g f stops) ∙ refused_for s w goes few g takes
+  -- one event of a run is refused, or the rest of the run is one from where it leads
+  abbrev Rest : ℕ → ℕ → Storm → World Any → Result (World Any) WorldFault → Result (World Any) (ℕ × WorldFault)
+  Rest n i s w r = refused_or proto i r (λ u. outcome proto (i + 1) u (drawn_behind r (λ v. drawn_events proto n (drawn_at s w).1 v)))
 
--- over a world with few events, no event that is drawn is refused but for the limit of bytes
-pub drawn_taken : (n i : ℕ) (s : Storm) (w : World Any) → Goes s w → w.cast.events + n ≤ 100000 → (e : ℕ) (f : WorldFault)
-    → outcome kv i w (drawn_events kv n s w) ≡ Err (e, f) → f ≡ PacketLimit
-drawn_taken zero i s w goes few e f is = absurd (ok_err w (e, f) is)
-drawn_taken (suc n) i s w goes few e f is =
-    let some : w.cast.events < 100000 = omega (arith, few) in
-    taken_by n i s w goes some e f (stepped kv w (drawn_at s w).0) refl
-    (λ v takes rest. drawn_taken n (i + 1) (drawn_at s w).1 v (goes_on s w goes some v takes) (omega (arith, few, (step_steps kv w v (drawn_at s w).0 takes).0)) e f rest)
-    is
+  taken_by : (n i : ℕ) (s : Storm) (w : World Any) → Goes s w → w.cast.events < 100000 → (e : ℕ) (f : WorldFault) (r : Result (World Any) WorldFault) → stepped proto w (drawn_at s w).0 ≡ r
+      → ((v : World Any) → stepped proto w (drawn_at s w).0 ≡ Ok v → outcome proto (i + 1) v (drawn_events proto n (drawn_at s w).1 v) ≡ Err (e, f) → f ≡ PacketLimit)
+      → Rest n i s w r ≡ Err (e, f) → f ≡ PacketLimit
+  taken_by n i s w goes few e f (Ok v) takes more stops = more v takes stops
+  taken_by n i s w goes few e f (Err g) takes more stops = sym (fault_same i e g f stops) ∙ refused_for proto sends s w goes few g takes
 
-whole_by : (n i : ℕ) (s : Storm) (w end : World Any) (r : Result (World Any) WorldFault)
-    → ((v : World Any) → outcome kv (i + 1) v (drawn_events kv n (drawn_at s w).1 v) ≡ Ok end → length (drawn_events kv n (drawn_at s w).1 v) ≡ n)
-    → Rest n i s w r ≡ Ok end → length (drawn_behind r (λ v. drawn_events kv n (drawn_at s w).1 v)) ≡ n
-whole_by n i s w end (Ok v) more is = more v is
-whole_by n i s w end (Err f) more is = absurd (err_ok end (i, f) is)
+  -- over a world with few events, no event that is drawn is refused but for the limit of bytes
+  pub drawn_taken : (n i : ℕ) (s : Storm) (w : World Any) → Goes s w → w.cast.events + n ≤ 100000 → (e : ℕ) (f : WorldFault)
+      → outcome proto i w (drawn_events proto n s w) ≡ Err (e, f) → f ≡ PacketLimit
+  drawn_taken zero i s w goes few e f is = absurd (ok_err w (e, f) is)
+  drawn_taken (suc n) i s w goes few e f is =
+      let some : w.cast.events < 100000 = omega (arith, few) in
+      taken_by n i s w goes some e f (stepped proto w (drawn_at s w).0) refl
+      (λ v takes rest. drawn_taken n (i + 1) (drawn_at s w).1 v (goes_on proto sends s w goes some v takes) (omega (arith, few, (step_steps proto w v (drawn_at s w).0 takes).0)) e f rest)
+      is
 
--- where no event is refused, all are drawn
-pub all_drawn : (n i : ℕ) (s : Storm) (w end : World Any) → outcome kv i w (drawn_events kv n s w) ≡ Ok end → length (drawn_events kv n s w) ≡ n
-all_drawn zero i s w end is = refl
-all_drawn (suc n) i s w end is = ap suc (whole_by n i s w end (stepped kv w (drawn_at s w).0) (λ v rest. all_drawn n (i + 1) (drawn_at s w).1 v end rest) is)
+  whole_by : (n i : ℕ) (s : Storm) (w end : World Any) (r : Result (World Any) WorldFault)
+      → ((v : World Any) → outcome proto (i + 1) v (drawn_events proto n (drawn_at s w).1 v) ≡ Ok end → length (drawn_events proto n (drawn_at s w).1 v) ≡ n)
+      → Rest n i s w r ≡ Ok end → length (drawn_behind r (λ v. drawn_events proto n (drawn_at s w).1 v)) ≡ n
+  whole_by n i s w end (Ok v) more is = more v is
+  whole_by n i s w end (Err f) more is = absurd (err_ok end (i, f) is)
+
+  -- where no event is refused, all are drawn
+  pub all_drawn : (n i : ℕ) (s : Storm) (w end : World Any) → outcome proto i w (drawn_events proto n s w) ≡ Ok end → length (drawn_events proto n s w) ≡ n
+  all_drawn zero i s w end is = refl
+  all_drawn (suc n) i s w end is = ap suc (whole_by n i s w end (stepped proto w (drawn_at s w).0) (λ v rest. all_drawn n (i + 1) (drawn_at s w).1 v end rest) is)
 
 -- ---- the storm that is asked for
+
+pub kv_sends : (c : Cluster) → Addresses c kv (IsSized c.f)
+kv_sends c = any_addresses c kv_machine
 
 -- where this is its cluster, set up, and the storm and the world are those before the first event
 module _ (c : Cluster) (x : Setup) (w : World Any) (s : Storm) (seed : ℕ) (sets : x ≡ storm_setup c) (starts : w ≡ start kv x) (from : s ≡ storm_of c seed) where
@@ -196,7 +205,7 @@ module _ (c : Cluster) (x : Setup) (w : World Any) (s : Storm) (seed : ℕ) (set
   starts_so = starts ∙ ap (start kv) sets
 
   pub begins_going : Goes s w
-  begins_going = subst (λ (v : World Any). Goes s v) (sym starts_so) (subst (λ (u : Storm). Goes u (start kv (storm_setup c))) (sym from) (storm_goes c seed))
+  begins_going = subst (λ (v : World Any). Goes s v) (sym starts_so) (subst (λ (u : Storm). Goes u (start kv (storm_setup c))) (sym from) (storm_goes kv kv_sends c seed))
 
   pub begins_early : w.cast.events ≡ 0
   begins_early = ap (λ (v : World Any). v.cast.events) starts_so

@@ -4,8 +4,9 @@ ghost use Rattle.std.specs.Prelude.{◌≡◌, ◌<◌, ◌≤◌, IsTrue, IsSom
 ghost use Rattle.ab_text.specs.Built.{plan_is_built};
 ghost use Rattle.ab_world.specs.Runs.{outcome};
 ghost use Rattle.ab_world.specs.Steps.{stepped};
+ghost use Rattle.ab_replay.specs.Protocols.{any};
 ghost use Rattle.ab_storm_run.specs.Standing.{Goes};
-ghost use Rattle.ab_storm_run.specs.Runs.{kv, idle_of, drawn_at, drawn_events, end_of, Storms, StepCause, EndCause, StormCause};
+ghost use Rattle.ab_storm_run.specs.Runs.{idle_of, drawn_at, drawn_events, end_of, Storms, StepCause, EndCause, StormCause};
 
 use crate::summary::summary;
 use ab_cast::Setup;
@@ -13,6 +14,7 @@ use ab_kv::Kv;
 use ab_num::{Height, OutOfMemory, Plan};
 use ab_replay::{AnyProtocol, AnyWorld, is_held};
 use ab_storm::Storm;
+use ab_svc::Service;
 use ab_words::StormCommand;
 use ab_world::{WorldFault, premise_is_exact, worlds_keep_promises};
 use std::alloc::Global;
@@ -55,7 +57,7 @@ pub fn takes_plan(plan: Plan) -> bool
 }
 
 /// For each number whether it is that of a client who has no request open.
-fn idle_clients(world: &AnyWorld<Kv>) -> [bool; 16]
+fn idle_clients<S: Service>(world: &AnyWorld<S>) -> [bool; 16]
     ensures { result ≡ idle_of world.now }
 {
     world.idle()
@@ -75,12 +77,17 @@ fn ended_by(fault: WorldFault) -> StormFault
 }
 
 /// One event more, drawn where the world stands.
-fn step(alloc: Global, storm: &mut Storm, world: &mut AnyWorld<Kv>) -> Result<(), StormFault>
+#[tactic(none)]
+fn step<S: Service>(
+    alloc: Global,
+    storm: &mut Storm,
+    world: &mut AnyWorld<S>,
+) -> Result<(), StormFault>
     requires goes { Goes storm.old world.old }
     requires few { world.old.cast.events < 100000 }
-    ensures ok { OnOk result (stepped kv world.old (drawn_at storm.old world.old).0 ≡ Ok world.new) }
+    ensures ok { OnOk result (stepped (any S.machine) world.old (drawn_at storm.old world.old).0 ≡ Ok world.new) }
     ensures next { storm.new ≡ (drawn_at storm.old world.old).1 }
-    ensures cause { IfErr result (λ e. StepCause e (stepped kv world.old (drawn_at storm.old world.old).0)) }
+    ensures cause { IfErr result (λ e. StepCause e (stepped (any S.machine) world.old (drawn_at storm.old world.old).0)) }
 {
     let event = storm.next(world.packets(), &idle_clients(world));
     match world.step(alloc, &event) {
@@ -90,17 +97,18 @@ fn step(alloc: Global, storm: &mut Storm, world: &mut AnyWorld<Kv>) -> Result<()
 }
 
 /// So many events, one after another.
-fn run_events(
+#[tactic(none)]
+fn run_events<S: Service>(
     alloc: Global,
     storm: &mut Storm,
-    world: &mut AnyWorld<Kv>,
+    world: &mut AnyWorld<S>,
     events: u32,
 ) -> Result<(), StormFault>
     requires few { events ≤ 100000 }
     requires goes { Goes storm.old world.old }
     requires begins { world.old.cast.events ≡ 0 }
-    ensures ok { OnOk result (outcome kv 1 world.old (drawn_events kv events storm.old world.old) ≡ Ok world.new) }
-    ensures cause { IfErr result (λ e. EndCause e (outcome kv 1 world.old (drawn_events kv events storm.old world.old))) }
+    ensures ok { OnOk result (outcome (any S.machine) 1 world.old (drawn_events (any S.machine) events storm.old world.old) ≡ Ok world.new) }
+    ensures cause { IfErr result (λ e. EndCause e (outcome (any S.machine) 1 world.old (drawn_events (any S.machine) events storm.old world.old))) }
 {
     for _done in 0..events {
         step(alloc, storm, world)?;
@@ -110,6 +118,7 @@ fn run_events(
 
 /// Runs the storm that is asked for: in a cluster with the service `kv`, trees of height 10 and no
 /// faulty party.
+#[tactic(none)]
 pub fn storm(alloc: Global, asked: &StormCommand) -> Result<Stormed, StormFault>
     requires built { IsTrue (plan_is_built asked.now.plan) }
     requires few { asked.now.events ≤ 100000 }

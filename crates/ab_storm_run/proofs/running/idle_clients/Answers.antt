@@ -3,4 +3,4 @@ use Rattle.ab_storm_run.proofs.Drawing.{idle_is}
 use Rattle.ab_storm_run.proofs.running.idle_clients.Goals as goal
 
 pub returns : goal.returns
-returns c = idle_is c.args.world.now c.idle.result (omega (arith, c.idle.type_inv)) c.idle.ensures
+returns g c = idle_is c.args.world.now c.idle.result (omega (arith, c.idle.type_inv)) c.idle.ensures
