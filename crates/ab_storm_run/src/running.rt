@@ -77,7 +77,6 @@ fn ended_by(fault: WorldFault) -> StormFault
 }
 
 /// One event more, drawn where the world stands.
-#[tactic(none)]
 fn step<S: Service>(
     alloc: Global,
     storm: &mut Storm,
@@ -97,7 +96,6 @@ fn step<S: Service>(
 }
 
 /// So many events, one after another.
-#[tactic(none)]
 fn run_events<S: Service>(
     alloc: Global,
     storm: &mut Storm,
@@ -118,7 +116,6 @@ fn run_events<S: Service>(
 
 /// Runs the storm that is asked for: in a cluster with the service `kv`, trees of height 10 and no
 /// faulty party.
-#[tactic(none)]
 pub fn storm(alloc: Global, asked: &StormCommand) -> Result<Stormed, StormFault>
     requires built { IsTrue (plan_is_built asked.now.plan) }
     requires few { asked.now.events ≤ 100000 }
