@@ -34,8 +34,8 @@ use Rattle.ab_world.specs.Runs.{outcome, refused_or}
 use Rattle.ab_world.specs.Steps.{Happening, ready, ready_in, happening, asked, asked_at, handed, addressed, delivered, rung, refuse_command, after, after_taking, moved_at, stepped, stepped_by, taken_from}
 use Rattle.ab_world.specs.Worlds.{World, start}
 use Rattle.ab_replay.specs.Protocols.{Any}
-use Rattle.ab_replay.specs.declared.replay.ReplayFault.{ReplayFault}
-use Rattle.ab_replay.specs.declared.replay.ReplayFault.TheVariants.{Read, TooLong, Refused, TooManyEvents, TooManyPackets, OutOfMemory}
+use Rattle.ab_replay.specs.declared.running.ReplayFault.{ReplayFault}
+use Rattle.ab_replay.specs.declared.running.ReplayFault.TheVariants.{Read, TooLong, Refused, TooManyEvents, TooManyPackets, OutOfMemory}
 use Rattle.ab_replay.specs.Replays.{IsClusterOf, RunsTo, Runs, run_in, setup_in, proto_of, head_lines, EventsCause, TextCause}
 
 -- ---- how many replicas a world has
@@ -203,7 +203,7 @@ bounds_once f n a b = λ j. record { some_faulty = le_prop a.some_faulty b.some_
 abbrev of_size : (f n : ℕ) → Plan → IsInBounds f n → Cluster
 of_size f n plan bounds = record { f = f; clients = n; plan = plan; in_bounds = bounds }
 
-one_cluster : (c d : Cluster) → c.f ≡ d.f → c.clients ≡ d.clients → c.plan ≡ d.plan → c ≡ d
+pub one_cluster : (c d : Cluster) → c.f ≡ d.f → c.clients ≡ d.clients → c.plan ≡ d.plan → c ≡ d
 one_cluster c d f n plan =
     subst (λ (g : ℕ). (b : IsInBounds g d.clients) → c ≡ of_size g d.clients d.plan b) f
     (subst (λ (m : ℕ). (b : IsInBounds c.f m) → c ≡ of_size c.f m d.plan b) n

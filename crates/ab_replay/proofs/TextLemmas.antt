@@ -9,7 +9,7 @@ use Rattle.ab_text.specs.Heads.{Script}
 use Rattle.ab_replay.specs.Protocols.{is_served}
 
 -- a plan that is built gives each instance to a protocol
-built_serves : (plan : Plan) (i : ℕ) → IsTrue (plan_is_built plan) → IsTrue (is_served (kind_of plan i))
+pub built_serves : (plan : Plan) (i : ℕ) → IsTrue (plan_is_built plan) → IsTrue (is_served (kind_of plan i))
 unfolding plan_is_built
 built_serves AZyzzyva i built = let no' : false ≡ true = built in absurd (cc)
 built_serves Aliph i built = let no' : false ≡ true = built in absurd (cc)

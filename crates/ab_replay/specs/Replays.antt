@@ -29,8 +29,8 @@ use Rattle.ab_world.specs.Runs.{outcome, inputs_of, came_to}
 use Rattle.ab_world.specs.Worlds.{World, start, opener, premise_of}
 use Rattle.ab_replay.specs.declared.refusal.Cause.TheVariants.{BadLine, NoEnd, NotBuilt, NoPacket, BadParty, Busy}
 use Rattle.ab_replay.specs.declared.refusal.Refusal.{Refusal}
-use Rattle.ab_replay.specs.declared.replay.ReplayFault.{ReplayFault}
-use Rattle.ab_replay.specs.declared.replay.ReplayFault.TheVariants as replaying
+use Rattle.ab_replay.specs.declared.running.ReplayFault.{ReplayFault}
+use Rattle.ab_replay.specs.declared.running.ReplayFault.TheVariants as replaying
 use Rattle.ab_replay.specs.Protocols.{Any, any}
 use Rattle.ab_replay.specs.Streams.{IsAllOf, IsTooLong}
 use Rattle.ab_io.specs.Causes.{Rose}
@@ -89,23 +89,23 @@ pub record KeepsPromises {S : Type 0} (machine : Machine S) (c : Cluster) (s : S
       let end = stage_over (run_setup x) (any machine) spell_content (opener x) (inputs_of (any machine) (start (any machine) x) s.events) in
       EachIsAbstract machine (all_seen end) (named_on (run_setup x) end) (run_setup x).faulty
 
--- the run of a schedule with a service leads here, and this is its report. Its premise line is that of the run, to the letter, and
--- where it says `held` the run keeps what Abstract promises
-pub record Performs {S : Type 0} (machine : Machine S) (s : Script) (report : List ℕ) (held : Bool) : Type 0 where
+-- the run of a schedule with a service leads here, and this is what is told of its end. Its premise line is that of the run, to the
+-- letter, and where it says `held` the run keeps what Abstract promises
+pub record Performs {S : Type 0} (machine : Machine S) (told : World Any → List ℕ) (s : Script) (text : List ℕ) (held : Bool) : Type 0 where
   pub cluster : Cluster
   pub sized : IsClusterOf cluster s
   pub end : World Any
   pub runs : run_in (any machine) cluster s ≡ Ok end
-  pub reports : report ≡ report_of (any machine) end
+  pub reports : text ≡ told end
   pub says : IsTrue held ↔ (premise_of end ≡ Held)
   pub exact : (line : Premise) → (premise_of end ≡ line)
       ↔ IsPremise (run_setup (setup_in cluster s)) (any machine) (opener (setup_in cluster s)) s.faulty (came_to (any machine) (setup_in cluster s) s.events) line
   pub promises : premise_of end ≡ Held → KeepsPromises machine cluster s
 
--- the same with the service that is named
+-- the same with the service that is named, where a report is told
 abbrev pub PerformsAs : ServiceName → Script → List ℕ → Bool → Type 0
-PerformsAs Echo s report held = Performs echo_machine s report held
-PerformsAs Kv s report held = Performs kv_machine s report held
+PerformsAs Echo s report held = Performs echo_machine (report_of (any echo_machine)) s report held
+PerformsAs Kv s report held = Performs kv_machine (report_of (any kv_machine)) s report held
 
 -- the text is a schedule within the limits that runs, this is the report of its run, and its run keeps what Abstract promises
 -- of the service that the schedule names

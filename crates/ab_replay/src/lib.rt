@@ -2,10 +2,10 @@
 #![tactic(auto)]
 
 mod refusal;
-mod replay;
 mod report;
+mod running;
 mod stream;
 
 pub use refusal::{Cause, Refusal, refusal_line};
-pub use replay::{AnyProtocol, AnyWorld, Replayed, ReplayFault, replay};
+pub use running::{AnyProtocol, AnyWorld, ReplayFault, Replayed, is_held, replay};
 pub use stream::{ReadFault, WriteFault, read_all, write_all};

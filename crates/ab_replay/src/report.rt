@@ -5,7 +5,7 @@ ghost use Rattle.ab_text.specs.Reports.{line_text, log_text};
 ghost use Rattle.ab_replay.specs.Protocols.{any};
 ghost use Rattle.ab_replay.specs.Replays.{report_of, log_of, logs_from};
 
-use crate::replay::AnyWorld;
+use crate::running::AnyWorld;
 use ab_num::{OutOfMemory, Party};
 use ab_svc::Service;
 use ab_text::{Line, write_end, write_log, write_premise, write_seen};

@@ -21,3 +21,5 @@ mod replicas;
 mod routes;
 #[cfg(test)]
 mod setups;
+#[cfg(test)]
+mod storms;

@@ -6,11 +6,11 @@ ghost use Rattle.ab_abs.specs.Promises.{ServesAll};
 ghost use Rattle.ab_keys.specs.Keys.{is_party};
 ghost use Rattle.ab_world.specs.Runs.{outcome};
 ghost use Rattle.ab_replay.specs.Protocols.{any, is_served};
-ghost use Rattle.ab_replay.specs.Replays.{run_in, Performs, Replays, EventsCause, TextCause, ReplayCause, fault_from, text_refusal, step_refusal};
+ghost use Rattle.ab_replay.specs.Replays.{run_in, report_of, Performs, Replays, EventsCause, TextCause, ReplayCause, fault_from, text_refusal, step_refusal};
 ghost use Rattle.ab_replay.specs.Streams.{IsAllOf};
 
-use crate::report::report;
 use crate::refusal::{Cause, Refusal};
+use crate::report::report;
 use crate::stream::{ReadFault, read_all};
 use ab_cast::Setup;
 use ab_chain::Chain;
@@ -48,7 +48,7 @@ pub enum ReplayFault {
 
 impl From<OutOfMemory> for ReplayFault {
     ghost use Rattle.std.specs.Prelude.{◌≡◌};
-    ghost use Rattle.ab_replay.specs.declared.replay.ReplayFault.TheVariants.{OutOfMemory as NoMemory};
+    ghost use Rattle.ab_replay.specs.declared.running.ReplayFault.TheVariants.{OutOfMemory as NoMemory};
 
     ghost from_gives = { λ _ e. e ≡ NoMemory };
 
@@ -136,7 +136,7 @@ pub struct Replayed {
 }
 
 /// Whether the premises held.
-fn is_held(premise: &Premise) -> bool
+pub fn is_held(premise: &Premise) -> bool
     ensures { IsTrue result ↔ (premise.now ≡ Premise.Held) }
 {
     matches!(premise, Premise::Held)
@@ -153,7 +153,7 @@ fn perform<S: Service>(
     requires parties { All (λ e. IsTrue (is_party schedule.now.head.cluster.f schedule.now.head.cluster.clients e.0)) schedule.now.head.faulty }
     requires few { length schedule.now.events < 100001 }
     requires short { line < 2 ^ 31 }
-    ensures ok { IfOk result (λ v. Performs S.machine (script_of schedule.now.head schedule.now.events) v.report.items v.held) }
+    ensures ok { IfOk result (λ v. Performs S.machine (report_of (any S.machine)) (script_of schedule.now.head schedule.now.events) v.report.items v.held) }
     ensures cause { IfErr result (λ e. EventsCause e line (run_in (any S.machine) schedule.now.head.cluster (script_of schedule.now.head schedule.now.events))) }
 {
     let head = &schedule.head;

@@ -7,10 +7,10 @@ use Rattle.ab_text.specs.declared.line.Premise.{Premise}
 use Rattle.ab_text.specs.declared.line.Premise.TheVariants.{Held}
 use Rattle.ab_text.specs.Schedules.{script_of}
 use Rattle.ab_replay.specs.Protocols.{Any, any}
-use Rattle.ab_replay.specs.declared.replay.ReplayFault.TheVariants.{OutOfMemory}
+use Rattle.ab_replay.specs.declared.running.ReplayFault.TheVariants.{OutOfMemory}
 use Rattle.ab_replay.specs.Replays.{run_in, setup_in, EventsCause}
 use Rattle.ab_replay.proofs.RunLemmas.{all_replicas, kept_err, runs_schedule, sized_so}
-use Rattle.ab_replay.proofs.replay.perform.Goals as goal
+use Rattle.ab_replay.proofs.running.perform.Goals as goal
 
 pub report-requires : goal.report-requires
 report-requires g c =

@@ -1,7 +1,7 @@
 use Rattle.std.proofs.Common.{◌≡◌, ◌+◌, ◌≤◌, drop, None}
 use Rattle.ab_world.specs.Runs.{outcome}
 use Rattle.ab_replay.specs.Protocols.{any}
-use Rattle.ab_replay.proofs.replay.run_events.Given as goal
+use Rattle.ab_replay.proofs.running.run_events.Given as goal
 
 abbrev pub invariant-loop-i : goal.invariant-loop-i
 invariant-loop-i g l = record {

@@ -7,7 +7,7 @@ use Rattle.ab_world.specs.Steps.{Cause, stepped}
 use Rattle.ab_world.specs.Runs.{outcome, refused_or}
 use Rattle.ab_replay.specs.Protocols.{any}
 use Rattle.ab_replay.proofs.RunLemmas.{no_limit, step_steps}
-use Rattle.ab_replay.proofs.replay.run_events.Goals as goal
+use Rattle.ab_replay.proofs.running.run_events.Goals as goal
 
 pub loop-i-preserved : goal.loop-i-preserved
 loop-i-preserved g c =

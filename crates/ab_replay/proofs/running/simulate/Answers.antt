@@ -7,7 +7,7 @@ use Rattle.ab_replay.specs.Replays.{run_in, proto_of, EventsCause, TextCause}
 use Rattle.ab_replay.proofs.RunLemmas.{if_err_then, sized_so, stops_text}
 use Rattle.ab_text.specs.Schedules.{script_of}
 use Rattle.ab_replay.proofs.TextLemmas.{form_serves}
-use Rattle.ab_replay.proofs.replay.simulate.Goals as goal
+use Rattle.ab_replay.proofs.running.simulate.Goals as goal
 
 pub perform-requires-clause-served : goal.perform-requires-clause-served
 perform-requires-clause-served c =

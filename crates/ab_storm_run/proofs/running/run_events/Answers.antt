@@ -1,0 +1,34 @@
+use Rattle.std.proofs.Common.{◌≡◌, ◌+◌, ◌-◌, ◌<◌, ◌∙◌, ℕ, Err, Result, arith, sym, subst}
+use Rattle.ab_world.specs.declared.fault.WorldFault.{WorldFault}
+use Rattle.ab_world.specs.Runs.{outcome}
+use Rattle.ab_world.specs.Worlds.{World}
+use Rattle.ab_replay.specs.Protocols.{Any, any}
+use Rattle.ab_replay.proofs.RunLemmas.{kept_err}
+use Rattle.ab_storm_run.specs.Runs.{drawn_events, EndCause}
+use Rattle.ab_storm_run.proofs.Protocols.{any_addresses}
+use Rattle.ab_storm_run.proofs.StormLemmas.{ends_run, goes_next, run_done}
+use Rattle.ab_storm_run.proofs.running.run_events.Goals as goal
+
+pub loop-_done-preserved : goal.loop-_done-preserved
+loop-_done-preserved g c =
+    let proto = any g.S.Service.machine in
+    let sends = λ k. any_addresses k g.S.Service.machine in
+    let i = c.loop-_done._done in
+    let s = c.loop-_done.storm in
+    let w = c.loop-_done.world in
+    let whole = outcome proto 1 c.args.world.now (drawn_events proto c.args.events c.args.storm.now c.args.world.now) in
+    let on = goes_next proto sends c.args.events i s c.step.new.storm w c.step.new.world whole c.loop-_done-test.true c.loop-_done.invariant.goes (omega (arith, c.loop-_done.invariant.counted, c.loop-_done-test.true, c.requires.few))
+    c.in_ok-step.ensures.next c.in_ok-step.ensures.ok c.loop-_done.invariant.rest in
+    record { rest = on.rest; counted = omega (arith, on.events, c.loop-_done.invariant.counted); goes = on.goes }
+
+pub returns-in_err-step-clause-cause : goal.returns-in_err-step-clause-cause
+returns-in_err-step-clause-cause g c =
+    let proto = any g.S.Service.machine in
+    let sends = λ k. any_addresses k g.S.Service.machine in
+    let i = c.loop-_done._done in
+    let s = c.loop-_done.storm in
+    let w = c.loop-_done.world in
+    let fault = c.in_err-step.field-0.0 in
+    let whole = outcome proto 1 c.args.world.now (drawn_events proto c.args.events c.args.storm.now c.args.world.now) in
+    kept_err c.from_residual-in_err-step.result fault (λ e. EndCause e whole) c.from_residual-in_err-step.ensures.1
+    (subst (EndCause fault) c.loop-_done.invariant.rest (ends_run proto sends fault c.args.events i s w c.loop-_done-test.true c.in_err-step.ensures.cause))
