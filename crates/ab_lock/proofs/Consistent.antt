@@ -3,14 +3,15 @@ use Rattle.std.proofs.Common.{◌≡◌, ℕ, suc, ◌<◌, ◌≤◌, ◌==◌,
 use Rattle.std.proofs.lemmas.Bool.{cases_Bool}
 use Rattle.std.proofs.lemmas.Bool.Decides.{Decides-eqb}
 use Rattle.std.proofs.lemmas.Option.{none-some, slice_get_within}
-use Rattle.ab_lock.specs.Steps.{Cert, Step, accepts, signs, prepares, changes, enters, executes, State, with_cert, after, state_of, Can, Follows}
+use Rattle.ab_lock.specs.Steps.{Cert, Step, accepts, signs, prepares, changes, enters, executes, State, cert_at, with_cert, after, state_of, Can, Follows}
 use Rattle.ab_lock.proofs.Lists.{nth_there, nth_grown}
+use Rattle.ab_lock.proofs.CertLemmas.{with_cert-last, with_cert-other}
 use Rattle.std.proofs.lemmas.List.{length-take-le, take-append-le}
 use Rattle.std.proofs.Math.Seq.{take-length}
 
 -- slot t has a certificate of view v or above
-abbrev pub HasCert : {V : Type 0} → (ℕ → Option (Cert V)) → ℕ → ℕ → Type 0
-HasCert {V} certs v t = (c : Cert V) × (certs t ≡ Some c) × (v ≤ c.at)
+abbrev pub HasCert : {V : Type 0} → List (Option (Cert V)) → ℕ → ℕ → Type 0
+HasCert {V} certs v t = (c : Cert V) × (cert_at certs t ≡ Some c) × (v ≤ c.at)
 
 module _ {V X : Type 0} (digest : V → X) (goes : List V → V → Bool) (k : ℕ) where
   -- each value may follow those before it
@@ -36,18 +37,17 @@ module _ {V X : Type 0} (digest : V → X) (goes : List V → V → Bool) (k : �
       ]
 
   -- the certificate of the last slot of h, or the one before
-  with_cert-last : (v : ℕ) (h : List V) (certs : ℕ → Option (Cert V)) (t : ℕ) (value : V) → suc t ≡ length h → slice_get h t ≡ Some value
-      → with_cert v h certs t ≡ Some (record { at = v; value = value })
-  with_cert-last v h certs t value len is = rw ((Decides-eqb (suc t) (length h)).1 len, is) refl
-
-  with_cert-has : (u v : ℕ) (h : List V) (certs : ℕ → Option (Cert V)) (t : ℕ) → u ≤ v → ((suc t ≡ length h → ⊥) → HasCert certs u t) → HasCert (with_cert v h certs) u t
+  with_cert-has : (u v : ℕ) (h : List V) (certs : List (Option (Cert V))) (t : ℕ) → u ≤ v → ((suc t ≡ length h → ⊥) → HasCert certs u t) → HasCert (with_cert v h certs) u t
   with_cert-has u v h certs t le otherwise =
       elim (cases_Bool (suc t == length h)) [
         | inl same ↦
             let len : suc t ≡ length h = (Decides-eqb (suc t) (length h)).0 same in
             let there = nth_there h t (omega (arith, len)) in
             (record { at = v; value = there.0 }, with_cert-last v h certs t there.0 len there.1, le)
-        | inr differ ↦ rw differ (otherwise (λ len. absurd (cc (differ, (Decides-eqb (suc t) (length h)).1 len))))
+        | inr differ ↦
+            let other : suc t ≡ length h → ⊥ = λ len. absurd (cc (differ, (Decides-eqb (suc t) (length h)).1 len)) in
+            let has = otherwise other in
+            (has.0, with_cert-other v h certs t other ∙ has.1, has.2)
       ]
 
   pub consistent_after : (s : State V) (step : Step V X) → IsConsistent s → Can digest goes k s step → IsConsistent (after s step)

@@ -1,5 +1,6 @@
 -- Lemmas of this crate.
 pub mod Lists
+pub mod CertLemmas
 pub mod Consistent
 pub mod Traces
 pub mod QuorumLemmas

@@ -9,11 +9,11 @@ use Rattle.ab_lock.proofs.VoteLemmas.{IsInView, next_is, next_can}
 
 -- what steps from the oldest on leave
 module _ {V X : Type 0} (digest : V → X) (me : ℕ) where
-  state_by-last : (more : List (Step V X)) (step : Step V X) (s : State V) → state_by (more ++ (step ∷ [])) s ≡ state_by more (after s step)
+  pub state_by-last : (more : List (Step V X)) (step : Step V X) (s : State V) → state_by (more ++ (step ∷ [])) s ≡ state_by more (after s step)
   state_by-last [] step s = refl
   state_by-last (other ∷ more) step s = ap (λ t. after t other) (state_by-last more step s)
 
-  votes_by-last : (more : List (Step V X)) (step : Step V X) (votes : List (Vote X)) → votes_by me (more ++ (step ∷ [])) votes ≡ votes_by me more (votes_after me step votes)
+  pub votes_by-last : (more : List (Step V X)) (step : Step V X) (votes : List (Vote X)) → votes_by me (more ++ (step ∷ [])) votes ≡ votes_by me more (votes_after me step votes)
   votes_by-last [] step votes = refl
   votes_by-last (other ∷ more) step votes = ap (λ t. votes_after me other t) (votes_by-last more step votes)
 

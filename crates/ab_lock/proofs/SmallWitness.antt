@@ -4,7 +4,7 @@ use Rattle.std.specs.Prelude.{Contains}
 use Rattle.std.specs.List.{IsDistinct, AllByRecursion}
 use Rattle.std.proofs.lemmas.Option.{none-some, same_Some}
 use Rattle.ab_abs.proofs.Counting.{Contains-head}
-use Rattle.ab_lock.specs.Steps.{Cert, Entry, Change, Step, signs, prepares, changes, state_of, entry_of, Lists, IsChosen, Follows}
+use Rattle.ab_lock.specs.Steps.{Cert, Entry, Change, Step, signs, prepares, changes, cert_at, state_of, entry_of, Lists, IsChosen, Follows}
 use Rattle.ab_lock.specs.Quorums.{IsOlder, AreReplicas}
 use Rattle.ab_lock.specs.Acts.{Content, Prepare, Commit, ViewChange, WasMade, Knows, its_own, KnowsQuorum, KnowsChanges, Backs, made}
 use Rattle.ab_lock.specs.Promises.{MeetsPremises}
@@ -16,10 +16,10 @@ use Rattle.ab_lock.proofs.ChoosingLemmas.{chosen_of-IsChosen}
 abbrev S : Type 0
 S = Step ℕ ℕ
 
-lists : Lists digest (state_of first_view).certs (record { at = 0; x = 7 } ∷ [])
+lists : Lists digest (cert_at (state_of first_view).certs) (record { at = 0; x = 7 } ∷ [])
 lists = record { each = each; ends = refl }
   where
-    each : (t : ℕ) (e : Entry ℕ) → slice_get (record { at = 0; x = 7 } ∷ []) t ≡ Some e → (c : Cert ℕ) × ((state_of first_view).certs t ≡ Some c) × (e ≡ entry_of digest c)
+    each : (t : ℕ) (e : Entry ℕ) → slice_get (record { at = 0; x = 7 } ∷ []) t ≡ Some e → (c : Cert ℕ) × (cert_at (state_of first_view).certs t ≡ Some c) × (e ≡ entry_of digest c)
     each zero e is = (cert, refl, sym (same_Some (record { at = 0; x = 7 }) e is))
     each (suc t) e is = absurd (none-some e is)
 

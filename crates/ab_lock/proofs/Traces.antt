@@ -5,7 +5,7 @@ use Rattle.std.proofs.lemmas.Bool.{cases_Bool, cases_lt}
 use Rattle.std.proofs.lemmas.Option.{none-some, same_Some, slice_get_within}
 use Rattle.std.proofs.lemmas.Bool.Decides.{Decides-eqb}
 use Rattle.ab_abs.proofs.Counting.{Contains-head, Contains-tail}
-use Rattle.ab_lock.specs.Steps.{Cert, Entry, Change, Step, accepts, signs, prepares, changes, enters, executes, State, after, state_of, IsAt, Lists, Can, Follows}
+use Rattle.ab_lock.specs.Steps.{Cert, Entry, Change, Step, accepts, signs, prepares, changes, enters, executes, State, cert_at, after, state_of, IsAt, Lists, Can, Follows}
 use Rattle.ab_abs.proofs.Lists.{Contains-cons_cases}
 use Rattle.ab_abs.proofs.Statements.{none_of}
 use Rattle.ab_hist.proofs.KeptLemmas.{slice_get-take}
@@ -136,7 +136,7 @@ module _ {V X : Type 0} (digest : V → X) (goes : List V → V → Bool) (k : �
       ]
 
   -- entries that list certificates for each slot below n
-  entries_have : (certs : ℕ → Option (Cert V)) (entries : List (Entry X)) (v n : ℕ) → Lists digest certs entries → ((t : ℕ) → t < n → HasCert certs v t)
+  entries_have : (certs : List (Option (Cert V))) (entries : List (Entry X)) (v n : ℕ) → Lists digest (cert_at certs) entries → ((t : ℕ) → t < n → HasCert certs v t)
       → (t : ℕ) → t < n → (e : Entry X) × (slice_get entries t ≡ Some e) × (v ≤ e.at)
   entries_have certs entries v n lists have t lt =
       elim (cases_lt t (length entries)) [

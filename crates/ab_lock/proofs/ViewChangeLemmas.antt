@@ -1,5 +1,5 @@
 -- Leaving and entering views is allowed, and rests on what is known.
-use Rattle.std.proofs.Common.{◌≡◌, ℕ, zero, suc, ◌+◌, ◌*◌, ◌<◌, ◌≤◌, ◌==◌, Bool, true, Option, Some, None, option_map, List, [], ◌∷◌, ◌⊎◌, length, slice_get, map, refl, sym, ap, ◌∙◌, subst, inl, inr, arith}
+use Rattle.std.proofs.Common.{◌≡◌, ℕ, zero, suc, ◌+◌, ◌*◌, ◌<◌, ◌≤◌, ◌==◌, Bool, true, Option, Some, None, List, [], ◌∷◌, ◌⊎◌, length, slice_get, map, refl, sym, ap, ◌∙◌, subst, inl, inr, arith}
 use Rattle.std.specs.Prelude.{Contains, nat_eq}
 use Rattle.std.specs.List.{IsDistinct}
 use Rattle.std.proofs.lemmas.Bool.{cases_Bool}
@@ -7,13 +7,14 @@ use Rattle.std.proofs.lemmas.Bool.Decides.{Decides-eqb}
 use Rattle.std.proofs.lemmas.Option.{none-some, same_Some}
 use Rattle.ab_abs.proofs.Counting.{Contains-head, Contains-tail}
 use Rattle.ab_lock.specs.Quorums.{IsOlder, quorum}
-use Rattle.ab_lock.specs.Steps.{Cert, Change, Step, accepts, signs, prepares, changes, enters, executes, State, state_of, entry_of, Can, Follows}
+use Rattle.ab_lock.specs.Steps.{Cert, Change, Step, accepts, signs, prepares, changes, enters, executes, State, cert_at, with_cert, state_of, entry_of, Can, Follows}
 use Rattle.ab_lock.specs.Acts.{Prepare, ViewChange, Act, Knows, KnowsQuorum, KnowsChanges, Backs}
 use Rattle.ab_lock.specs.ViewChanges.{Kept, cert_then, certs_from, of_view, leave, own_change, enter, lowest}
 use Rattle.ab_lock.specs.Standing.{AreKeptChanges}
 use Rattle.std.proofs.lemmas.List.{length-take-le, length-map}
 use Rattle.ab_abs.proofs.Lists.{Contains-cons_cases}
 use Rattle.ab_abs.proofs.Statements.{none_of}
+use Rattle.ab_lock.proofs.CertLemmas.{with_cert-last, with_cert-other}
 use Rattle.ab_lock.proofs.Lists.{nth_there, nth_map, map_take, Contains-take, Contains-map, Contains-map_cases}
 use Rattle.ab_lock.proofs.Traces.{views_below, prepared_fit}
 use Rattle.ab_lock.proofs.QuorumLemmas.{out_apart, apart_out}
@@ -84,31 +85,33 @@ module _ {V X : Type 0} (digest : V → X) (goes : List V → V → Bool) (k : �
     pub slot : length values ≡ suc t
     pub there : slice_get values t ≡ Some c.value
 
-  cert_here : (v : ℕ) (h : List V) (trace : List (Step V X)) (t : ℕ) (c : Cert V) → suc t ≡ length h → option_map (λ value. record { at = v; value = value }) (slice_get h t) ≡ Some c → IsPreparedCert (prepares v h ∷ trace) t c
+  cert_here : (v : ℕ) (h : List V) (trace : List (Step V X)) (t : ℕ) (c : Cert V) → suc t ≡ length h → cert_at (with_cert v h (state_of trace).certs) t ≡ Some c → IsPreparedCert (prepares v h ∷ trace) t c
   cert_here v h trace t c len is =
       let there = nth_there h t (omega (arith, len)) in
       let e : ◌≡◌ {A = Cert V} (record { at = v; value = there.0 }) c =
-      same_Some (record { at = v; value = there.0 }) c (sym (ap (λ o. option_map (λ value. record { at = v; value = value }) o) there.1) ∙ is) in
+      same_Some (record { at = v; value = there.0 }) c (sym (with_cert-last v h (state_of trace).certs t there.0 len there.1) ∙ is) in
       subst (λ (d : Cert V). IsPreparedCert (prepares v h ∷ trace) t d) e (record { values = h; is_in = Contains-head (prepares v h) trace; slot = sym len; there = there.1 })
 
   cert_more : (step : Step V X) (trace : List (Step V X)) (t : ℕ) (c : Cert V) → IsPreparedCert trace t c → IsPreparedCert (step ∷ trace) t c
   cert_more step trace t c is = record { values = is.values; is_in = Contains-tail step (prepares c.at is.values) trace is.is_in; slot = is.slot; there = is.there }
 
-  pub cert_prepared : (trace : List (Step V X)) (t : ℕ) (c : Cert V) → (state_of trace).certs t ≡ Some c → IsPreparedCert trace t c
+  pub cert_prepared : (trace : List (Step V X)) (t : ℕ) (c : Cert V) → cert_at (state_of trace).certs t ≡ Some c → IsPreparedCert trace t c
   cert_prepared [] t c is = absurd (none-some c is)
   cert_prepared (accepts n value ∷ trace) t c is = cert_more _ trace t c (cert_prepared trace t c is)
   cert_prepared (signs v n x ∷ trace) t c is = cert_more _ trace t c (cert_prepared trace t c is)
   cert_prepared (prepares v h ∷ trace) t c is =
       elim (cases_Bool (suc t == length h)) [
-        | inl same ↦ cert_here v h trace t c ((Decides-eqb (suc t) (length h)).0 same) (rw same at is)
-        | inr other ↦ cert_more _ trace t c (cert_prepared trace t c (rw other at is))
+        | inl same ↦ cert_here v h trace t c ((Decides-eqb (suc t) (length h)).0 same) is
+        | inr other ↦
+            let differ : suc t ≡ length h → ⊥ = λ len. absurd (cc (other, (Decides-eqb (suc t) (length h)).1 len)) in
+            cert_more _ trace t c (cert_prepared trace t c (sym (with_cert-other v h (state_of trace).certs t differ) ∙ is))
       ]
   cert_prepared (changes w entries ∷ trace) t c is = cert_more _ trace t c (cert_prepared trace t c is)
   cert_prepared (enters w vcs chosen ∷ trace) t c is = cert_more _ trace t c (cert_prepared trace t c is)
   cert_prepared (executes v n value ∷ trace) t c is = cert_more _ trace t c (cert_prepared trace t c is)
 
   -- so it is of a slot there is, and of no later view
-  cert_within : (trace : List (Step V X)) (t : ℕ) (c : Cert V) → Follows digest goes k trace → (state_of trace).certs t ≡ Some c → (c.at ≤ (state_of trace).view) × (t ≤ k)
+  cert_within : (trace : List (Step V X)) (t : ℕ) (c : Cert V) → Follows digest goes k trace → cert_at (state_of trace).certs t ≡ Some c → (c.at ≤ (state_of trace).view) × (t ≤ k)
   cert_within trace t c lawful is =
       let p = cert_prepared trace t c is in
       (views_below digest goes k trace (prepares c.at p.values) lawful p.is_in, omega (arith, p.slot, (prepared_fit digest goes k trace c.at p.values lawful p.is_in).0))
@@ -116,8 +119,8 @@ module _ {V X : Type 0} (digest : V → X) (goes : List V → V → Bool) (k : �
   -- leaving for a higher view is allowed
   pub leave_can : (trace : List (Step V X)) (w : ℕ) → Follows digest goes k trace → (state_of trace).view < w → Can digest goes k (state_of trace) (leave digest k (state_of trace) w)
   leave_can trace w lawful lt =
-      let certs = (state_of trace).certs in
-      let from = certs_from (state_of trace).certs (suc k) 0 in (
+      let certs = cert_at (state_of trace).certs in
+      let from = certs_from (cert_at (state_of trace).certs) (suc k) 0 in (
         lt,
         record {
           each = λ t e is.
@@ -141,7 +144,7 @@ module _ {V X : Type 0} (digest : V → X) (goes : List V → V → Bool) (k : �
         → (t : ℕ) (cert : Cert V) → slice_get (own_change k me (state_of trace)).certs t ≡ Some cert → IsOlder cert.at w × KnowsQuorum digest f acts me (λ q. Prepare q cert.at t (digest cert.value))
     own_fits trace w lawful backed lt t cert is =
         let zero_less : t ≡ 0 + t = omega arith in
-        let has : (state_of trace).certs t ≡ Some cert = ap (state_of trace).certs zero_less ∙ listed (state_of trace).certs (suc k) 0 t cert is in
+        let has : cert_at (state_of trace).certs t ≡ Some cert = ap (cert_at (state_of trace).certs) zero_less ∙ listed (cert_at (state_of trace).certs) (suc k) 0 t cert is in
         let p = cert_prepared trace t cert has in
         (omega (arith, (cert_within trace t cert lawful has).0, lt), backed (prepares cert.at p.values) p.is_in t cert.value p.slot p.there)
 

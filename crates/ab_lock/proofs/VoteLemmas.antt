@@ -92,7 +92,7 @@ module _ {V X : Type 0} (digest : V → X) (same : X → X → Bool) (goes : Lis
     by_prepare : (value : V) → s.prepared < s.signed → slice_get s.accepted s.prepared ≡ Some value → is_enough same f votes s.prepared (digest value) ≡ true
         → IsNext (prepares s.view (take (suc s.prepared) s.accepted))
     by_execute : (value : V) → length s.executed < s.prepared → slice_get s.accepted (length s.executed) ≡ Some value → is_enough same f commits (length s.executed) (digest value) ≡ true
-        → IsNext (executes s.view (length s.executed) value)
+        → goes s.executed value ≡ true → IsNext (executes s.view (length s.executed) value)
 
   sign_is : (step : Step V X) → next_sign digest s ≡ Some step → IsNext step
   sign_is step is =
@@ -135,8 +135,8 @@ module _ {V X : Type 0} (digest : V → X) (same : X → X → Bool) (goes : Lis
           elim (cases_Bool (is_enough same f commits (length s.executed) (digest value) && goes s.executed value)) [
             | inr few ↦ absurd (none-some step (rw few at is))
             | inl both ↦
-                let many = (both_true (is_enough same f commits (length s.executed) (digest value)) (goes s.executed value) both).0 in
-                subst (λ (z : Step V X). IsNext z) (same_Some _ step (rw both at is)) (by_execute value ahead there many)
+                let sure = both_true (is_enough same f commits (length s.executed) (digest value)) (goes s.executed value) both in
+                subst (λ (z : Step V X). IsNext z) (same_Some _ step (rw both at is)) (by_execute value ahead there sure.0 sure.1)
           ]
 
   or_else_cases : (a b : Option (Step V X)) (step : Step V X) → or_else a b ≡ Some step → (a ≡ Some step) ⊎ (b ≡ Some step)
@@ -157,7 +157,7 @@ module _ {V X : Type 0} (digest : V → X) (same : X → X → Bool) (goes : Lis
   pub next_can : (k : ℕ) (step : Step V X) → IsNext step → Can digest goes k s step × IsInView step
   next_can k step (by_sign value level there) = ((refl, refl, level, (value, there, refl)), tt)
   next_can k step (by_prepare value ahead there many) = ((refl, ahead, refl), tt)
-  next_can k step (by_execute value ahead there many) = ((refl, refl, ahead, there), tt)
+  next_can k step (by_execute value ahead there many on) = ((refl, refl, ahead, there), tt)
 
 -- what a replica goes on with stays in its view
 pub settled_in_view : {V X : Type 0} (digest : V → X) (same : X → X → Bool) (goes : List V → V → Bool) (f me n : ℕ) (s : State V) (votes commits : List (Vote X)) (step : Step V X)
@@ -267,7 +267,7 @@ module _ {V X : Type 0} (digest : V → X) (same : X → X → Bool) (decides : 
       let e = last_of s value other n is there ahead len at in
       subst (λ (z : V). KnowsQuorum digest f acts me (λ q. Prepare q s.view n (digest z))) e.1
       (subst (λ (j : ℕ). KnowsQuorum digest f acts me (λ q. Prepare q s.view j (digest value))) (sym e.0) (enough_known (λ q n x. Prepare q s.view n x) votes s.prepared (digest value) kept_votes many))
-  next_backed s votes commits step is kept_votes kept_commits (by_execute value ahead there many) =
+  next_backed s votes commits step is kept_votes kept_commits (by_execute value ahead there many on) =
       enough_known (λ q n x. Commit q s.view n x) commits (length s.executed) (digest value) kept_commits many
 
   -- all that it goes on with is allowed, and rests on what is known once these steps are known

@@ -1,5 +1,5 @@
 -- What a correct replica does in PBFT, one step at a time, on plain values.
-use Rattle.std.specs.Prelude.{◌≡◌, ℕ, suc, ◌<◌, ◌≤◌, ◌⊎◌, Bool, true, false, ◌==◌, if◌then◌else◌, Option, Some, None, option_map, List, [], ◌∷◌, ◌++◌, length, take, slice_get, Contains}
+use Rattle.std.specs.Prelude.{◌≡◌, ℕ, zero, suc, pred, ◌<◌, ◌≤◌, ◌⊎◌, Bool, true, false, Option, Some, None, List, [], ◌∷◌, ◌++◌, length, take, slice_get, Contains}
 
 -- a value of a slot that 2f + 1 PREPAREs of a view back
 pub record Cert (V : Type 0) : Type 0 where
@@ -27,23 +27,37 @@ pub data Step (V X : Type 0) : Type 0 where
   executes : ℕ → ℕ → V → Step V X
 
 -- the signed slots of this view are those below signed, the prepared ones those below prepared;
--- certs has for each slot the certificate of the highest view
+-- certs has for each slot the certificate of the highest view, None for one that has none
 pub record State (V : Type 0) : Type 0 where
   pub view : ℕ
   pub changing : Bool
   pub accepted : List V
   pub signed : ℕ
   pub prepared : ℕ
-  pub certs : ℕ → Option (Cert V)
+  pub certs : List (Option (Cert V))
   pub executed : List V
 
 abbrev pub begun : {V : Type 0} → State V
-begun = record { view = 0; changing = false; accepted = []; signed = 0; prepared = 0; certs = λ t. None; executed = [] }
+begun = record { view = 0; changing = false; accepted = []; signed = 0; prepared = 0; certs = []; executed = [] }
+
+abbrev pub cert_at : {V : Type 0} → List (Option (Cert V)) → ℕ → Option (Cert V)
+cert_at [] t = None
+cert_at (c ∷ certs) zero = c
+cert_at (c ∷ certs) (suc t) = cert_at certs t
+
+abbrev pub set_cert : {V : Type 0} → ℕ → Cert V → List (Option (Cert V)) → List (Option (Cert V))
+set_cert zero c [] = Some c ∷ []
+set_cert zero c (d ∷ certs) = Some c ∷ certs
+set_cert (suc t) c [] = None ∷ set_cert t c []
+set_cert (suc t) c (d ∷ certs) = d ∷ set_cert t c certs
+
+abbrev pub set_value : {V : Type 0} → ℕ → ℕ → Option V → List (Option (Cert V)) → List (Option (Cert V))
+set_value v t None certs = certs
+set_value v t (Some value) certs = set_cert t (record { at = v; value = value }) certs
 
 -- the certificates once the last of h is prepared in v
-abbrev pub with_cert : {V : Type 0} → ℕ → List V → (ℕ → Option (Cert V)) → ℕ → Option (Cert V)
-with_cert v h certs t =
-    if suc t == length h then option_map (λ value. record { at = v; value = value }) (slice_get h t) else certs t
+abbrev pub with_cert : {V : Type 0} → ℕ → List V → List (Option (Cert V)) → List (Option (Cert V))
+with_cert v h certs = set_value v (pred (length h)) (slice_get h (pred (length h))) certs
 
 abbrev pub after : {V X : Type 0} → State V → Step V X → State V
 after s (accepts n value) = record s { accepted = s.accepted ++ (value ∷ []) }
@@ -99,7 +113,7 @@ module _ {V X : Type 0} (digest : V → X) (goes : List V → V → Bool) (k : �
   Can s (accepts n value) = (s.changing ≡ false) × (length s.accepted ≤ k) × (goes s.accepted value ≡ true) × (n ≡ length s.accepted)
   Can s (signs v n x) = (v ≡ s.view) × (n ≡ s.signed) × (s.signed ≡ s.prepared) × IsAt digest s.accepted n x
   Can s (prepares v h) = (v ≡ s.view) × (s.prepared < s.signed) × (h ≡ take (suc s.prepared) s.accepted)
-  Can s (changes w entries) = (s.view < w) × Lists digest s.certs entries
+  Can s (changes w entries) = (s.view < w) × Lists digest (cert_at s.certs) entries
   Can s (enters w vcs chosen) = ((s.view < w) ⊎ ((s.view ≡ w) × (s.changing ≡ true))) × IsChosen goes k vcs chosen
   Can s (executes v n value) =
       (v ≡ s.view) × (n ≡ length s.executed) × (n < s.prepared) × (slice_get s.accepted n ≡ Some value)

@@ -1,7 +1,7 @@
 -- How a replica leaves a view and enters one, from the VIEW-CHANGEs that it keeps.
 use Rattle.std.specs.Prelude.{ℕ, zero, suc, Bool, ◌==◌, if◌then◌else◌, Option, Some, None, List, [], ◌∷◌, take, map, nat_lt, ◌<◌, Contains}
 use Rattle.ab_lock.specs.Quorums.{quorum}
-use Rattle.ab_lock.specs.Steps.{Cert, Change, Step, changes, enters, State, entry_of}
+use Rattle.ab_lock.specs.Steps.{Cert, Change, Step, changes, enters, State, cert_at, entry_of}
 use Rattle.ab_lock.specs.Choosing.{chosen_of}
 
 -- a VIEW-CHANGE with its view
@@ -26,10 +26,10 @@ module _ {V : Type 0} where
 
 -- leaving for view w, and the replica's own VIEW-CHANGE
 abbrev pub leave : {V X : Type 0} → (V → X) → ℕ → State V → ℕ → Step V X
-leave digest k s w = changes w (map (entry_of digest) (certs_from s.certs (suc k) 0))
+leave digest k s w = changes w (map (entry_of digest) (certs_from (cert_at s.certs) (suc k) 0))
 
 abbrev pub own_change : {V : Type 0} → ℕ → ℕ → State V → Change V
-own_change k me s = record { by = me; certs = certs_from s.certs (suc k) 0 }
+own_change k me s = record { by = me; certs = certs_from (cert_at s.certs) (suc k) 0 }
 
 -- entering the view from these VIEW-CHANGEs
 abbrev pub enter : {V X : Type 0} → (List V → V → Bool) → ℕ → ℕ → List (Change V) → Step V X

@@ -62,7 +62,7 @@ module _ (seat : Seat) where
     takes = λ w value was still room on why. let t = one_more w _ (accept (core_of w) value) was refl (still, room, on, refl) in record { trace = t.0; follows = t.1; core = t.2 };
     speaks = λ w d was spoken. record { trace = was.trace; follows = was.follows; core = was.core };
     enters = λ w v vcs was may why. let t = one_more w _ (enter goes seat.k v vcs) was refl (enter_can slot_digest goes seat.k (core_of w) v vcs may) in record { trace = t.0; follows = t.1; core = t.2 };
-    leaves = λ w v was above.
+    leaves = λ w v was above why.
         let can = leave_can slot_digest goes seat.k was.trace v was.follows (subst (λ (s : State Value). s.view < v) was.core above) in
         let t = one_more w _ (leave slot_digest seat.k (core_of w) v) was refl (subst (λ (s : State Value). Can slot_digest goes seat.k s (leave slot_digest seat.k s v)) (sym was.core) can) in
         record { trace = t.0; follows = t.1; core = t.2 };

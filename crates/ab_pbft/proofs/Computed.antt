@@ -26,7 +26,7 @@ module _ (m : Request) where
   abbrev order : List ℕ
   order = slot_digest (Order m)
 
-  abbrev at : ℕ → ℕ → (ℕ → Option (Cert Value)) → List Value → List (Vote (List ℕ)) → List (Vote (List ℕ)) → Pbft
+  abbrev at : ℕ → ℕ → List (Option (Cert Value)) → List Value → List (Vote (List ℕ)) → List (Vote (List ℕ)) → Pbft
   at signed prepared certs executed votes commits = record {
     seat = record { k = 1; f = 1; i = 1; me = 0; base = [] };
     memory = record {
@@ -40,13 +40,13 @@ module _ (m : Request) where
     };
   }
 
-  abbrev no_cert : ℕ → Option (Cert Value)
-  no_cert t = None
+  abbrev no_cert : List (Option (Cert Value))
+  no_cert = []
 
-  abbrev first_cert : ℕ → Option (Cert Value)
+  abbrev first_cert : List (Option (Cert Value))
   first_cert = with_cert 0 (Base [] ∷ []) no_cert
 
-  abbrev both_certs : ℕ → Option (Cert Value)
+  abbrev both_certs : List (Option (Cert Value))
   both_certs = with_cert 0 (Base [] ∷ Order m ∷ []) first_cert
 
   abbrev next : Pbft → Input → Pbft
@@ -115,7 +115,7 @@ module _ (m : Request) where
   abbrev own : Kept Value
   own = record { view = 1; change = record { by = 0; certs = [] } }
 
-  abbrev alone : List (Vote (List ℕ)) → List (Vote (List ℕ)) → List Request → (ℕ → Option (Cert Value)) → List Value → ℕ → Pbft
+  abbrev alone : List (Vote (List ℕ)) → List (Vote (List ℕ)) → List Request → List (Option (Cert Value)) → List Value → ℕ → Pbft
   alone votes commits requests certs values done = record {
     seat = record { k = 1; f = 0; i = 1; me = 0; base = [] };
     memory = record {
@@ -132,7 +132,7 @@ module _ (m : Request) where
   moves : next (begun_with 0 0) timeout ≡ alone [] [] [] no_cert [] 0
   moves = refl
 
-  abbrev certs : ℕ → Option (Cert Value)
+  abbrev certs : List (Option (Cert Value))
   certs = with_cert 1 (Base [] ∷ Order m ∷ []) (with_cert 1 (Base [] ∷ []) no_cert)
 
   executes_alone : next (alone [] [] [] no_cert [] 0) (request m) ≡ alone (by 0 1 order ∷ by 0 0 base ∷ []) (by 0 1 order ∷ by 0 0 base ∷ []) (m ∷ []) certs (Base [] ∷ Order m ∷ []) 2

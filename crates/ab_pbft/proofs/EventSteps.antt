@@ -20,7 +20,7 @@ use Rattle.ab_abs.proofs.Counting.{Contains-head, Contains-tail}
 use Rattle.ab_abs.proofs.Lists.{Contains-cons_cases, Contains-flat_map, flat_map_cases}
 use Rattle.ab_abs.proofs.Statements.{one_of, none_of}
 use Rattle.ab_lock.specs.Quorums.{quorum}
-use Rattle.ab_lock.specs.Steps.{Change, Cert, accepts, enters, State}
+use Rattle.ab_lock.specs.Steps.{Change, Cert, accepts, enters, State, cert_at}
 use Rattle.ab_lock.specs.Acts as lock
 use Rattle.ab_lock.specs.Acts.{Prepare, Commit, made, steps_of, AreLawful, Knows, KnowsChanges}
 use Rattle.ab_lock.specs.ViewChanges.{Kept, of_view, lowest, leave, own_change, enter, IsRising}
@@ -132,12 +132,12 @@ module _ (x : Setting) (k r : ℕ) (own : List Act) (Said : lock.Content (List �
   no_entry step other v vcs chosen c has in_vcs = absurd (other v vcs chosen (one_of step (enters v vcs chosen) has))
 
   -- certificates are of their slots, and of values that may be ordered
-  certs_shown : (trace : List OrderAct) (at : Memory) (now : List OrderStep) → IsMid x k r own Said trace at now → (t : ℕ) (c : Cert Value) → at.peer.core.certs t ≡ Some c → IsOfSlot t c.value × MayBeOrdered x own c.value
+  certs_shown : (trace : List OrderAct) (at : Memory) (now : List OrderStep) → IsMid x k r own Said trace at now → (t : ℕ) (c : Cert Value) → cert_at at.peer.core.certs t ≡ Some c → IsOfSlot t c.value × MayBeOrdered x own c.value
   certs_shown trace at now mid t c is =
       let follows = lawful_follows slot_digest x.cluster.f (IsSource x own) goes k trace mid.lawful r in
       good_certs k (λ n value. IsOfSlot n value × MayBeOrdered x own value) (steps_of trace r) follows
       (λ n value has. source_ordered x own n value (lawful_backs slot_digest x.cluster.f (IsSource x own) goes k trace mid.lawful r (accepts n value) has))
-      (λ v vcs chosen c' n cert has in_vcs there. mid.shown v vcs chosen c' has in_vcs n cert there) t c (ap (λ s. s.certs t) (sym mid.peer.core) ∙ is)
+      (λ v vcs chosen c' n cert has in_vcs there. mid.shown v vcs chosen c' has in_vcs n cert there) t c (ap (λ s. cert_at s.certs t) (sym mid.peer.core) ∙ is)
 
   module _ (lt : r < 3 * x.cluster.f + 1) (base : List Request) (based : IsInitHistory (observations own) x.i base × IsHistory base) (e : Input) (start : Work) where
     abbrev seat : Seat
@@ -234,7 +234,7 @@ module _ (x : Setting) (k r : ℕ) (own : List Act) (Said : lock.Content (List �
                 elim (put_in u (without r w.at.changes) y has) [
                   | inl e ↦ subst (λ (z : Kept Value). AreShown x own z.change) e (λ t cert at.
                       let zero_less : t ≡ 0 + t = omega arith in
-                      certs_shown there.trace w.at w.steps mid t cert (ap (core_of w).certs zero_less ∙ listed (core_of w).certs (suc k) 0 t cert at))
+                      certs_shown there.trace w.at w.steps mid t cert (ap (cert_at (core_of w).certs) zero_less ∙ listed (cert_at (core_of w).certs) (suc k) 0 t cert at))
                   | inr old ↦ mid.changes_shown y (without_in r w.at.changes y old)
                 ];
             requests = left.requests;
@@ -394,7 +394,7 @@ module _ (x : Setting) (k r : ℕ) (own : List Act) (Said : lock.Content (List �
         takes = λ w value there still room on why. takes_on w value there still room on (source_of w value there on why);
         speaks = λ w d there spoken. record { trace = there.trace; mid = there.mid; knows = there.knows };
         enters = entered_by;
-        leaves = leaves_on;
+        leaves = λ w v there above why. leaves_on w v there above;
         keeps_request = keeps_request;
         keeps_change = keeps_change;
         keeps_vote = keeps_vote;

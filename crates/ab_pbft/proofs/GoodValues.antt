@@ -8,7 +8,7 @@ use Rattle.ab_abs.specs.Values.{goes}
 use Rattle.ab_abs.proofs.Counting.{Contains-head, Contains-tail}
 use Rattle.ab_abs.proofs.Lists.{Contains-cons_cases}
 use Rattle.ab_abs.proofs.Statements.{none_of}
-use Rattle.ab_lock.specs.Steps.{Change, Cert, accepts, signs, prepares, changes, enters, executes, state_of, Can, Follows}
+use Rattle.ab_lock.specs.Steps.{Change, Cert, accepts, signs, prepares, changes, enters, executes, cert_at, state_of, Can, Follows}
 use Rattle.ab_lock.proofs.Lists.{nth_grown, nth_front}
 use Rattle.ab_lock.proofs.ViewChangeLemmas.{cert_prepared}
 use Rattle.ab_pbft.specs.Traces.{OrderStep}
@@ -65,7 +65,7 @@ module _ (k : ℕ) (Good : ℕ → Value → Type 0) where
       ]
 
   -- and of all that have certificates
-  pub good_certs : (steps : List OrderStep) → Follows slot_digest goes k steps → GoodAccepts steps → GoodEnters steps → (t : ℕ) (c : Cert Value) → (state_of steps).certs t ≡ Some c → Good t c.value
+  pub good_certs : (steps : List OrderStep) → Follows slot_digest goes k steps → GoodAccepts steps → GoodEnters steps → (t : ℕ) (c : Cert Value) → cert_at (state_of steps).certs t ≡ Some c → Good t c.value
   good_certs steps follows by choice t c is =
       let p = cert_prepared slot_digest goes k steps t c is in
       good_prepared steps follows by choice c.at p.values p.is_in t c.value p.there

@@ -17,7 +17,7 @@ use Rattle.ab_lock.proofs.Lists.{Contains-map_cases}
 use Rattle.ab_order.specs.Inputs.{Input}
 use Rattle.ab_pbft.specs.Traces.{OrderStep}
 use Rattle.ab_pbft.specs.Rules.{Seat, Memory, Work, idle, Doing, takes_step, oldest_first, core_of, with_peer, does, work}
-use Rattle.ab_pbft.proofs.RuleInduction.{IsSpoken, IsKept, work_kept}
+use Rattle.ab_pbft.proofs.RuleInduction.{IsSpoken, is_spoken, IsKept, work_kept}
 
 -- what is in a list is in it turned round
 turned_in : {A : Type 0} (xs : List A) (y : A) → Contains (oldest_first xs) y → Contains xs y
@@ -73,9 +73,9 @@ module _ (seat : Seat) (old : List Value) where
         let steps = settles_by slot_digest bytes_eq goes seat.f seat.me (suc (3 * suc seat.k)) w.at.peer in
         stepped_on w (peer_by slot_digest seat.me steps w.at.peer) steps was (steps_grow steps (core_of w));
     takes = λ w value was still room on why. stepped_on w (accepted_peer value w.at.peer) (accept (core_of w) value ∷ []) was (prefix_refl (core_of w).executed);
-    speaks = spoke;
+    speaks = λ w d was why. spoke w d was (is_spoken seat e start w d why);
     enters = λ w v vcs was may why. stepped_on w (entered_peer goes seat.k v vcs w.at.peer) (enter goes seat.k v vcs ∷ []) was (prefix_refl (core_of w).executed);
-    leaves = λ w v was above.
+    leaves = λ w v was above why.
         let left = stepped_on w (left_peer slot_digest seat.k v w.at.peer) (leave slot_digest seat.k (core_of w) v ∷ []) was (prefix_refl (core_of w).executed) in
         record { grown = left.grown; stepped = left.stepped };
     keeps_request = λ m is was. record { grown = was.grown; stepped = was.stepped };

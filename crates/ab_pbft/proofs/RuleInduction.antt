@@ -28,6 +28,10 @@ or_either : (a b : Bool) → a || b ≡ true → (a ≡ true) ⊎ (b ≡ true)
 or_either true b is = inl refl
 or_either false b is = inr is
 
+or_neither : (a b : Bool) → a || b ≡ false → (a ≡ false) × (b ≡ false)
+or_neither true b is = absurd (cc (is))
+or_neither false b is = (refl, is)
+
 pub not_true : (b : Bool) → not b ≡ true → b ≡ false
 not_true true is = absurd (cc (is))
 not_true false is = refl
@@ -35,10 +39,13 @@ not_true false is = refl
 le_of : (a b : ℕ) → nat_le a b ≡ true → a ≤ b
 le_of a b h = grind (arith, nat_tests)
 
+not_le_of : (a b : ℕ) → nat_le a b ≡ false → b < a
+not_le_of a b h = grind (arith, nat_tests)
+
 pub lt_of : (a b : ℕ) → nat_lt a b ≡ true → a < b
 lt_of a b h = grind (arith, nat_tests)
 
-eq_of : (a b : ℕ) → (a == b) ≡ true → a ≡ b
+pub eq_of : (a b : ℕ) → (a == b) ≡ true → a ≡ b
 eq_of a b is = (Decides-eqb a b).0 is
 
 pub empty_is : {A : Type 0} (xs : List A) → is_empty xs ≡ true → xs ≡ []
@@ -69,6 +76,26 @@ least_is_above (u ∷ kept) v y is =
     elim (cases_Bool (nat_lt v u.view)) [
       | inr low ↦ least_is_above kept v y (rw low at is)
       | inl high ↦ smaller_above v u.view y (least_above v kept) (lt_of v u.view high) (λ z e. least_is_above kept v z e) (rw high at is)
+    ]
+
+smaller_of : (u y : ℕ) (o : Option ℕ) → smaller u o ≡ Some y → (u ≡ y) ⊎ (o ≡ Some y)
+smaller_of u y None is = inl (same_Some u y is)
+smaller_of u y (Some z) is =
+    elim (cases_Bool (nat_lt u z)) [
+      | inl less ↦ inl (same_Some u y (rw less at is))
+      | inr not_less ↦ inr (rw not_less at is)
+    ]
+
+-- it is the view of one of them
+least_is_kept : (kept : List (Kept Value)) (v y : ℕ) → least_above v kept ≡ Some y → (u : Kept Value) × Contains kept u × (u.view ≡ y)
+least_is_kept [] v y is = absurd (none-some y is)
+least_is_kept (u ∷ kept) v y is =
+    elim (cases_Bool (nat_lt v u.view)) [
+      | inr low ↦ let w = least_is_kept kept v y (rw low at is) in (w.0, Contains-tail u w.0 kept w.1, w.2)
+      | inl high ↦ elim (smaller_of u.view y (least_above v kept) (rw high at is)) [
+        | inl here ↦ (u, Contains-head u kept, here)
+        | inr more ↦ let w = least_is_kept kept v y more in (w.0, Contains-tail u w.0 kept w.1, w.2)
+      ]
     ]
 
 -- what a primary does beside its steps
@@ -113,23 +140,37 @@ module _ (seat : Seat) (e : Input) (start : Work) where
     from_kept : vcs ≡ lowest seat.f w.at.changes v → quorum seat.f ≤ length (of_view w.at.changes v) → WhyEntered w v vcs
     from_new_view : (by : ℕ) (inputs : List ChangeInput) → e ≡ new_view by v inputs → may_enter seat.f v inputs ≡ true → vcs ≡ map change_of inputs → WhyEntered w v vcs
 
+  -- why the primary offers a value, which it then takes, or leads a view
+  pub data WhySaid (w : Work) : Doing → Type 0 where
+    offered : (value : Value) → length (core_of w).accepted ≤ seat.k → goes (core_of w).accepted value ≡ true → WhyTaken w value → WhySaid w (offers (core_of w).view (length (core_of w).accepted) value)
+    led : quorum seat.f ≤ length (of_view w.at.changes (core_of w).view) → WhySaid w (leads (core_of w).view)
+
+  pub is_spoken : (w : Work) (d : Doing) → WhySaid w d → IsSpoken d
+  is_spoken w d (offered value room on why) = tt
+  is_spoken w d (led many) = tt
+
+  -- why a view is left for another: a kept VIEW-CHANGE is for that one, or the timer ran out
+  pub data WhyLeft (w : Work) (v : ℕ) : Type 0 where
+    followed : (u : Kept Value) → Contains w.at.changes u → u.view ≡ v → WhyLeft w v
+    timed_out : v ≡ suc (core_of w).view → (core_of w).view < 4294967295 → WhyLeft w v
+
   -- what holds at the start of an event and is kept by each rule
   pub record IsKept (P : Work → Type 0) : Type 0 where
     pub settles : (w : Work) → P w → P (settle seat w)
     pub takes : (w : Work) (value : Value) → P w → (core_of w).changing ≡ false → length (core_of w).accepted ≤ seat.k → goes (core_of w).accepted value ≡ true → WhyTaken w value → P (take_value value w)
-    pub speaks : (w : Work) (d : Doing) → P w → IsSpoken d → P (does d w)
+    pub speaks : (w : Work) (d : Doing) → P w → WhySaid w d → P (does d w)
     pub enters : (w : Work) (v : ℕ) (vcs : List (Change Value)) → P w → MayEnter (core_of w) v → WhyEntered w v vcs → P (with_peer w (entered_peer goes seat.k v vcs w.at.peer) (enter goes seat.k v vcs ∷ []))
-    pub leaves : (w : Work) (v : ℕ) → P w → (core_of w).view < v → P (leave_to seat v w)
+    pub leaves : (w : Work) (v : ℕ) → P w → (core_of w).view < v → WhyLeft w v → P (leave_to seat v w)
     pub keeps_request : (m : Request) → e ≡ request m → P start → P (keep_request m start)
     pub keeps_change : (change : ChangeInput) → e ≡ view_change change → fits seat.f change ≡ true → P start → P (keep_change change start)
     pub keeps_vote : (by slot : ℕ) (x : List ℕ) → e ≡ prepare by (core_of start).view slot x → P start → P (with_peer start (with_vote (record { by = by; slot = slot; x = x }) start.at.peer) [])
     pub keeps_commit : (by slot : ℕ) (x : List ℕ) → e ≡ commit by (core_of start).view slot x → P start → P (with_peer start (with_commit (record { by = by; slot = slot; x = x }) start.at.peer) [])
 
   module _ (P : Work → Type 0) (kept : IsKept P) where
-    offer_kept : (w : Work) (value : Value) → P w → (core_of w).changing ≡ false → length (core_of w).accepted ≤ seat.k → goes (core_of w).accepted value ≡ true → ((d : Doing) → WhyTaken (does d w) value) → P (offer seat value w)
-    offer_kept w value was still room on why =
+    offer_kept : (w : Work) (value : Value) → P w → (core_of w).changing ≡ false → length (core_of w).accepted ≤ seat.k → goes (core_of w).accepted value ≡ true → WhyTaken w value → ((d : Doing) → WhyTaken (does d w) value) → P (offer seat value w)
+    offer_kept w value was still room on why then_why =
         let d = offers (core_of w).view (length (core_of w).accepted) value in
-        kept.takes (does d w) value (kept.speaks w d was tt) still room on (why d)
+        kept.takes (does d w) value (kept.speaks w d was (offered value room on why)) still room on (then_why d)
 
     offers_requests : (n : ℕ) (w : Work) → P w → (core_of w).changing ≡ false → P (offer_requests seat n w)
     offers_requests zero w was still = was
@@ -143,7 +184,7 @@ module _ (seat : Seat) (e : Input) (start : Work) where
         of_fit None is room rest = was
         of_fit (Some m) is room rest =
             let fits = first_fit_is (core_of w).accepted w.at.requests m is in
-            rest (offer seat (Order m) w) (offer_kept w (Order m) was still (le_of (length (core_of w).accepted) seat.k room) fits.1 (λ d. waiting m fits.0 refl)) still
+            rest (offer seat (Order m) w) (offer_kept w (Order m) was still (le_of (length (core_of w).accepted) seat.k room) fits.1 (waiting m fits.0 refl) (λ d. waiting m fits.0 refl)) still
 
     offers_base : (w : Work) → P w → (core_of w).changing ≡ false → P (offer_base seat w) × ((core_of (offer_base seat w)).changing ≡ false)
     offers_base w was still =
@@ -151,7 +192,7 @@ module _ (seat : Seat) (e : Input) (start : Work) where
           | inr full ↦ rw full (was, still)
           | inl opens ↦
               let none = empty_is (core_of w).accepted (and_both (is_empty (core_of w).accepted) (not (is_empty w.at.requests)) opens).0 in
-              rw opens (offer_kept w (base_value seat) was still (omega (arith, ap length none)) (ap (λ l. goes l (base_value seat)) none) (λ d. own_base none refl), still)
+              rw opens (offer_kept w (base_value seat) was still (omega (arith, ap length none)) (ap (λ l. goes l (base_value seat)) none) (own_base none refl) (λ d. own_base none refl), still)
         ]
 
     proposed : (w : Work) → P w → P (if may_propose seat w then offer_requests seat (suc seat.k) (offer_base seat w) else w)
@@ -174,12 +215,13 @@ module _ (seat : Seat) (e : Input) (start : Work) where
         let v = (core_of w).view in
         let rest = and_both (is_primary_of seat v seat.me) ((core_of w).changing && nat_le (quorum seat.f) (length (of_view w.at.changes v))) may in
         let both = and_both (core_of w).changing (nat_le (quorum seat.f) (length (of_view w.at.changes v))) rest.1 in
-        kept.enters (does (leads (core_of w).view) w) v (lowest seat.f w.at.changes v) (kept.speaks w (leads v) was tt) (inr (refl, both.0)) (from_kept refl (le_of (quorum seat.f) (length (of_view w.at.changes v)) both.1))
+        let many = le_of (quorum seat.f) (length (of_view w.at.changes v)) both.1 in
+        kept.enters (does (leads (core_of w).view) w) v (lowest seat.f w.at.changes v) (kept.speaks w (leads v) was (led many)) (inr (refl, both.0)) (from_kept refl many)
 
-    leads_on : (w : Work) → P w → P (lead seat w)
+    pub leads_on : (w : Work) → P w → P (lead seat w)
     leads_on w was = elim (cases_Bool (may_lead seat w)) [ inr waits ↦ rw waits was | inl may ↦ rw may (proposes _ (may_lead_kept w may was)) ]
 
-    follows_on : (w : Work) → P w → P (follow seat w)
+    pub follows_on : (w : Work) → P w → P (follow seat w)
     follows_on w was =
         elim (cases_Bool (nat_le (seat.f + 1) (count_by (λ (u : Kept Value). nat_lt (core_of w).view u.view) w.at.changes))) [
           | inr few ↦ rw few was
@@ -188,7 +230,7 @@ module _ (seat : Seat) (e : Input) (start : Work) where
       where
         of_least : (o : Option ℕ) → least_above (core_of w).view w.at.changes ≡ o → P (follow_to seat w o)
         of_least None is = was
-        of_least (Some v) is = kept.leaves w v was (least_is_above w.at.changes (core_of w).view v is)
+        of_least (Some v) is = let u = least_is_kept w.at.changes (core_of w).view v is in kept.leaves w v was (least_is_above w.at.changes (core_of w).view v is) (followed u.0 u.1 u.2)
 
     -- a PRE-PREPARE is taken where the replica isn't changing
     still_of : (by view : ℕ) → may_take seat start by view ≡ true → (core_of start).changing ≡ false
@@ -227,6 +269,10 @@ module _ (seat : Seat) (e : Input) (start : Work) where
         ] in
         kept.enters start view (map change_of inputs) was may (from_new_view by inputs is b.1 refl)
 
+    -- the timer ran out
+    ran_out : (is_done seat start || nat_le 4294967295 (core_of start).view) ≡ false → WhyLeft start (next_view seat start)
+    ran_out on = timed_out refl (not_le_of 4294967295 (core_of start).view (or_neither (is_done seat start) (nat_le 4294967295 (core_of start).view) on).1)
+
     of_input : (i : Input) → e ≡ i → P start → P (work seat i start)
     of_input (request m) is was = proposes (keep_request m start) (kept.keeps_request m is was)
     of_input (pre_prepare_base by view x h) is was =
@@ -262,7 +308,7 @@ module _ (seat : Seat) (e : Input) (start : Work) where
     of_input timeout is was =
         elim (cases_Bool (is_done seat start || nat_le 4294967295 (core_of start).view)) [
           | inl rests ↦ rw rests was
-          | inr on ↦ rw on (leads_on (leave_to seat (next_view seat start) start) (kept.leaves start (next_view seat start) was (omega arith)))
+          | inr on ↦ rw on (leads_on (leave_to seat (next_view seat start) start) (kept.leaves start (next_view seat start) was (omega arith) (ran_out on)))
         ]
     of_input other is was = was
 
@@ -327,7 +373,7 @@ module _ (seat : Seat) (e : Input) (start : Work) where
       ends_of timeout is was ends =
           elim (cases_Bool (is_done seat start || nat_le 4294967295 (core_of start).view)) [
             | inl rests ↦ rw rests ends
-            | inr on ↦ rw on (leads_end (leave_to seat (next_view seat start) start) (kept.leaves start (next_view seat start) was (omega arith)) (left (next_view seat start) start))
+            | inr on ↦ rw on (leads_end (leave_to seat (next_view seat start) start) (kept.leaves start (next_view seat start) was (omega arith) (ran_out on)) (left (next_view seat start) start))
           ]
       ends_of other is was ends = ends
 

@@ -12,6 +12,8 @@ ghost use Rattle.ab_replay.specs.Streams.{IsAllOf};
 use crate::report::report;
 use crate::refusal::{Cause, Refusal};
 use crate::stream::{ReadFault, read_all};
+use ab_agreement::Pbft;
+use ab_backup::Backup;
 use ab_cast::Setup;
 use ab_chain::Chain;
 use ab_choice::Choice;
@@ -25,8 +27,8 @@ use ab_world::{World, WorldFault, premise_is_exact, worlds_keep_promises};
 use ab_zlight::ZLight;
 use std::alloc::Global;
 
-/// The protocol of each kind of instance that is built.
-pub type AnyProtocol<S> = Choice<Quorum<S>, Choice<ZLight<S>, Chain<S>>>;
+/// The protocol of each kind of instance.
+pub type AnyProtocol<S> = Choice<Quorum<S>, Choice<ZLight<S>, Choice<Chain<S>, Backup<S, Pbft>>>>;
 
 /// A cluster under any plan that is built.
 pub type AnyWorld<S> = World<S, AnyProtocol<S>>;

@@ -9,12 +9,12 @@ use Rattle.ab_text.specs.declared.event.Event.{Event}
 use Rattle.ab_text.specs.declared.event.Event.TheVariants.{Invoke, Deliver, Timeout, Inject}
 
 unfoldable pub plan_is_built : Plan → Bool
-plan_is_built AZyzzyva = false
-plan_is_built Aliph = false
+plan_is_built AZyzzyva = true
+plan_is_built Aliph = true
 plan_is_built Quorum = true
 plan_is_built ZLight = true
 plan_is_built Chain = true
-plan_is_built Backup = false
+plan_is_built Backup = true
 
 unfoldable pub service_is_built : ServiceName → Bool
 service_is_built Echo = true

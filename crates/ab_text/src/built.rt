@@ -13,7 +13,7 @@ pub(crate) fn takes_plan(plan: Plan) -> bool
 {
     match plan {
         Plan::Quorum | Plan::ZLight | Plan::Chain => true,
-        Plan::AZyzzyva | Plan::Aliph | Plan::Backup => false,
+        Plan::AZyzzyva | Plan::Aliph | Plan::Backup => true,
     }
 }
 

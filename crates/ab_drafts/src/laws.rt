@@ -1,0 +1,21 @@
+//! What holds of all that a replica sends.
+
+ghost use Rattle.std.specs.Prelude.{ℕ};
+ghost use Rattle.ab_num.specs.declared.cluster.Cluster.{Cluster};
+ghost use Rattle.ab_order.specs.Bytes.{ArisesAs, KeepsBytes};
+ghost use Rattle.ab_pbft.specs.Rules.{pbft};
+ghost use Rattle.ab_shelf.specs.Signing.{Signing, signing};
+ghost use Rattle.ab_drafts.specs.Bounds.{IsInForm};
+
+/// The list that a replica executes has bytes, and what it sends is of the grammar but for the tags
+/// that sealing makes, if all that it was handed is of the grammar.
+pub fn replicas_keep_bytes()
+    ensures { KeepsBytes signing pbft }
+{}
+
+/// So what it keeps stays within the bounds of the grammar: views, slots, values, certificates and
+/// view changes. The signatures that it keeps are those of the votes and certificates that the
+/// rules keep.
+pub fn replicas_stay_in_form()
+    ensures { (c : Cluster) (i r : ℕ) (q : Signing) → ArisesAs signing c i r q → IsInForm c i r q }
+{}

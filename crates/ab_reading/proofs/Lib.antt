@@ -1,0 +1,5 @@
+-- Lemmas of this crate.
+pub mod Gathering
+pub mod Renaming
+pub mod SlotLemmas
+pub mod BaseLemmas

@@ -1,0 +1,4 @@
+-- What a replica of PBFT keeps beside what its rules speak of, and what it sends.
+pub mod Posts
+pub mod Shelves
+pub mod Signing

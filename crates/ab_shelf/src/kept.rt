@@ -1,0 +1,117 @@
+//! What is kept of others' signatures and tags.
+
+ghost use Rattle.std.specs.Prelude.{◌≡◌, ◌≤◌, IfOk, length};
+
+use ab_msg::{Copied, Sig, SlotPrepares, Tag, Tags, Value};
+use ab_num::OutOfMemory;
+use arrayvec::ArrayVec;
+use std::alloc::Global;
+
+/// The signed PREPARE of a replica for a slot of the present view, with the digest of the slot's value.
+#[derive(Drop)]
+pub struct Ballot {
+    pub by: u8,
+    pub slot: u8,
+    pub x: [u8; 32],
+    pub sig: Sig,
+}
+
+/// A value that is prepared in a view, with 2f + 1 PREPAREs of that, by ascending replica.
+#[derive(Drop)]
+pub struct Sealed {
+    pub at: u32,
+    pub value: Value,
+    pub prepares: SlotPrepares,
+}
+
+/// The tags of a client's last request.
+#[derive(Drop)]
+pub struct Tagged {
+    pub client: u16,
+    pub tags: Tags,
+}
+
+impl Copied for Ballot {
+    fn copy(&self, alloc: Global) -> Result<Ballot, OutOfMemory> {
+        let sig = self.sig.copy(alloc)?;
+        Ok(Ballot {
+            by: self.by,
+            slot: self.slot,
+            x: self.x,
+            sig,
+        })
+    }
+}
+
+impl Copied for Sealed {
+    fn copy(&self, alloc: Global) -> Result<Sealed, OutOfMemory> {
+        let value = self.value.copy(alloc)?;
+        let prepares = self.prepares.copy(alloc)?;
+        Ok(Sealed {
+            at: self.at,
+            value,
+            prepares,
+        })
+    }
+}
+
+/// The same tags.
+fn copy_tags(tags: &[(u8, Tag)]) -> Tags
+    requires { length tags.now ≤ 7 }
+    ensures { result.items ≡ tags.now }
+{
+    let mut made = ArrayVec::new();
+    match made.try_extend_from_slice(tags) {
+        Ok(()) => made,
+        Err(_) => unreachable!(),
+    }
+}
+
+impl Copied for Tagged {
+    fn copy(&self, _alloc: Global) -> Result<Tagged, OutOfMemory> {
+        Ok(Tagged {
+            client: self.client,
+            tags: copy_tags(self.tags.as_slice()),
+        })
+    }
+}
+
+/// A copy of each, in their order.
+pub(crate) fn copy_all<T: Copied>(alloc: Global, all: &[T]) -> Result<Vec<T>, OutOfMemory>
+    ensures { IfOk result (λ v. v.items ≡ all.now) }
+{
+    let mut copies = Vec::with_capacity(alloc, all.len())?;
+    'all: for x in all {
+        let copy = x.copy(alloc)?;
+        copies.push(copy)?;
+    }
+    Ok(copies)
+}
+
+/// The same certificate, if there is one.
+fn copy_sealed(alloc: Global, sealed: &Option<Sealed>) -> Result<Option<Sealed>, OutOfMemory>
+    ensures { IfOk result (λ c. c ≡ sealed.now) }
+{
+    match sealed {
+        Some(sealed) => {
+            let sealed = sealed.copy(alloc)?;
+            Ok(Some(sealed))
+        }
+        None => Ok(None),
+    }
+}
+
+/// A copy of each slot's certificate.
+pub(crate) fn copy_slots(
+    alloc: Global,
+    slots: &[Option<Sealed>],
+) -> Result<Vec<Option<Sealed>>, OutOfMemory>
+    ensures { IfOk result (λ v. v.items ≡ slots.now) }
+{
+    let mut copies = Vec::with_capacity(alloc, slots.len())?;
+    'slots: for sealed in slots {
+        let copy = copy_sealed(alloc, sealed)?;
+        copies.push(copy)?;
+    }
+    Ok(copies)
+}

@@ -1,0 +1,4 @@
+-- Lemmas of this crate.
+pub mod VoteLemmas
+pub mod SlotLemmas
+pub mod KeptLemmas

@@ -1,0 +1,5 @@
+-- The definitions that the contracts of this crate cite.
+pub mod Deeds
+pub mod Based
+pub mod Offers
+pub mod Turns

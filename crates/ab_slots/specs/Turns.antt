@@ -1,0 +1,113 @@
+-- A replica as code, as the rules see it.
+use Rattle.std.specs.Prelude.{◌≡◌, ℕ, zero, suc, Bool, true, false, Option, Some, None, List, [], ◌∷◌, if◌then◌else◌}
+use Rattle.std.specs.Str.{bytes_eq}
+use Rattle.ab_hist.specs.declared.request.Request.{Request as Asked}
+use Rattle.ab_msg.specs.declared.value.Value.{Value}
+use Rattle.ab_msg.specs.declared.value.Value.TheVariants.{Request as Order}
+use Rattle.ab_msg.specs.Slots.{slot_digest}
+use Rattle.ab_abs.specs.Values.{goes}
+use Rattle.ab_lock.specs.Steps.{Change}
+use Rattle.ab_lock.specs.Votes.{Vote, next}
+use Rattle.ab_lock.specs.ViewChanges.{enter, leave}
+use Rattle.ab_lock.specs.Events.{peer_by, with_vote, with_commit, entered_peer, left_peer}
+use Rattle.ab_order.specs.Inputs as told
+use Rattle.ab_pbft.specs.Traces.{OrderStep}
+use Rattle.ab_pbft.specs.Rules as rules
+use Rattle.ab_pbft.specs.Rules.{Work, core_of, with_peer}
+use Rattle.ab_slots.specs.declared.input.Input.{Input}
+use Rattle.ab_slots.specs.declared.input.Input.TheVariants.{Request, PrePrepareBase, PrePrepare, Prepare, Commit, ViewChange, NewView, Timeout, Other}
+use Rattle.ab_slots.specs.declared.seat.Seat.{Seat}
+use Rattle.ab_slots.specs.declared.memory.Memory.{Memory}
+use Rattle.ab_slots.specs.declared.turn.Turn.{Turn}
+use Rattle.ab_slots.specs.Deeds.{told_in}
+
+abbrev pub seat_of : Seat → rules.Seat
+seat_of s = record { k = s.k; f = s.f; i = s.instance; me = s.me; base = s.base }
+
+abbrev pub memory_of : Memory → rules.Memory
+memory_of m = record {
+  peer = record {
+    core = record {
+      view = m.view;
+      changing = m.changing;
+      accepted = m.accepted;
+      signed = m.signed;
+      prepared = m.prepared;
+      certs = m.certs.items;
+      executed = m.executed;
+    };
+    votes = m.votes.items;
+    commits = m.commits.items;
+  };
+  changes = m.changes.items;
+  requests = m.requests.items;
+}
+
+abbrev pub input_of : Input → told.Input
+input_of (Request m) = told.request m
+input_of (PrePrepareBase by view x base) = told.pre_prepare_base by view x base
+input_of (PrePrepare by view slot x m) = told.pre_prepare by view slot x m
+input_of (Prepare by view slot x) = told.prepare by view slot x
+input_of (Commit by view slot x) = told.commit by view slot x
+input_of (ViewChange change) = told.view_change change
+input_of (NewView by view changes) = told.new_view by view changes.items
+input_of Timeout = told.timeout
+input_of Other = told.other
+
+-- the turn is at this point of an event
+pub record Shows (t : Turn) (w : Work) : Type 0 where
+  pub at : memory_of t.memory ≡ w.at
+  pub told : t.deeds.items ≡ told_in w.doings
+
+-- from a turn to another, the replica does so
+abbrev pub Does : Turn → Turn → (Work → Work) → Type 0
+Does old new rule = (w : Work) → Shows old w → Shows new (rule w)
+
+-- ---- going on by one step
+
+abbrev pub takes : ℕ → OrderStep → Work → Work
+takes me step w = with_peer w (peer_by slot_digest me (step ∷ []) w.at.peer) (step ∷ [])
+
+abbrev pub next_in : rules.Seat → Work → Option OrderStep
+next_in seat w = next slot_digest bytes_eq goes seat.f (core_of w) w.at.peer.votes w.at.peer.commits
+
+abbrev pub by_steps : (rest : Work → Work) → ℕ → Work → Option OrderStep → Work
+by_steps rest me w None = w
+by_steps rest me w (Some step) = rest (takes me step w)
+
+-- at most n steps, each the first that applies
+abbrev pub goes_by : rules.Seat → ℕ → Work → Work
+goes_by seat zero w = w
+goes_by seat (suc n) w = by_steps (goes_by seat n) seat.me w (next_in seat w)
+
+-- whether it took the step, if there was one
+abbrev pub Went : rules.Seat → Bool → Turn → Work → Option OrderStep → Type 0
+Went seat went t w None = (went ≡ false) × Shows t w
+Went seat went t w (Some step) = (went ≡ true) × Shows t (takes seat.me step w)
+
+-- ---- parts of rules
+
+-- a PREPARE, and a COMMIT, is kept
+abbrev pub votes_for : Vote (List ℕ) → Work → Work
+votes_for u w = with_peer w (with_vote u w.at.peer) []
+
+abbrev pub commits_for : Vote (List ℕ) → Work → Work
+commits_for u w = with_peer w (with_commit u w.at.peer) []
+
+-- a view is entered, and one is left
+abbrev pub enters_from : rules.Seat → ℕ → List (Change Value) → Work → Work
+enters_from seat v vcs w = with_peer w (entered_peer goes seat.k v vcs w.at.peer) (enter goes seat.k v vcs ∷ [])
+
+abbrev pub leaves : rules.Seat → ℕ → Work → Work
+leaves seat v w = with_peer w (left_peer slot_digest seat.k v w.at.peer) (leave slot_digest seat.k (core_of w) v ∷ [])
+
+-- whether the primary offered a request, if one fits
+abbrev pub OfferedFit : rules.Seat → Bool → Turn → Work → Option Asked → Type 0
+OfferedFit seat went t w None = (went ≡ false) × Shows t w
+OfferedFit seat went t w (Some m) = (went ≡ true) × Shows t (rules.offer seat (Order m) w)
+
+abbrev pub next_fit : rules.Seat → Work → Option Asked
+next_fit seat w = if rules.has_room seat w then rules.first_fit (core_of w).accepted w.at.requests else None
+
+abbrev pub Offered : rules.Seat → Bool → Turn → Work → Type 0
+Offered seat went t w = OfferedFit seat went t w (next_fit seat w)

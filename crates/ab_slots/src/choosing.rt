@@ -1,0 +1,81 @@
+//! The values that VIEW-CHANGEs choose.
+
+ghost use Rattle.std.specs.Prelude.{◌≡◌, IfOk, ◌<◌};
+ghost use Rattle.std.specs.Option.{option_map};
+ghost use Rattle.ab_abs.specs.Values.{goes};
+ghost use Rattle.ab_lock.specs.Choosing.{beats as beats_in, best_in, better as better_of, chosen_of};
+ghost use Rattle.ab_slots.specs.Offers.{offer_of};
+
+use crate::change::{Cert, Change};
+use crate::slots::Slots;
+use ab_msg::Copied;
+use ab_num::OutOfMemory;
+use std::alloc::Global;
+
+/// A certificate of a replica.
+#[derive(Clone, Copy)]
+pub(crate) struct Offer<'a> {
+    by: u8,
+    cert: &'a Cert,
+}
+
+/// Whether the first is of a higher view, or of the same and of a replica no higher.
+fn beats(a: &Offer<'_>, b: &Offer<'_>) -> bool
+    ensures { result ≡ beats_in (offer_of a.now) (offer_of b.now) }
+{
+    b.cert.at() < a.cert.at() || (b.cert.at() == a.cert.at() && a.by <= b.by)
+}
+
+/// The better one of a certificate, if there is one, and an offer, if there is one.
+fn better<'a>(by: u8, cert: Option<&'a Cert>, rest: Option<Offer<'a>>) -> Option<Offer<'a>>
+    ensures { option_map offer_of result ≡ better_of by (option_map (λ c. c.now) cert.entry) (option_map offer_of rest.entry) }
+{
+    let Some(cert) = cert else {
+        return rest;
+    };
+    let offer = Offer { by, cert };
+    match rest {
+        Some(other) => {
+            if beats(&offer, &other) {
+                Some(offer)
+            } else {
+                Some(other)
+            }
+        }
+        None => Some(offer),
+    }
+}
+
+/// The certificate of the highest view for slot `t`, the lowest replica's at a tie.
+fn best(changes: &[Change], t: usize) -> Option<Offer<'_>>
+    ensures { option_map offer_of result ≡ best_in changes.now t }
+{
+    let mut best = None;
+    'changes: for i in (0..changes.len()).rev() {
+        let change = &changes[i];
+        best = better(change.by(), change.certs().get(t), best);
+    }
+    best
+}
+
+/// The values of slots 0 to `k` that VIEW-CHANGEs choose, up to the first slot without a certificate or whose value may
+/// not follow.
+pub(crate) fn chosen(alloc: Global, k: u8, changes: &[Change]) -> Result<Slots, OutOfMemory>
+    ensures { IfOk result (λ s. s ≡ chosen_of goes k changes.now) }
+{
+    let mut chosen = Slots::new(alloc);
+    'slots: for _n in 0..u16::from(k) + 1 {
+        match best(changes, chosen.len()) {
+            Some(offer) => {
+                let value = offer.cert.value();
+                if !chosen.can_push(value) {
+                    return Ok(chosen);
+                }
+                let copy = value.copy(alloc)?;
+                chosen.push(alloc, copy)?;
+            }
+            None => return Ok(chosen),
+        }
+    }
+    Ok(chosen)
+}

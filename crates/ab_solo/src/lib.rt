@@ -1,0 +1,9 @@
+//! An orderer to try a Backup with: one replica orders.
+#![tactic(auto)]
+
+mod solo;
+
+pub use solo::Solo;
+
+#[cfg(test)]
+mod tests;
