@@ -63,9 +63,12 @@ pub(crate) fn put(f: u8, shelf: &mut Shelf, m: Msg, input: &Input) -> Result<(),
     ensures { OnOk result (shelf.new ≡ puts f (took m) (input_of input.now) shelf.old) }
 {
     match m {
-        Msg::Req { tags, .. } => put_tags(shelf, tags, input),
+        Msg::Req {
+            content: _content,
+            tags,
+        } => put_tags(shelf, tags, input),
         Msg::Prepare { prepare } => put_ballot(shelf, prepare, input),
         Msg::ViewChange { change } => put_proof(f, shelf, change, input),
-        _ => Ok(()),
+        _other => Ok(()),
     }
 }

@@ -1,13 +1,18 @@
 //! The cores of all parties.
 
-ghost use Rattle.std.specs.Prelude.{option_and_then, ◌≡◌, ◌+◌, ◌*◌, ◌<◌, ◌≤◌, ℕ, IsTrue, IfOk, IfErr, OnOk, OnErr, Option, Some, None, length, slice_get};
+ghost use Rattle.std.specs.Prelude.{option_and_then, ◌≡◌, ◌+◌, ◌*◌, ◌<◌, ◌≤◌, ℕ, IsTrue, IsOkAnd, IfOk, IfErr, OnOk, OnErr, Option, Some, None, [], ◌∷◌, length, slice_get};
 ghost use Rattle.std.specs.Option.{option_map};
 ghost use Rattle.ab_num.specs.declared.party.Party.{Party as TheParty};
+ghost use Rattle.ab_hist.specs.declared.request.Request.{Request as TheRequest};
+ghost use Rattle.ab_abs.specs.declared.ballot.Ballot.{Ballot as TheBallot};
+ghost use Rattle.ab_abs.specs.declared.seen.Seen.TheVariants.{Committed};
 ghost use Rattle.ab_abs.specs.Promises.{ServesAll};
+ghost use Rattle.ab_client.specs.Clients.{Seat};
+ghost use Rattle.ab_client.specs.Moved.{IsLastVote};
 ghost use Rattle.ab_wire.specs.Views.{IsReceived, message as message_of};
 ghost use Rattle.ab_cast.specs.Setups.{place_of, party_at};
-ghost use Rattle.ab_cast.specs.Cores.{Core, command, message, time};
-ghost use Rattle.ab_cast.specs.Hearing.{IsGiven, taken_of};
+ghost use Rattle.ab_cast.specs.Cores.{Core, client, command, message, time};
+ghost use Rattle.ab_cast.specs.Hearing.{IsGiven, IsLastGiven, taken_of};
 ghost use Rattle.ab_cast.specs.Casts.{AreSeats, IsTaken, core_at, next, first_cast, is_free, command_refusal, CommandCause};
 
 use crate::cores::{
@@ -174,6 +179,10 @@ impl<S: Service, P: Protocol<S>> Cast<S, P> {
         requires there { (twin : Option ℕ) × (place_of self.old.setup (party_at place) twin ≡ Some place) }
         ensures taken { (s : Core P) → core_at self.old place ≡ Some s
             → IfOk result (λ e. IsTaken P.proto self.old place s (message (message_of m.entry)) self.new e.outs e.marks.items e.spent) }
+
+        // The last of equal votes of all replicas commits at once: the call can't be refused.
+        ensures at_once { (s : Seat) (r : TheRequest) (b : TheBallot) → core_at self.old place ≡ Some (client s) → IsLastVote s (message_of m.entry) r b
+            → IsOkAnd result (λ e. e.marks.items ≡ Committed s.cli.at s.me r b.n b.d b.reply ∷ []) }
         ensures err { OnErr result (self.new ≡ self.old) }
     {
         self.give(alloc, place, Given::Message(m))
@@ -202,6 +211,8 @@ impl<S: Service, P: Protocol<S>> Cast<S, P> {
         requires there { (twin : Option ℕ) × (place_of self.old.setup (party_at place) twin ≡ Some place) }
         ensures taken { (s : Core P) → core_at self.old place ≡ Some s
             → IfOk result (λ e. IsTaken P.proto self.old place s (taken_of given.entry) self.new e.outs e.marks.items e.spent) }
+        ensures at_once { (s : Seat) (r : TheRequest) (b : TheBallot) → core_at self.old place ≡ Some (client s) → IsLastGiven s given.entry r b
+            → IsOkAnd result (λ e. e.marks.items ≡ Committed s.cli.at s.me r b.n b.d b.reply ∷ []) }
         ensures err { OnErr result (self.new ≡ self.old) }
     {
         match place {

@@ -1,4 +1,4 @@
--- Lists that are kept in order, and those that are cut after so many.
+-- Lists that are kept in order, and what is found in them.
 use Rattle.std.proofs.Common.{◌≡◌, ◌≢◌, ℕ, zero, suc, ◌+◌, ◌<◌, ◌≤◌, ◌==◌, Bool, true, false, List, [], ◌∷◌, ◌++◌, Option, Some, None, refl, sym, ap, ◌∙◌, subst, inl, inr, arith, length, take, drop, get_or, set, map, replicate}
 use Rattle.std.specs.Prelude.{nat_lt, nat_le, if◌then◌else◌, unwrap_or, option_map}
 use Rattle.std.specs.List.{filter, find}
@@ -11,29 +11,6 @@ use Rattle.ab_shelf.specs.declared.kept.Tagged.{Tagged}
 use Rattle.ab_shelf.specs.declared.kept.Ballot.{Ballot}
 use Rattle.ab_shelf.specs.Posts.{no_tag}
 use Rattle.ab_shelf.specs.Shelves.{is_for, signer_in, maker_of, view_of, later, put_proof, put_tags, tags_of}
-
--- ---- the first so many
-
-take_nil : {A : Type 0} (q : ℕ) → take q (let none : List A = [] in none) ≡ []
-take_nil zero = refl
-take_nil (suc q) = refl
-
-length_taken : {A : Type 0} (q : ℕ) (xs : List A) → length (take q xs) < q → length xs < q
-length_taken zero xs lt = absurd (omega (arith, lt))
-length_taken (suc q) [] lt = lt
-length_taken (suc q) (x ∷ xs) lt = let e = length_taken q xs (let e : length (take q xs) < q = omega (arith, lt) in e) in omega (arith, e)
-
--- one more where there is room
-pub take_room : {A : Type 0} (q : ℕ) (xs : List A) (y : A) → length (take q xs) < q → take q (xs ++ y ∷ []) ≡ take q xs ++ y ∷ []
-take_room zero xs y lt = absurd (omega (arith, lt))
-take_room (suc q) [] y lt = ap (λ l. y ∷ l) (take_nil q)
-take_room (suc q) (x ∷ xs) y lt = ap (λ l. x ∷ l) (take_room q xs y (let e : length (take q xs) < q = omega (arith, lt) in e))
-
--- no more where there is none
-pub take_full : {A : Type 0} (q : ℕ) (xs ys : List A) → q ≤ length (take q xs) → take q (xs ++ ys) ≡ take q xs
-take_full zero xs ys le = refl
-take_full (suc q) [] ys le = absurd (omega (arith, le))
-take_full (suc q) (x ∷ xs) ys le = ap (λ l. x ∷ l) (take_full q xs ys (let e : q ≤ length (take q xs) = omega (arith, le) in e))
 
 -- ---- VIEW-CHANGEs
 
@@ -98,12 +75,6 @@ module _ (t : Tagged) (xs ys : List Tagged) (i : ℕ) (same : ys ≡ xs) (below 
 pub tag_in-find : (r : ℕ) (tags : List (ℕ × List ℕ)) → tag_in r tags ≡ option_map (λ t. t.1) (find (λ t. t.0 == r) tags)
 tag_in-find r [] = refl
 tag_in-find r (t ∷ tags) = elim (cases_Bool (t.0 == r)) [ inl here ↦ rw here refl | inr other ↦ rw other (tag_in-find r tags) ]
-
--- ---- certificates
-
-pub replicate_more : {A : Type 0} (n : ℕ) (x : A) → replicate n x ++ x ∷ [] ≡ replicate (suc n) x
-replicate_more zero x = refl
-replicate_more (suc n) x = ap (λ l. x ∷ l) (replicate_more n x)
 
 -- a kept VIEW-CHANGE that is as late stays
 pub later_is : (p q : Proof) (xs : List Proof) (i : ℕ) → i < length xs → q ≡ get_or xs i q → view_of p ≤ view_of q → xs ≡ set xs i (later p (get_or xs i p))

@@ -2,17 +2,19 @@
 
 ghost use Rattle.std.specs.Prelude.{◌≡◌, ◌+◌, ◌*◌, ◌<◌, ◌↔◌, ◌++◌, IfOk, OnOk, IsErrOf, length};
 ghost use Rattle.ab_num.specs.declared.party.Party.TheVariants.{Replica};
-ghost use Rattle.ab_msg.specs.Pens.{Pen, moved};
-ghost use Rattle.ab_shelf.specs.Shelves.{with_ballot, left_for};
-ghost use Rattle.ab_shelf.specs.Posts.{Post, posts, posts_all, posts_prepare, posts_commit, posts_change, own_change_of, signed_by, signings, to_others, commit_message, lead_message};
+ghost use Rattle.ab_msg.specs.Pens.{moved};
+ghost use Rattle.ab_shelf.specs.Shelves.{with_ballot, with_sealed, left_for};
+ghost use Rattle.ab_shelf.specs.Posts.{Post, posts, posts_all, posts_prepare, posts_change, own_change_of, signed_by, signings, to_others, commit_message, lead_message};
 
 use crate::changes::{own_proof, proofs_for};
 use crate::kept::Ballot;
-use crate::sending::{tell, tell_offer};
+use crate::sending::{tell_all, tell_offer};
 use crate::shelf::Shelf;
 use crate::signer::Signer;
 use ab_abs::StepFault;
-use ab_msg::{Content, Copied, Msg, NO_TAG, Notary, Out, Proof, Sig, SignFault, Signed, Value, ViewEntries};
+use ab_msg::{
+    Content, Copied, Msg, NO_TAG, Notary, Out, Proof, Sig, SignFault, Signed, Value, ViewEntries,
+};
 use ab_num::{OutOfMemory, Party};
 use ab_slots::{Deed, slot_digest};
 use std::alloc::Global;
@@ -133,6 +135,25 @@ impl Shelf {
         })
     }
 
+    /// Signs a PREPARE and keeps it.
+    fn own_prepare<N: Notary>(
+        &mut self,
+        alloc: Global,
+        by: &Signer,
+        view: u32,
+        slot: u8,
+        x: &[u8; 32],
+        n: &mut N,
+    ) -> Result<Signed, StepFault>
+        ensures ok { IfOk result (λ w. (w ≡ record { maker = by.now.me; content = Content.Prepare (Replica by.now.me) by.now.instance view slot x.now; sig = (N.pen n.old).sig (Content.Prepare (Replica by.now.me) by.now.instance view slot x.now) (N.pen n.old).used }) × (self.new ≡ with_ballot (record { by = w.maker; slot = slot; x = x.now; sig = w.sig }) self.old)) }
+        ensures left { IfOk result (λ _. (N.pen n.new ≡ moved (N.pen n.old) 1) × (N.remains n.new + 1 ≡ N.remains n.old)) }
+        ensures spent { IsErrOf result StepFault.Spent → N.remains n.old ≡ 0 }
+    {
+        let prepare = signed(alloc, by.me, prepare_of(by, view, slot, x), n)?;
+        self.keep_own(alloc, slot, x, &prepare)?;
+        Ok(prepare)
+    }
+
     /// Signs a PREPARE, keeps it and tells it.
     fn post_prepare<N: Notary>(
         &mut self,
@@ -148,9 +169,8 @@ impl Shelf {
         ensures left { OnOk result (N.remains n.new + 1 ≡ N.remains n.old) }
         ensures spent { IsErrOf result StepFault.Spent → N.remains n.old ≡ 0 }
     {
-        let prepare = signed(alloc, by.me, prepare_of(by, view, slot, x), n)?;
-        self.keep_own(alloc, slot, x, &prepare)?;
-        tell(alloc, by, &Msg::Prepare { prepare }, outs)?;
+        let prepare = self.own_prepare(alloc, by, view, slot, x, n)?;
+        tell_all(alloc, by, Msg::Prepare { prepare }, outs)?;
         Ok(())
     }
 
@@ -164,10 +184,11 @@ impl Shelf {
         value: &Value,
         outs: &mut Vec<Out>,
     ) -> Result<(), OutOfMemory>
-        ensures { (pen : Pen) → OnOk result (posts_commit by.now view slot value.now (record { pen = pen; shelf = self.old; sent = outs.old.items }) ≡ record { pen = pen; shelf = self.new; sent = outs.new.items }) }
+        ensures shelf { OnOk result (self.new ≡ with_sealed by.now.cluster.f view slot value.now self.old) }
+        ensures sent { OnOk result (outs.new.items ≡ outs.old.items ++ to_others (3 * by.now.cluster.f + 1) by.now.me (λ r. commit_message by.now view slot value.now)) }
     {
         self.seal(alloc, &by.cluster, view, slot, value)?;
-        tell(alloc, by, &commit_of(by, view, slot, value), outs)
+        tell_all(alloc, by, commit_of(by, view, slot, value), outs)
     }
 
     /// Its VIEW-CHANGE for a view, with the next signature, and what its slots have.
@@ -201,6 +222,24 @@ impl Shelf {
         self.leave(me, view, kept)
     }
 
+    /// Signs its VIEW-CHANGE, and keeps it as it leaves for the view.
+    fn left_change<N: Notary>(
+        &mut self,
+        alloc: Global,
+        by: &Signer,
+        view: u32,
+        entries: &ViewEntries,
+        n: &mut N,
+    ) -> Result<Proof, StepFault>
+        ensures ok { IfOk result (λ w. (w ≡ own_change_of by.now self.old (N.pen n.old) view entries.now) × (self.new ≡ left_for by.now.me view w self.old)) }
+        ensures left { IfOk result (λ _. (N.pen n.new ≡ moved (N.pen n.old) 1) × (N.remains n.new + 1 ≡ N.remains n.old)) }
+        ensures spent { IsErrOf result StepFault.Spent → N.remains n.old ≡ 0 }
+    {
+        let change = self.own_change(alloc, by, view, entries, n)?;
+        self.leave_with(alloc, by.me, view, &change)?;
+        Ok(change)
+    }
+
     /// Signs its VIEW-CHANGE, keeps it and tells it.
     fn post_change<N: Notary>(
         &mut self,
@@ -215,9 +254,8 @@ impl Shelf {
         ensures left { OnOk result (N.remains n.new + 1 ≡ N.remains n.old) }
         ensures spent { IsErrOf result StepFault.Spent → N.remains n.old ≡ 0 }
     {
-        let change = self.own_change(alloc, by, view, entries, n)?;
-        self.leave_with(alloc, by.me, view, &change)?;
-        tell(alloc, by, &Msg::ViewChange { change }, outs)?;
+        let change = self.left_change(alloc, by, view, entries, n)?;
+        tell_all(alloc, by, Msg::ViewChange { change }, outs)?;
         Ok(())
     }
 
@@ -232,7 +270,7 @@ impl Shelf {
         ensures { OnOk result (outs.new.items ≡ outs.old.items ++ to_others (3 * by.now.cluster.f + 1) by.now.me (λ r. lead_message by.now self.now view)) }
     {
         let msg = lead_of(alloc, by, self, view)?;
-        tell(alloc, by, &msg, outs)
+        tell_all(alloc, by, msg, outs)
     }
 
     /// Signs and adds what is sent for a deed, and keeps what is to be kept of it. Spent comes exactly of a deed

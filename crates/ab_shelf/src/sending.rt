@@ -16,12 +16,7 @@ use ab_slots::slot_digest;
 use std::alloc::Global;
 
 /// Adds the same message to each other replica.
-pub(crate) fn tell(
-    alloc: Global,
-    by: &Signer,
-    msg: &Msg,
-    outs: &mut Vec<Out>,
-) -> Result<(), OutOfMemory>
+fn tell(alloc: Global, by: &Signer, msg: &Msg, outs: &mut Vec<Out>) -> Result<(), OutOfMemory>
     ensures { OnOk result (outs.new.items ≡ outs.old.items ++ to_others (3 * by.now.cluster.f + 1) by.now.me (λ r. msg.now)) }
 {
     for r in 0..by.cluster.replicas() {
@@ -34,6 +29,18 @@ pub(crate) fn tell(
         }
     }
     Ok(())
+}
+
+/// The same of a message of its own.
+pub(crate) fn tell_all(
+    alloc: Global,
+    by: &Signer,
+    msg: Msg,
+    outs: &mut Vec<Out>,
+) -> Result<(), OutOfMemory>
+    ensures { OnOk result (outs.new.items ≡ outs.old.items ++ to_others (3 * by.now.cluster.f + 1) by.now.me (λ r. msg)) }
+{
+    tell(alloc, by, &msg, outs)
 }
 
 /// The first tag for a replica.

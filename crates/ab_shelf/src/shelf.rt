@@ -91,11 +91,7 @@ fn put_tags(tagged: &mut Vec<Tagged>, t: Tagged) -> Result<(), OutOfMemory>
 
 impl Shelf {
     /// Nothing kept, in an instance that orders `limit` requests and was entered with this certificate.
-    pub fn new(
-        alloc: Global,
-        limit: u8,
-        entry: &Option<AbortCert>,
-    ) -> Result<Shelf, OutOfMemory>
+    pub fn new(alloc: Global, limit: u8, entry: &Option<AbortCert>) -> Result<Shelf, OutOfMemory>
         ensures { IfOk result (λ s. s ≡ empty_shelf limit (unwrap_or entry.now [])) }
     {
         let entry = entry_cert(alloc, entry)?;

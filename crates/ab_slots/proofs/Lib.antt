@@ -2,3 +2,11 @@
 pub mod VoteLemmas
 pub mod SlotLemmas
 pub mod KeptLemmas
+pub mod WaitingLemmas
+pub mod CertLemmas
+pub mod ChosenLemmas
+pub mod ApartLemmas
+pub mod TurnLemmas
+pub mod SettleLemmas
+pub mod StepLemmas
+pub mod RuleLemmas

@@ -2,4 +2,5 @@
 pub mod Deeds
 pub mod Based
 pub mod Offers
+pub mod Places
 pub mod Turns

@@ -1,5 +1,5 @@
 -- A replica as code, as the rules see it.
-use Rattle.std.specs.Prelude.{◌≡◌, ℕ, zero, suc, Bool, true, false, Option, Some, None, List, [], ◌∷◌, if◌then◌else◌}
+use Rattle.std.specs.Prelude.{◌≡◌, ℕ, zero, suc, Bool, true, false, Option, Some, None, List, [], ◌∷◌, nat_lt, nat_le, not, ◌&&◌, ◌||◌, if◌then◌else◌}
 use Rattle.std.specs.Str.{bytes_eq}
 use Rattle.ab_hist.specs.declared.request.Request.{Request as Asked}
 use Rattle.ab_msg.specs.declared.value.Value.{Value}
@@ -7,7 +7,7 @@ use Rattle.ab_msg.specs.declared.value.Value.TheVariants.{Request as Order}
 use Rattle.ab_msg.specs.Slots.{slot_digest}
 use Rattle.ab_abs.specs.Values.{goes}
 use Rattle.ab_lock.specs.Steps.{Change}
-use Rattle.ab_lock.specs.Votes.{Vote, next}
+use Rattle.ab_lock.specs.Votes.{Vote, or_else, next, next_prepare, next_execute}
 use Rattle.ab_lock.specs.ViewChanges.{enter, leave}
 use Rattle.ab_lock.specs.Events.{peer_by, with_vote, with_commit, entered_peer, left_peer}
 use Rattle.ab_order.specs.Inputs as told
@@ -71,6 +71,11 @@ takes me step w = with_peer w (peer_by slot_digest me (step ∷ []) w.at.peer) (
 abbrev pub next_in : rules.Seat → Work → Option OrderStep
 next_in seat w = next slot_digest bytes_eq goes seat.f (core_of w) w.at.peer.votes w.at.peer.commits
 
+-- the first of the last two kinds of steps
+abbrev pub next_on : rules.Seat → Work → Option OrderStep
+next_on seat w =
+    or_else (next_prepare slot_digest bytes_eq seat.f (core_of w) w.at.peer.votes) (next_execute slot_digest bytes_eq goes seat.f (core_of w) w.at.peer.commits)
+
 abbrev pub by_steps : (rest : Work → Work) → ℕ → Work → Option OrderStep → Work
 by_steps rest me w None = w
 by_steps rest me w (Some step) = rest (takes me step w)
@@ -94,6 +99,14 @@ votes_for u w = with_peer w (with_vote u w.at.peer) []
 abbrev pub commits_for : Vote (List ℕ) → Work → Work
 commits_for u w = with_peer w (with_commit u w.at.peer) []
 
+abbrev pub without_votes_below : ℕ → rules.Memory → rules.Memory
+without_votes_below v m = record m {
+  peer = record m.peer {
+    votes = if nat_lt m.peer.core.view v then [] else m.peer.votes;
+    commits = if nat_lt m.peer.core.view v then [] else m.peer.commits;
+  };
+}
+
 -- a view is entered, and one is left
 abbrev pub enters_from : rules.Seat → ℕ → List (Change Value) → Work → Work
 enters_from seat v vcs w = with_peer w (entered_peer goes seat.k v vcs w.at.peer) (enter goes seat.k v vcs ∷ [])
@@ -111,3 +124,14 @@ next_fit seat w = if rules.has_room seat w then rules.first_fit (core_of w).acce
 
 abbrev pub Offered : rules.Seat → Bool → Turn → Work → Type 0
 Offered seat went t w = OfferedFit seat went t w (next_fit seat w)
+
+-- the primary offers its base and requests, if it may
+abbrev pub offers_all : rules.Seat → Work → Work
+offers_all seat w = if rules.may_propose seat w then rules.offer_requests seat (suc seat.k) (rules.offer_base seat w) else w
+
+abbrev pub can_offer_base : rules.Memory → Bool
+can_offer_base m = rules.is_empty m.peer.core.accepted && not (rules.is_empty m.requests)
+
+-- something is left to order, and there is a next view
+abbrev pub can_leave : rules.Seat → rules.Memory → Bool
+can_leave seat m = not (rules.is_done seat (rules.idle m) || nat_le 4294967295 m.peer.core.view)

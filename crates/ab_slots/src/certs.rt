@@ -1,9 +1,10 @@
 //! The certificates that a replica has, by their slots.
 
-ghost use Rattle.std.specs.Prelude.{◌≡◌, IfOk, OnOk, map};
+ghost use Rattle.std.specs.Prelude.{◌≡◌, ◌≤◌, IfOk, OnOk, length, map, slice_get};
+ghost use Rattle.ab_msg.specs.declared.value.Value.{Value as SlotValue};
 ghost use Rattle.std.specs.Option.{option_map};
 ghost use Rattle.ab_msg.specs.Slots.{slot_digest as digest_of_slot};
-ghost use Rattle.ab_lock.specs.Steps.{cert_at as cert_of_slot, set_cert};
+ghost use Rattle.ab_lock.specs.Steps.{Cert as CertOf, cert_at as cert_of_slot, set_cert};
 ghost use Rattle.ab_lock.specs.ViewChanges.{certs_from};
 
 use crate::change::Cert;
@@ -12,17 +13,37 @@ use ab_msg::{Copied, ViewEntries};
 use ab_num::OutOfMemory;
 use std::alloc::Global;
 
+/// What stands for slot `t`.
+fn slot(certs: &[Option<Cert>], t: usize) -> Option<&Option<Cert>>
+    ensures { option_map (λ c. c.now) result ≡ slice_get certs.now t }
+{
+    certs.get(t)
+}
+
 /// The certificate of slot `t`.
 fn cert_at(certs: &[Option<Cert>], t: usize) -> Option<&Cert>
     ensures { option_map (λ c. c.now) result ≡ cert_of_slot certs.now t }
 {
-    match certs.get(t) {
-        Some(Some(cert)) => Some(cert),
-        _ => None,
+    match slot(certs, t) {
+        Some(cert) => cert.as_ref(),
+        None => None,
     }
 }
 
+/// Makes room for slot `t`, or for one behind the last.
+#[tactic(auto, using(crate::proofs::CertLemmas::cert_gap))]
+fn pad(certs: &mut Vec<Option<Cert>>, t: usize) -> Result<(), OutOfMemory>
+    ensures same { OnOk result ((c : CertOf SlotValue) → set_cert t c certs.new.items ≡ set_cert t c certs.old.items) }
+    ensures long { OnOk result (t ≤ length certs.new.items) }
+{
+    'gap: while certs.len() < t {
+        certs.push(None)?;
+    }
+    Ok(())
+}
+
 /// Keeps a certificate for slot `t`.
+#[tactic(auto, using(crate::proofs::CertLemmas::cert_end, crate::proofs::CertLemmas::cert_in))]
 pub(crate) fn set_cert(
     certs: &mut Vec<Option<Cert>>,
     t: usize,
@@ -30,9 +51,7 @@ pub(crate) fn set_cert(
 ) -> Result<(), OutOfMemory>
     ensures { OnOk result (certs.new.items ≡ set_cert t cert certs.old.items) }
 {
-    'gap: while certs.len() < t {
-        certs.push(None)?;
-    }
+    pad(certs, t)?;
     if certs.len() == t {
         certs.push(Some(cert))?;
     } else {
@@ -66,10 +85,10 @@ pub(crate) fn front(
 pub(crate) fn entries_of(alloc: Global, certs: &[Cert]) -> Result<ViewEntries, OutOfMemory>
     ensures { IfOk result (λ e. e ≡ map (λ c. (c.at, digest_of_slot c.value)) certs.now) }
 {
-    let entries = certs
-        .iter()
-        .map(|c| (c.at(), slot_digest(c.value())))
-        .collect(alloc)?;
+    let mut entries = Vec::with_capacity(alloc, certs.len())?;
+    'certs: for cert in certs {
+        entries.push((cert.at(), slot_digest(cert.value())))?;
+    }
     Ok(ViewEntries::of(entries))
 }
 

@@ -1,9 +1,9 @@
 //! The values that VIEW-CHANGEs choose.
 
-ghost use Rattle.std.specs.Prelude.{◌≡◌, IfOk, ◌<◌};
+ghost use Rattle.std.specs.Prelude.{◌≡◌, ℕ, ◌+◌, ◌<◌, ◌≤◌, IfOk, OnOk, length, slice_get, suc, if◌then◌else◌};
 ghost use Rattle.std.specs.Option.{option_map};
 ghost use Rattle.ab_abs.specs.Values.{goes};
-ghost use Rattle.ab_lock.specs.Choosing.{beats as beats_in, best_in, better as better_of, chosen_of};
+ghost use Rattle.ab_lock.specs.Choosing.{beats as beats_in, best_in, better as better_of, chosen_from, chosen_of};
 ghost use Rattle.ab_slots.specs.Offers.{offer_of};
 
 use crate::change::{Cert, Change};
@@ -46,16 +46,47 @@ fn better<'a>(by: u8, cert: Option<&'a Cert>, rest: Option<Offer<'a>>) -> Option
     }
 }
 
+/// The certificate that a VIEW-CHANGE has for slot `t`.
+fn cert_in(change: &Change, t: usize) -> Option<&Cert>
+    ensures { option_map (λ c. c.now) result ≡ slice_get change.now.certs t }
+{
+    change.certs().get(t)
+}
+
 /// The certificate of the highest view for slot `t`, the lowest replica's at a tie.
 fn best(changes: &[Change], t: usize) -> Option<Offer<'_>>
     ensures { option_map offer_of result ≡ best_in changes.now t }
 {
     let mut best = None;
-    'changes: for i in (0..changes.len()).rev() {
+    let mut i = changes.len();
+    'changes: while i > 0 {
+        i -= 1;
         let change = &changes[i];
-        best = better(change.by(), change.certs().get(t), best);
+        best = better(change.by(), cert_in(change, t), best);
     }
     best
+}
+
+/// Adds the value that VIEW-CHANGEs choose for the next slot, and tells whether there is one.
+fn choose_next(
+    alloc: Global,
+    chosen: &mut Slots,
+    changes: &[Change],
+) -> Result<bool, OutOfMemory>
+    requires { length chosen.old < 256 }
+    ensures next { IfOk result (λ went. (n : ℕ) → chosen_from goes changes.now (suc n) chosen.old ≡ (if went then chosen_from goes changes.now n chosen.new else chosen.new)) }
+    ensures longer { OnOk result (length chosen.new ≤ length chosen.old + 1) }
+{
+    let Some(offer) = best(changes, chosen.len()) else {
+        return Ok(false);
+    };
+    let value = offer.cert.value();
+    if !chosen.can_push(value) {
+        return Ok(false);
+    }
+    let copy = value.copy(alloc)?;
+    chosen.push(alloc, copy)?;
+    Ok(true)
 }
 
 /// The values of slots 0 to `k` that VIEW-CHANGEs choose, up to the first slot without a certificate or whose value may
@@ -65,16 +96,8 @@ pub(crate) fn chosen(alloc: Global, k: u8, changes: &[Change]) -> Result<Slots, 
 {
     let mut chosen = Slots::new(alloc);
     'slots: for _n in 0..u16::from(k) + 1 {
-        match best(changes, chosen.len()) {
-            Some(offer) => {
-                let value = offer.cert.value();
-                if !chosen.can_push(value) {
-                    return Ok(chosen);
-                }
-                let copy = value.copy(alloc)?;
-                chosen.push(alloc, copy)?;
-            }
-            None => return Ok(chosen),
+        if !choose_next(alloc, &mut chosen, changes)? {
+            return Ok(chosen);
         }
     }
     Ok(chosen)

@@ -1,6 +1,7 @@
 //! What comes to a replica of PBFT.
 
-ghost use Rattle.std.specs.Prelude.{◌≡◌, ◌==◌, IfOk, map};
+ghost use Rattle.std.specs.Prelude.{◌≡◌, ◌==◌, ◌&&◌, nat_eq, IfOk, map};
+ghost use Rattle.std.specs.List.{list_all, list_any};
 ghost use Rattle.ab_pbft.specs.Rules.{all_apart as are_apart, cert_of, change_of, fits, may_enter as may_enter_by, slot_fits};
 
 use crate::change::{Cert, Change};
@@ -86,13 +87,20 @@ pub enum Input {
     Other,
 }
 
+/// Whether a number is among others.
+fn is_among(r: u8, others: &[u8]) -> bool
+    ensures { result ≡ list_any (nat_eq r) others.now }
+{
+    others.iter().any(|q| r == *q)
+}
+
 /// Whether no number stands twice.
+#[tactic(auto, using(crate::proofs::ApartLemmas::apart_ends, crate::proofs::ApartLemmas::apart_more))]
 fn all_apart(numbers: &[u8]) -> bool
     ensures { result ≡ are_apart numbers.now }
 {
     'numbers: for i in 0..numbers.len() {
-        let r = numbers[i];
-        if numbers[i + 1..].iter().any(|q| r == *q) {
+        if is_among(numbers[i], &numbers[i + 1..]) {
             return false;
         }
     }
@@ -165,26 +173,42 @@ impl ChangeInput {
     }
 }
 
+/// Whether a replica made one of these.
+fn has_maker(by: u8, changes: &[ChangeInput]) -> bool
+    ensures { result ≡ list_any (λ c. nat_eq by c.by) changes.now }
+{
+    changes.iter().any(|c| by == c.by())
+}
+
 /// Whether no replica made two of these.
 fn makers_apart(changes: &[ChangeInput]) -> bool
     ensures { result ≡ are_apart (map (λ c. c.by) changes.now) }
 {
     'changes: for i in 0..changes.len() {
-        let by = changes[i].by();
-        if changes[i + 1..].iter().any(|c| by == c.by()) {
+        let change = &changes[i];
+        let (_, others) = changes.split_at(i + 1);
+        if has_maker(change.by(), others) {
             return false;
         }
     }
     true
 }
 
+/// Whether each is for a view, and fits.
+fn all_fit(f: u8, view: u32, changes: &[ChangeInput]) -> bool
+    ensures { result ≡ list_all (λ c. nat_eq c.view view && fits f c) changes.now }
+{
+    changes.iter().all(|c| c.view() == view && c.fits(f))
+}
+
 /// Whether these are 2f + 1 VIEW-CHANGEs for a view by distinct replicas, each of which fits.
 pub(crate) fn may_enter(f: u8, view: u32, changes: &[ChangeInput]) -> bool
     ensures { result ≡ may_enter_by f view changes.now }
 {
-    changes.len() == 2 * usize::from(f) + 1
-        && makers_apart(changes)
-        && changes.iter().all(|c| c.view() == view && c.fits(f))
+    if changes.len() != 2 * usize::from(f) + 1 {
+        return false;
+    }
+    makers_apart(changes) && all_fit(f, view, changes)
 }
 
 /// Each VIEW-CHANGE without its PREPAREs.

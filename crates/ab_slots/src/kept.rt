@@ -1,9 +1,11 @@
 //! The VIEW-CHANGEs that a replica keeps, by ascending replica.
 
-ghost use Rattle.std.specs.Prelude.{◌≡◌, ◌<◌, ◌==◌, IfOk, OnOk, count_by, nat_lt, length};
+ghost use Rattle.std.specs.Prelude.{◌≡◌, ◌<◌, ◌≤◌, ◌==◌, Some, IsTrue, IfOk, OnOk, count_by, nat_lt, length, slice_get, slice_set, if◌then◌else◌};
 ghost use Rattle.std.specs.List.{take_while};
-ghost use Rattle.ab_lock.specs.ViewChanges.{lowest as lowest_of, of_view as all_of_view, put as put_kept};
+ghost use Rattle.ab_msg.specs.declared.value.Value.{Value as SlotValue};
+ghost use Rattle.ab_lock.specs.ViewChanges.{Kept as KeptOf, lowest as lowest_of, of_view as all_of_view, put as put_kept};
 ghost use Rattle.ab_pbft.specs.Rules.{least_above, smaller as smaller_of, without};
+ghost use Rattle.ab_slots.specs.Places.{is_by, place_by};
 
 use crate::change::Change;
 use ab_msg::Copied;
@@ -65,26 +67,53 @@ impl Copied for Kept {
     }
 }
 
-/// How many are of lower replicas.
-fn place_of(kept: &[Kept], by: u8) -> usize
+/// How many in front are of lower replicas.
+fn count_lower(kept: &[Kept], by: u8) -> usize
     ensures { result ≡ length (take_while (λ u. nat_lt u.change.by by) kept.now) }
 {
     kept.iter().take_while(|u| u.by() < by).count()
 }
 
+/// The place of a replica, behind those of lower ones.
+#[tactic(auto, using(crate::proofs::KeptLemmas::place_counted, crate::proofs::KeptLemmas::place_within))]
+fn place_of(kept: &[Kept], by: u8) -> usize
+    ensures place { result ≡ place_by by kept.now }
+    ensures within { result ≤ length kept.now }
+{
+    count_lower(kept, by)
+}
+
+/// Whether the one at a place is of a replica.
+fn is_at(kept: &[Kept], at: usize, by: u8) -> bool
+    ensures says { result ≡ is_by by (slice_get kept.now at) }
+    ensures within { IsTrue result → at < length kept.now }
+{
+    match kept.get(at) {
+        Some(u) => u.by() == by,
+        None => false,
+    }
+}
+
+/// Puts a VIEW-CHANGE in place of another of its replica, if that is of a lower view.
+fn replace(kept: &mut Vec<Kept>, at: usize, new: Kept)
+    requires { at < length kept.old.items }
+    ensures { (u : KeptOf SlotValue) → slice_get kept.old.items at ≡ Some u → kept.new.items ≡ (if nat_lt u.view new.view then slice_set kept.old.items at new else kept.old.items) }
+{
+    if kept[at].view() < new.view() {
+        kept[at] = new;
+    }
+}
+
 /// Puts a VIEW-CHANGE at the place of its replica, if none of this view or a later one is there.
+#[tactic(auto, using(crate::proofs::KeptLemmas::put_new))]
 pub(crate) fn put(kept: &mut Vec<Kept>, new: Kept) -> Result<(), OutOfMemory>
     ensures { OnOk result (kept.new.items ≡ put_kept new kept.old.items) }
 {
     let at = place_of(kept, new.by());
-    let (is_there, is_older) = match kept.get(at) {
-        Some(u) => (u.by() == new.by(), u.view() < new.view()),
-        None => (false, false),
-    };
-    if !is_there {
+    if is_at(kept, at, new.by()) {
+        replace(kept, at, new);
+    } else {
         kept.insert(at, new)?;
-    } else if is_older {
-        kept[at] = new;
     }
     Ok(())
 }
@@ -118,7 +147,9 @@ pub(crate) fn least_later(kept: &[Kept], view: u32) -> Option<u32>
     ensures { result ≡ least_above view kept.now }
 {
     let mut least = None;
-    'kept: for i in (0..kept.len()).rev() {
+    let mut i = kept.len();
+    'kept: while i > 0 {
+        i -= 1;
         let at = kept[i].view();
         if view < at {
             least = smaller(at, least);
@@ -136,6 +167,7 @@ pub(crate) fn count_of(kept: &[Kept], view: u32) -> usize
 }
 
 /// Those for this view.
+#[tactic(auto, using(crate::proofs::KeptLemmas::of_view_more, crate::proofs::KeptLemmas::of_view_same))]
 fn of_view(alloc: Global, kept: &[Kept], view: u32) -> Result<Vec<Change>, OutOfMemory>
     ensures { IfOk result (λ v. v.items ≡ all_of_view kept.now view) }
 {

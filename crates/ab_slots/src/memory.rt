@@ -8,7 +8,7 @@ ghost use Rattle.ab_msg.specs.Slots.{slot_digest as digest_of_slot};
 ghost use Rattle.ab_abs.specs.Values.{goes};
 ghost use Rattle.ab_lock.specs.Steps.{begun, signs, prepares, executes};
 ghost use Rattle.ab_lock.specs.Votes.{next_sign, next_prepare, next_execute};
-ghost use Rattle.ab_slots.specs.Turns.{memory_of};
+ghost use Rattle.ab_slots.specs.Turns.{memory_of, without_votes_below};
 
 use crate::certs::copy_certs;
 use crate::change::Cert;
@@ -135,6 +135,16 @@ impl Memory {
                 is_enough(f, &self.commits, n as u8, &x) && self.executed.can_push(value)
             }
             None => false,
+        }
+    }
+
+    /// Drops the votes of a view below this one.
+    pub(crate) fn drop_votes_below(&mut self, alloc: Global, view: u32)
+        ensures { memory_of self.new ≡ without_votes_below view (memory_of self.old) }
+    {
+        if self.view < view {
+            self.votes = Vec::new(alloc);
+            self.commits = Vec::new(alloc);
         }
     }
 

@@ -1,6 +1,6 @@
 //! The values of the slots of an order.
 
-ghost use Rattle.std.specs.Prelude.{◌≡◌, ◌<◌, ◌≤◌, [], ◌∷◌, ◌++◌, true, Some, length, slice_get, IfOk, OnOk, OnErr, vec_len};
+ghost use Rattle.std.specs.Prelude.{◌≡◌, ◌<◌, ◌≤◌, [], ◌∷◌, ◌++◌, true, Some, length, slice_get, IfSome, IfOk, OnOk, OnErr, vec_len};
 ghost use Rattle.std.specs.Option.{option_map};
 ghost use Rattle.std.specs.Vec.{vec_capacity};
 ghost use Rattle.ab_hist.specs.Histories.{can_push};
@@ -109,7 +109,8 @@ impl Slots {
 
     /// The value of slot `n`.
     pub fn get(&self, n: usize) -> Option<&Value>
-        ensures { option_map (λ v. v.now) result ≡ slice_get self.now n }
+        ensures value { option_map (λ v. v.now) result ≡ slice_get self.now n }
+        ensures within { IfSome result (λ _. (n < length self.now) × (n < 256)) }
     {
         self.values.get(n)
     }
@@ -117,7 +118,8 @@ impl Slots {
     /// The value of slot `n`, where there is one.
     pub fn at(&self, n: usize) -> &Value
         requires { n < length self.now }
-        ensures { slice_get self.now n ≡ Some result.now }
+        ensures value { slice_get self.now n ≡ Some result.now }
+        ensures few { n < 256 }
     {
         &self.values[n]
     }

@@ -1,6 +1,6 @@
 //! What a replica of PBFT does as something comes.
 
-ghost use Rattle.std.specs.Prelude.{◌≡◌, ℕ, List, ◌<◌, ◌≤◌, ◌==◌, ◌&&◌, true, false, Some, None, IfOk, OnOk, length, slice_get, suc, take, nat_le};
+ghost use Rattle.std.specs.Prelude.{◌≡◌, ℕ, List, ◌<◌, ◌≤◌, ◌==◌, ◌&&◌, true, false, IsTrue, Some, None, IfOk, OnOk, length, slice_get, suc, take, nat_le};
 ghost use Rattle.std.specs.Str.{bytes_eq};
 ghost use Rattle.ab_msg.specs.declared.value.Value.{Value as SlotValue};
 ghost use Rattle.ab_msg.specs.declared.value.Value.TheVariants as value;
@@ -11,7 +11,7 @@ ghost use Rattle.ab_lock.specs.ViewChanges.{certs_from};
 ghost use Rattle.ab_lock.specs.Choosing.{chosen_of};
 ghost use Rattle.ab_pbft.specs.Rules as rules;
 ghost use Rattle.ab_pbft.specs.Rules.{Work, idle, take_value, does as says, keep_request as keeps_request, keep_change as keeps_change, cert_of, change_of};
-ghost use Rattle.ab_slots.specs.Turns.{seat_of, memory_of, input_of, Shows, Does, Went, Offered, takes, next_in, enters_from, leaves, votes_for, commits_for};
+ghost use Rattle.ab_slots.specs.Turns.{seat_of, memory_of, input_of, Shows, Does, Went, Offered, takes, next_in, next_on, enters_from, leaves, offers_all, can_leave, can_offer_base, votes_for, commits_for};
 
 use crate::certs::{entries_of, front, set_cert};
 use crate::change::{Cert, Change};
@@ -56,7 +56,8 @@ impl Turn {
     {
         let slot = self.memory.signed as u8;
         let view = self.memory.view;
-        keep(&mut self.memory.votes, Vote::new(me, slot, x))?;
+        let vote = Vote::new(me, slot, x);
+        keep(&mut self.memory.votes, vote)?;
         self.memory.signed += 1;
         self.deeds.push(Deed::Signs { view, slot, x })?;
         Ok(())
@@ -74,8 +75,10 @@ impl Turn {
         let backed = value.copy(alloc)?;
         let value = value.copy(alloc)?;
         let slot = n as u8;
-        set_cert(&mut self.memory.certs, n, Cert::new(view, backed))?;
-        keep(&mut self.memory.commits, Vote::new(me, slot, x))?;
+        let cert = Cert::new(view, backed);
+        let vote = Vote::new(me, slot, x);
+        set_cert(&mut self.memory.certs, n, cert)?;
+        keep(&mut self.memory.commits, vote)?;
         self.memory.prepared += 1;
         self.deeds.push(Deed::Prepares { view, slot, value })?;
         Ok(())
@@ -88,18 +91,16 @@ impl Turn {
         ensures { OnOk result ((v : SlotValue) (me : ℕ) → slice_get self.old.memory.accepted (length self.old.memory.executed) ≡ Some v → Does self.old self.new (takes me (executes self.old.memory.view (length self.old.memory.executed) v))) }
     {
         let n = self.memory.executed.len();
-        let value = self.memory.accepted.at(n).copy(alloc)?;
-        self.memory.executed.push(alloc, value)
+        let next = self.memory.accepted.at(n);
+        let value = next.copy(alloc)?;
+        self.memory.executed.push(alloc, value)?;
+        Ok(())
     }
 
-    /// Takes the first of the three steps that it can, and tells whether there was one.
-    fn step(&mut self, alloc: Global, seat: &Seat) -> Result<bool, OutOfMemory>
-        ensures { IfOk result (λ went. (w : Work) → Shows self.old w → Went (seat_of seat.now) went self.new w (next_in (seat_of seat.now) w)) }
+    /// Prepares or executes a slot, whichever it can first, and tells whether there was one.
+    fn step_on(&mut self, alloc: Global, seat: &Seat) -> Result<bool, OutOfMemory>
+        ensures { IfOk result (λ went. (w : Work) → Shows self.old w → Went (seat_of seat.now) went self.new w (next_on (seat_of seat.now) w)) }
     {
-        if let Some(x) = self.memory.unsigned() {
-            self.sign(seat.me, x)?;
-            return Ok(true);
-        }
         if self.memory.may_prepare(seat.f) {
             self.prepare(alloc, seat.me)?;
             return Ok(true);
@@ -109,6 +110,22 @@ impl Turn {
             return Ok(true);
         }
         Ok(false)
+    }
+
+    /// Takes the first of the three steps that it can, and tells whether there was one.
+    fn step(&mut self, alloc: Global, seat: &Seat) -> Result<bool, OutOfMemory>
+        ensures { IfOk result (λ went. (w : Work) → Shows self.old w → Went (seat_of seat.now) went self.new w (next_in (seat_of seat.now) w)) }
+    {
+        match self.memory.unsigned() {
+            Some(x) => {
+                self.sign(seat.me, x)?;
+                Ok(true)
+            }
+            None => {
+                let went = self.step_on(alloc, seat)?;
+                Ok(went)
+            }
+        }
     }
 
     /// Goes on by itself as far as it can. There are at most three steps for each slot.
@@ -129,7 +146,8 @@ impl Turn {
         requires room { length self.old.memory.accepted < 256 }
         ensures { OnOk result (Does self.old self.new (take_value value)) }
     {
-        self.memory.accepted.push(alloc, value)
+        self.memory.accepted.push(alloc, value)?;
+        Ok(())
     }
 
     /// Accepts a value in the next slot, and offers it to the others.
@@ -144,17 +162,26 @@ impl Turn {
             slot: self.memory.accepted.len() as u8,
             value: told,
         })?;
-        self.accept(alloc, value)
+        self.accept(alloc, value)?;
+        Ok(())
+    }
+
+    /// Whether a request waits and nothing is accepted.
+    fn may_offer_base(&self) -> bool
+        ensures { result ≡ can_offer_base (memory_of self.now.memory) }
+    {
+        self.memory.accepted.is_empty() && !self.memory.requests.is_empty()
     }
 
     /// Offers its own base in slot 0, if a request waits and nothing is accepted.
     fn offer_base(&mut self, alloc: Global, seat: &Seat) -> Result<(), OutOfMemory>
         ensures { OnOk result (Does self.old self.new (rules.offer_base (seat_of seat.now))) }
     {
-        if self.memory.accepted.is_empty() && !self.memory.requests.is_empty() {
-            let base = seat.base.copy(alloc)?;
-            self.offer(alloc, Value::Base(base))?;
+        if !self.may_offer_base() {
+            return Ok(());
         }
+        let base = seat.base.copy(alloc)?;
+        self.offer(alloc, Value::Base(base))?;
         Ok(())
     }
 
@@ -195,25 +222,32 @@ impl Turn {
             && !self.memory.is_done(seat.k)
     }
 
+    /// Offers what it can as the primary of the view.
+    fn offer_all(&mut self, alloc: Global, seat: &Seat) -> Result<(), OutOfMemory>
+        ensures { OnOk result (Does self.old self.new (offers_all (seat_of seat.now))) }
+    {
+        if !self.may_propose(seat) {
+            return Ok(());
+        }
+        self.offer_base(alloc, seat)?;
+        self.offer_requests(alloc, seat)?;
+        Ok(())
+    }
+
     /// Offers what it can as the primary of the view, and goes on.
     fn propose(&mut self, alloc: Global, seat: &Seat) -> Result<(), OutOfMemory>
         ensures { OnOk result (Does self.old self.new (rules.propose (seat_of seat.now))) }
     {
-        if self.may_propose(seat) {
-            self.offer_base(alloc, seat)?;
-            self.offer_requests(alloc, seat)?;
-        }
-        self.settle(alloc, seat)
+        self.offer_all(alloc, seat)?;
+        self.settle(alloc, seat)?;
+        Ok(())
     }
 
     /// Enters a view with these values for its slots, and drops the votes of a lower view.
     fn enter(&mut self, alloc: Global, view: u32, accepted: Slots) -> Result<(), OutOfMemory>
         ensures { OnOk result ((seat : rules.Seat) (vcs : List (ChangeOf SlotValue)) → accepted ≡ chosen_of goes seat.k vcs → Does self.old self.new (enters_from seat view vcs)) }
     {
-        if self.memory.view < view {
-            self.memory.votes = Vec::new(alloc);
-            self.memory.commits = Vec::new(alloc);
-        }
+        self.memory.drop_votes_below(alloc, view);
         self.memory.view = view;
         self.memory.changing = false;
         self.memory.accepted = accepted;
@@ -235,7 +269,8 @@ impl Turn {
     {
         let accepted = chosen(alloc, seat.k, changes)?;
         self.enter(alloc, view, accepted)?;
-        self.propose(alloc, seat)
+        self.propose(alloc, seat)?;
+        Ok(())
     }
 
     /// Whether it is the primary of a view that it is changing to, with enough VIEW-CHANGEs for it.
@@ -265,7 +300,8 @@ impl Turn {
         let view = self.memory.view;
         let changes = lowest(alloc, seat.f, &self.memory.changes, view)?;
         self.tell_lead(view)?;
-        self.enter_view(alloc, seat, view, &changes)
+        self.enter_view(alloc, seat, view, &changes)?;
+        Ok(())
     }
 
     /// Leaves for a view with these certificates, and drops its votes.
@@ -289,7 +325,10 @@ impl Turn {
         ensures { OnOk result ((seat : rules.Seat) (s : State SlotValue) → seat.me ≡ me → certs.items ≡ certs_from (cert_at s.certs) (suc seat.k) 0 → Does self.old self.new (rules.keep_own seat view s)) }
     {
         remove(&mut self.memory.changes, me);
-        put(&mut self.memory.changes, Kept::new(view, Change::new(me, certs)))
+        let change = Change::new(me, certs);
+        let own = Kept::new(view, change);
+        put(&mut self.memory.changes, own)?;
+        Ok(())
     }
 
     /// Leaves for a view, and keeps its own VIEW-CHANGE.
@@ -298,7 +337,8 @@ impl Turn {
     {
         let certs = front(alloc, &self.memory.certs, usize::from(seat.k) + 1)?;
         self.leave(alloc, view, &certs)?;
-        self.keep_own(seat.me, view, certs)
+        self.keep_own(seat.me, view, certs)?;
+        Ok(())
     }
 
     /// Follows f + 1 others that left for later views, to the first of these.
@@ -310,7 +350,10 @@ impl Turn {
             return Ok(());
         }
         match least_later(&self.memory.changes, view) {
-            Some(later) => self.leave_to(alloc, seat, later),
+            Some(later) => {
+                self.leave_to(alloc, seat, later)?;
+                Ok(())
+            }
             None => Ok(()),
         }
     }
@@ -358,7 +401,8 @@ impl Turn {
     fn keep_request(&mut self, m: Request) -> Result<(), OutOfMemory>
         ensures { OnOk result (Does self.old self.new (keeps_request m)) }
     {
-        keep_last(&mut self.memory.requests, m)
+        keep_last(&mut self.memory.requests, m)?;
+        Ok(())
     }
 
     /// Takes the request of a client.
@@ -366,7 +410,8 @@ impl Turn {
         ensures { OnOk result (Does self.old self.new (rules.work (seat_of seat.now) (input_of (Input.Request m)))) }
     {
         self.keep_request(m)?;
-        self.propose(alloc, seat)
+        self.propose(alloc, seat)?;
+        Ok(())
     }
 
     /// Takes a base that a primary offers.
@@ -386,7 +431,8 @@ impl Turn {
             return Ok(());
         }
         self.accept(alloc, value)?;
-        self.settle(alloc, seat)
+        self.settle(alloc, seat)?;
+        Ok(())
     }
 
     /// Takes a request that a primary offers for a slot.
@@ -407,21 +453,24 @@ impl Turn {
             return Ok(());
         }
         self.accept(alloc, value)?;
-        self.settle(alloc, seat)
+        self.settle(alloc, seat)?;
+        Ok(())
     }
 
     /// Keeps a PREPARE.
     fn keep_vote(&mut self, vote: Vote) -> Result<(), OutOfMemory>
         ensures { OnOk result (Does self.old self.new (votes_for vote)) }
     {
-        keep(&mut self.memory.votes, vote)
+        keep(&mut self.memory.votes, vote)?;
+        Ok(())
     }
 
     /// Keeps a COMMIT.
     fn keep_commit(&mut self, vote: Vote) -> Result<(), OutOfMemory>
         ensures { OnOk result (Does self.old self.new (commits_for vote)) }
     {
-        keep(&mut self.memory.commits, vote)
+        keep(&mut self.memory.commits, vote)?;
+        Ok(())
     }
 
     /// Takes a PREPARE.
@@ -440,7 +489,8 @@ impl Turn {
             return Ok(());
         }
         self.keep_vote(Vote::new(by, slot, x))?;
-        self.settle(alloc, seat)
+        self.settle(alloc, seat)?;
+        Ok(())
     }
 
     /// Takes a COMMIT.
@@ -459,7 +509,8 @@ impl Turn {
             return Ok(());
         }
         self.keep_commit(Vote::new(by, slot, x))?;
-        self.settle(alloc, seat)
+        self.settle(alloc, seat)?;
+        Ok(())
     }
 
     /// Keeps the VIEW-CHANGE of a replica.
@@ -468,7 +519,9 @@ impl Turn {
     {
         let view = change.view();
         let change = change.into_change(alloc)?;
-        put(&mut self.memory.changes, Kept::new(view, change))
+        let kept = Kept::new(view, change);
+        put(&mut self.memory.changes, kept)?;
+        Ok(())
     }
 
     /// Takes the VIEW-CHANGE of a replica.
@@ -485,7 +538,8 @@ impl Turn {
         }
         self.keep_change(alloc, change)?;
         self.follow(alloc, seat)?;
-        self.lead(alloc, seat)
+        self.lead(alloc, seat)?;
+        Ok(())
     }
 
     /// Whether it takes a NEW-VIEW: it is the primary's, of a later view or of the one that it is changing to.
@@ -512,18 +566,28 @@ impl Turn {
             return Ok(());
         }
         let changes = into_changes(alloc, changes)?;
-        self.enter_view(alloc, seat, view, &changes)
+        self.enter_view(alloc, seat, view, &changes)?;
+        Ok(())
+    }
+
+    /// Whether something is left to order and there is a next view.
+    fn may_leave(&self, seat: &Seat) -> bool
+        ensures says { result ≡ can_leave (seat_of seat.now) (memory_of self.now.memory) }
+        ensures later { IsTrue result → self.now.memory.view < 4294967295 }
+    {
+        !self.memory.is_done(seat.k) && self.memory.view < u32::MAX
     }
 
     /// Leaves for the next view, if something is left to order and there is one.
     fn time_out(&mut self, alloc: Global, seat: &Seat) -> Result<(), OutOfMemory>
         ensures { OnOk result (Does self.old self.new (rules.work (seat_of seat.now) (input_of Input.Timeout))) }
     {
-        if self.memory.is_done(seat.k) || self.memory.view == u32::MAX {
+        if !self.may_leave(seat) {
             return Ok(());
         }
         self.leave_to(alloc, seat, self.memory.view + 1)?;
-        self.lead(alloc, seat)
+        self.lead(alloc, seat)?;
+        Ok(())
     }
 
     /// Does what the rules say as something comes.

@@ -1,4 +1,4 @@
-use Rattle.std.proofs.Common.{◌≡◌, ◌+◌, ◌++◌, ◌∷◌, [], List, drop, Some, sym, subst, ◌∙◌}
+use Rattle.std.proofs.Common.{◌≡◌, ◌+◌, ◌++◌, ◌∷◌, [], List, drop, sym, subst, ◌∙◌}
 use Rattle.ab_msg.specs.declared.signed.Signed.{Signed}
 use Rattle.ab_reading.specs.Aborts.{renamed_of, renamed}
 use Rattle.ab_reading.proofs.Gathering.{before, goes_on}

@@ -1,4 +1,4 @@
-use Rattle.std.proofs.Common.{◌≡◌, ◌+◌, ◌++◌, ◌∷◌, [], List, drop, Some, sym, subst, ◌∙◌}
+use Rattle.std.proofs.Common.{◌≡◌, ◌+◌, ◌++◌, ◌∷◌, [], List, drop, sym, subst, ◌∙◌}
 use Rattle.ab_order.specs.Inputs.{ChangeInput}
 use Rattle.ab_order.specs.Readings.{change_of, changes_of}
 use Rattle.ab_reading.proofs.Gathering.{before, goes_on}

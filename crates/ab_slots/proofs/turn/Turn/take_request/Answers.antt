@@ -1,0 +1,6 @@
+use Rattle.ab_slots.specs.Turns.{seat_of}
+use Rattle.ab_pbft.specs.Rules.{keep_request}
+use Rattle.ab_slots.proofs.turn.Turn.take_request.Goals as goal
+
+pub returns : goal.returns
+returns c = λ w shows. c.in_ok-propose.ensures (keep_request c.args.m w) (c.in_ok-keep_request.ensures w shows)
