@@ -66,8 +66,8 @@ module _ (seat : Seat) (old new : Turn) where
   follow_some n v is lt least leaves_to =
       when_does old new many_later (λ w. rules.follow_to seat w (least_above w.at.peer.core.view w.at.changes)) (ap (nat_le (seat.f + 1)) (sym is) ∙ enough_later n lt)
       (λ w shows.
-          let e : least_above w.at.peer.core.view w.at.changes ≡ Some v = ap (λ (m : Memory). least_above m.peer.core.view m.changes) (sym shows.at) ∙ sym least in
-          subst (λ o. Shows new (rules.follow_to seat w o)) (sym e) (leaves_to w shows))
+      let e : least_above w.at.peer.core.view w.at.changes ≡ Some v = ap (λ (m : Memory). least_above m.peer.core.view m.changes) (sym shows.at) ∙ sym least in
+      subst (λ o. Shows new (rules.follow_to seat w o)) (sym e) (leaves_to w shows))
 
   pub follow_none : None ≡ least_above was.peer.core.view was.changes → Does old old (rules.follow seat)
   follow_none least w shows =
@@ -89,9 +89,9 @@ module _ (seat : Seat) (old new : Turn) where
   lead_does mid changes may is tells enters =
       when_does old new (λ m. rules.may_lead seat (idle m)) (λ w. rules.enter_view seat w.at.peer.core.view (lowest seat.f w.at.changes w.at.peer.core.view) (does (rules.leads w.at.peer.core.view) w)) may
       (λ w shows.
-          let there = enters (does (rules.leads was.peer.core.view) w) (tells w shows) in
-          let here = subst (λ l. Shows new (rules.enter_view seat was.peer.core.view l (does (rules.leads was.peer.core.view) w))) is there in
-          subst (λ (m : Memory). Shows new (rules.enter_view seat m.peer.core.view (lowest seat.f m.changes m.peer.core.view) (does (rules.leads m.peer.core.view) w))) shows.at here)
+      let there = enters (does (rules.leads was.peer.core.view) w) (tells w shows) in
+      let here = subst (λ l. Shows new (rules.enter_view seat was.peer.core.view l (does (rules.leads was.peer.core.view) w))) is there in
+      subst (λ (m : Memory). Shows new (rules.enter_view seat m.peer.core.view (lowest seat.f m.changes m.peer.core.view) (does (rules.leads m.peer.core.view) w))) shows.at here)
 
   pub time_out_does : (mid : Turn) → can_leave seat was ≡ true → Does old mid (rules.leave_to seat (suc was.peer.core.view)) → Does mid new (rules.lead seat) → Does old new (rules.work seat timeout)
   time_out_does mid may left leads w shows =

@@ -68,11 +68,7 @@ fn best(changes: &[Change], t: usize) -> Option<Offer<'_>>
 }
 
 /// Adds the value that VIEW-CHANGEs choose for the next slot, and tells whether there is one.
-fn choose_next(
-    alloc: Global,
-    chosen: &mut Slots,
-    changes: &[Change],
-) -> Result<bool, OutOfMemory>
+fn choose_next(alloc: Global, chosen: &mut Slots, changes: &[Change]) -> Result<bool, OutOfMemory>
     requires { length chosen.old < 256 }
     ensures next { IfOk result (λ went. (n : ℕ) → chosen_from goes changes.now (suc n) chosen.old ≡ (if went then chosen_from goes changes.now n chosen.new else chosen.new)) }
     ensures longer { OnOk result (length chosen.new ≤ length chosen.old + 1) }

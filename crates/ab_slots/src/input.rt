@@ -168,7 +168,11 @@ impl ChangeInput {
         ensures { IfOk result (λ c. c ≡ change_of self) }
     {
         let by = self.by;
-        let certs = self.slots.into_iter().map(|s| s.into_cert()).collect(alloc)?;
+        let certs = self
+            .slots
+            .into_iter()
+            .map(|s| s.into_cert())
+            .collect(alloc)?;
         Ok(Change::new(by, certs))
     }
 }

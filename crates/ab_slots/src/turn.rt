@@ -373,9 +373,7 @@ impl Turn {
     fn may_take_base(&self, seat: &Seat, by: u8, view: u32, x: &[u8; 32], value: &Value) -> bool
         ensures { result ≡ rules.may_take (seat_of seat.now) (idle (memory_of self.now.memory)) by view && (rules.is_empty self.now.memory.accepted && bytes_eq x.now (digest_of_slot value.now)) }
     {
-        self.may_take(seat, by, view)
-            && self.memory.accepted.is_empty()
-            && *x == slot_digest(value)
+        self.may_take(seat, by, view) && self.memory.accepted.is_empty() && *x == slot_digest(value)
     }
 
     /// Whether it takes a request for a slot.

@@ -10,5 +10,5 @@ pub changes-preserved : goal.changes-preserved
 changes-preserved c =
     let item = c.index-changes-i in
     let is : option_map offer_of c.better-best.result ≡ better item.result.by (slice_get item.result.certs c.args.t) (best_in (drop c.changes.i c.args.changes.now) c.args.t) =
-        c.better-best.ensures ∙ (λ j. better (c.by.ensures j) (c.cert_in.ensures j) (c.changes.invariant.0 j)) in
+    c.better-best.ensures ∙ (λ j. better (c.by.ensures j) (c.cert_in.ensures j) (c.changes.invariant.0 j)) in
     (is ∙ sym (best_step c.args.changes.now c.changes.i item.result c.args.t c.changes-test.true c.changes.invariant.1 item.is), omega arith)

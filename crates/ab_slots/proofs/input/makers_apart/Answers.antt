@@ -9,12 +9,12 @@ pub returns-then-has_maker : goal.returns-then-has_maker
 returns-then-has_maker c =
     let item = c.index-changes-i in
     let twice : list_any (λ (d : ChangeInput). nat_eq c.by.result d.by) (drop (c.changes.i + 1) c.args.changes.now) ≡ true =
-        ap (λ (l : List ChangeInput). list_any (λ (d : ChangeInput). nat_eq c.by.result d.by) l) (sym c.split_at.ensures.back) ∙ (sym c.has_maker.ensures ∙ c.if-has_maker.true) in
+    ap (λ (l : List ChangeInput). list_any (λ (d : ChangeInput). nat_eq c.by.result d.by) l) (sym c.split_at.ensures.back) ∙ (sym c.has_maker.ensures ∙ c.if-has_maker.true) in
     sym (c.changes.invariant ∙ makers_end c.args.changes.now c.changes.i c.by.result item.result c.changes-test.true item.is c.by.ensures twice)
 
 pub changes-preserved : goal.changes-preserved
 changes-preserved c =
     let item = c.index-changes-i in
     let once : list_any (λ (d : ChangeInput). nat_eq c.by.result d.by) (drop (c.changes.i + 1) c.args.changes.now) ≡ false =
-        ap (λ (l : List ChangeInput). list_any (λ (d : ChangeInput). nat_eq c.by.result d.by) l) (sym c.split_at.ensures.back) ∙ (sym c.has_maker.ensures ∙ c.if-has_maker.false) in
+    ap (λ (l : List ChangeInput). list_any (λ (d : ChangeInput). nat_eq c.by.result d.by) l) (sym c.split_at.ensures.back) ∙ (sym c.has_maker.ensures ∙ c.if-has_maker.false) in
     c.changes.invariant ∙ makers_more c.args.changes.now c.changes.i c.by.result item.result c.changes-test.true item.is c.by.ensures once
