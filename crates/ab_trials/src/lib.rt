@@ -18,6 +18,4 @@ mod opening;
 #[cfg(test)]
 mod replicas;
 #[cfg(test)]
-mod routes;
-#[cfg(test)]
 mod setups;
