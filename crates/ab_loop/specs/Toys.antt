@@ -1,5 +1,5 @@
 -- A small client for tests: a command goes to four replicas, and the fourth message that comes is a commit.
-use Rattle.std.specs.Prelude.{ℕ, codes, ◌+◌, ◌==◌, List, [], ◌∷◌, Option, None, Some, false, if◌then◌else◌}
+use Rattle.std.specs.Prelude.{ℕ, ◌+◌, ◌==◌, List, [], ◌∷◌, Option, None, Some, false, if◌then◌else◌}
 use Rattle.ab_num.specs.declared.party.Party.TheVariants.{Replica}
 use Rattle.ab_loop.specs.declared.party_core.Commit.{Commit}
 use Rattle.ab_loop.specs.Cores.{Event, invoke, message, timeout, Sealed, Reaction, Rules}
@@ -15,7 +15,7 @@ asks =
     ∷ record { to = Replica 3; bytes = 7 ∷ [] } ∷ []
 
 abbrev pub toy_commit : ℕ → ℕ → Option Commit
-toy_commit stamp votes = if votes == 4 then Some (record { stamp = stamp; instance = 1; n = 1; reply = record { items = codes "ok" } }) else None
+toy_commit stamp votes = if votes == 4 then Some (record { stamp = stamp; instance = 1; n = 1; reply = record { items = [] } }) else None
 
 abbrev pub toy_step : Toy → Event → Reaction Toy
 toy_step c (invoke command) = record { after = record { stamp = capped (c.stamp + 1); votes = 0 }; sends = asks; commit = None; spent = false }

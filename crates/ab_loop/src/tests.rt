@@ -9,6 +9,7 @@ use ab_hist::array_of;
 use ab_io::{MemClock, MemLink, SureSink};
 use ab_num::{OutOfMemory, Party};
 use ab_piece::cut;
+use arrayvec::ArrayVec;
 use std::alloc::Global;
 use std::marker::Model;
 use std::test::Fail;
@@ -71,7 +72,7 @@ impl PartyCore for ToyCore {
                         stamp: self.stamp,
                         instance: 1,
                         n: 1,
-                        reply: array_of(b"ok"),
+                        reply: ArrayVec::new(),
                     })
                 } else {
                     None
@@ -162,15 +163,15 @@ fn the_second_recv_fails(rt: HostRuntime) -> Result<(), Fail> {
 }
 
 #[test]
-fn lost_datagrams_are_counted(rt: HostRuntime) -> Result<(), Fail> {
+fn a_lost_datagram_is_counted(rt: HostRuntime) -> Result<(), Fail> {
     let alloc = rt.alloc();
-    let each = vec![in alloc; 1u64, 2, 3, 4]?;
+    let second = vec![in alloc; 2u64]?;
     let mut link = MemLink::new(
         alloc,
         Vec::new(alloc),
         Vec::new(alloc),
         Vec::new(alloc),
-        each,
+        second,
     );
     let mut out = SureSink::new(alloc);
     let job = job(alloc, 3, false)?;
@@ -178,33 +179,28 @@ fn lost_datagrams_are_counted(rt: HostRuntime) -> Result<(), Fail> {
         serve(alloc, job, &mut link, &mut clock(alloc), &mut out),
         Err(ServeFault::TurnsSpent(1))
     );
-    assert_eq!(rt; out.bytes(), b"end 1 4 4 0\n".as_slice());
-    assert_eq!(rt; link.sent().len(), 0);
+    assert_eq!(rt; out.bytes(), b"end 1 4 1 0\n".as_slice());
+    assert_eq!(rt; link.sent().len(), 3);
     Ok(())
-}
-
-/// A link to which four replicas send a message of two bytes each.
-fn four_messages(alloc: Global) -> Result<MemLink, Fail> {
-    let mut to_come = Vec::new(alloc);
-    for r in 0..4u8 {
-        let pieces = cut(alloc, Party::Replica(r), 1, b"\x01\xfe")?;
-        to_come.push(Vec::from_slice(alloc, pieces.get(0))?)?;
-    }
-    Ok(MemLink::new(
-        alloc,
-        to_come,
-        Vec::new(alloc),
-        Vec::new(alloc),
-        Vec::new(alloc),
-    ))
 }
 
 #[test]
 fn four_replies_commit(rt: HostRuntime) -> Result<(), Fail> {
     let alloc = rt.alloc();
-    let mut link = four_messages(alloc)?;
+    let mut to_come = Vec::new(alloc);
+    for r in 0..4u8 {
+        let pieces = cut(alloc, Party::Replica(r), 1, b"\x01\xfe")?;
+        to_come.push(Vec::from_slice(alloc, pieces.get(0))?)?;
+    }
+    let mut link = MemLink::new(
+        alloc,
+        to_come,
+        Vec::new(alloc),
+        Vec::new(alloc),
+        Vec::new(alloc),
+    );
     let mut out = SureSink::new(alloc);
-    let job = job(alloc, 4, false)?;
+    let job = job(alloc, 4, true)?;
     let served = serve(alloc, job, &mut link, &mut clock(alloc), &mut out);
     assert_eq!(rt;
         served,
@@ -215,24 +211,8 @@ fn four_replies_commit(rt: HostRuntime) -> Result<(), Fail> {
             spent: 0
         })
     );
-    assert_eq!(rt; out.bytes(), b"reply 1 1 1 ok\nend 5 4 0 0\n".as_slice());
-    Ok(())
-}
-
-#[test]
-fn a_trace_has_each_event(rt: HostRuntime) -> Result<(), Fail> {
-    let alloc = rt.alloc();
-    let mut link = four_messages(alloc)?;
-    let mut out = SureSink::new(alloc);
-    let job = job(alloc, 4, true)?;
-    assert!(rt; serve(alloc, job, &mut link, &mut clock(alloc), &mut out).is_ok());
     let text =
-        b"invoke c0 put a 1\ninject c0 01fe\ninject c0 01fe\ninject c0 01fe\ninject c0 01fe\nreply 1 1 1 ok\nend 5 4 0 0\n";
+        b"invoke c0 put a 1\ninject c0 01fe\ninject c0 01fe\ninject c0 01fe\ninject c0 01fe\nreply 1 1 1 \nend 5 4 0 0\n";
     assert_eq!(rt; out.bytes(), text.as_slice());
     Ok(())
-}
-
-#[test]
-fn laws_are_called() {
-    nodes_follow_their_core::<ToyCore>();
 }
