@@ -1,5 +1,5 @@
 -- What a replica of PBFT sends is what its rules make.
-use Rattle.std.proofs.Common.{◌≡◌, ℕ, zero, suc, ◌+◌, ◌*◌, ◌<◌, ◌≤◌, ◌==◌, Bool, true, false, Option, Some, None, List, [], ◌∷◌, ◌++◌, ◌⊎◌, refl, sym, ap, ◌∙◌, subst, inl, inr, arith, length}
+use Rattle.std.proofs.Common.{◌≡◌, ℕ, zero, suc, ◌+◌, ◌*◌, ◌≤◌, ◌==◌, Bool, true, false, Option, Some, None, List, [], ◌∷◌, ◌++◌, ◌⊎◌, refl, sym, ap, ◌∙◌, subst, inl, inr, arith, length}
 use Rattle.std.proofs.lemmas.List.{append-nil}
 use Rattle.std.specs.Prelude.{Contains, flat_map, map, slice_get, pred, if◌then◌else◌}
 use Rattle.std.proofs.lemmas.Bool.{cases_Bool, eqb-true}
@@ -23,12 +23,12 @@ use Rattle.ab_lock.specs.Acts.{commit_of}
 use Rattle.ab_lock.specs.Steps.{accepts, signs, prepares, changes, enters, executes}
 use Rattle.ab_order.specs.Protos.{Obeys}
 use Rattle.ab_pbft.specs.Traces.{content_of}
-use Rattle.ab_pbft.specs.Rules.{Pbft, Doing, takes_step, offers, leads, done_by, sayings, said_in, pbft}
+use Rattle.ab_pbft.specs.Rules.{Doing, takes_step, offers, leads, done_by, sayings, said_in, pbft}
 use Rattle.ab_slots.specs.declared.deed.Deed.{Deed}
 use Rattle.ab_slots.specs.declared.deed.Deed.TheVariants.{Signs, Prepares, Changes, Enters, Offers, Leads}
 use Rattle.ab_slots.specs.Deeds.{deeds_of, prepared_in, told_in}
 use Rattle.ab_shelf.specs.declared.signer.Signer.{Signer}
-use Rattle.ab_shelf.specs.Posts.{Post, to_others, own_change_of, offer_message, commit_message, lead_message, tells, posts, posts_all, signed_by, signed_in_all}
+use Rattle.ab_shelf.specs.Posts.{Post, to_others, own_change_of, offer_message, commit_message, lead_message, posts, posts_all, signed_by, signed_in_all}
 use Rattle.ab_shelf.specs.Signing.{signing, signer_of, input_of, deeds_by, first_post}
 
 -- ---- to the others

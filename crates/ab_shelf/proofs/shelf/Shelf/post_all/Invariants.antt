@@ -1,5 +1,5 @@
 use Rattle.std.proofs.Common.{◌≡◌, ◌+◌, take}
-use Rattle.ab_shelf.specs.Posts.{Post, posts_all, signings}
+use Rattle.ab_shelf.specs.Posts.{posts_all, signings}
 use Rattle.ab_shelf.proofs.shelf.Shelf.post_all.Given as goal
 
 abbrev pub invariant-deeds : goal.invariant-deeds
