@@ -32,7 +32,7 @@ use Rattle.ab_replay.specs.declared.refusal.Refusal.{Refusal}
 use Rattle.ab_replay.specs.declared.running.ReplayFault.{ReplayFault}
 use Rattle.ab_replay.specs.declared.running.ReplayFault.TheVariants as replaying
 use Rattle.ab_replay.specs.Protocols.{Any, any}
-use Rattle.ab_replay.specs.Streams.{IsAllOf, IsTooLong}
+use Rattle.ab_replay.specs.Streams.{IsInput, IsTooLong}
 use Rattle.ab_io.specs.Causes.{Rose}
 
 -- ---- runs
@@ -194,9 +194,9 @@ TextCause replaying.TooLong text = ⊥
 
 -- when each fault of a replay of an input comes: by what was left of it, and its count of faults
 abbrev pub ReplayCause : ReplayFault → Option (List ℕ) → ℕ → ℕ → Type 0
-ReplayCause (replaying.Refused r) left before now = (text : List ℕ) × IsAllOf left text × IsRefused text r
-ReplayCause replaying.TooManyEvents left before now = (text : List ℕ) × IsAllOf left text × HasTooManyEvents text
-ReplayCause replaying.TooManyPackets left before now = (text : List ℕ) × IsAllOf left text × HasTooManyBytes text
+ReplayCause (replaying.Refused r) left before now = (text : List ℕ) × IsInput left text × IsRefused text r
+ReplayCause replaying.TooManyEvents left before now = (text : List ℕ) × IsInput left text × HasTooManyEvents text
+ReplayCause replaying.TooManyPackets left before now = (text : List ℕ) × IsInput left text × HasTooManyBytes text
 ReplayCause replaying.OutOfMemory left before now = ⊤
 ReplayCause replaying.Read left before now = Rose before now
 ReplayCause replaying.TooLong left before now = IsTooLong left
