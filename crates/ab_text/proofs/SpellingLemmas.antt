@@ -6,7 +6,7 @@ use Rattle.ab_text.specs.declared.event.Event.{Event}
 use Rattle.ab_text.specs.declared.fault.TextFault.{TextFault}
 use Rattle.ab_text.specs.declared.fault.TextFault.TheVariants.{BadLine, NoEnd}
 use Rattle.ab_text.specs.Lines.{lines_of}
-use Rattle.ab_text.specs.EventLines.{event_line, IsEvent}
+use Rattle.ab_text.specs.EventLines.{IsEvent}
 use Rattle.ab_text.specs.Heads.{Script, head_at}
 use Rattle.ab_text.specs.Schedules.{ReadsEvents, ReadsFaulty, ReadsText, Continues, with_event, with_faulty}
 use Rattle.ab_text.specs.Spelling.{head_lines, event_lines, faulty_lines, schedule_lines, AreFaulty, IsSchedule, IsSpelled}
