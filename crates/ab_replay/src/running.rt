@@ -25,10 +25,10 @@ use ab_world::{World, WorldFault, premise_is_exact, worlds_keep_promises};
 use ab_zlight::ZLight;
 use std::alloc::Global;
 
-/// The protocol of each kind of instance that is built.
+/// The protocol of each kind of instance.
 pub type AnyProtocol<S> = Choice<Quorum<S>, Choice<ZLight<S>, Chain<S>>>;
 
-/// A cluster under any plan that is built.
+/// A cluster under any plan.
 pub type AnyWorld<S> = World<S, AnyProtocol<S>>;
 
 /// How many events a schedule may have.
@@ -66,10 +66,6 @@ fn refusal_of_text(fault: TextFault) -> Option<Refusal>
             line,
             cause: Cause::BadLine,
         }),
-        TextFault::NotBuilt(line) => Some(Refusal {
-            line,
-            cause: Cause::NotBuilt,
-        }),
         TextFault::NoEnd(line) => Some(Refusal {
             line,
             cause: Cause::NoEnd,
@@ -83,7 +79,7 @@ fn refusal_of_step(line: u32, fault: WorldFault) -> Option<Refusal>
     ensures { result ≡ step_refusal line fault }
 {
     let cause = match fault {
-        WorldFault::NotBuilt => Cause::NotBuilt,
+        WorldFault::BadCommand => Cause::BadLine,
         WorldFault::NoPacket => Cause::NoPacket,
         WorldFault::BadParty => Cause::BadParty,
         WorldFault::Busy => Cause::Busy,
@@ -142,8 +138,7 @@ fn is_held(premise: &Premise) -> bool
     matches!(premise, Premise::Held)
 }
 
-/// The report of a schedule of few events under a plan that is built, with a service. The first event
-/// stands in the line after this one.
+/// The report of a schedule of few events, with a service. The first event stands in the line after this one.
 fn perform<S: Service>(
     alloc: Global,
     schedule: &Schedule,
@@ -181,7 +176,7 @@ fn simulate(alloc: Global, text: &[u8]) -> Result<Replayed, ReplayFault>
     if schedule.events.as_slice().len() > MOST_EVENTS {
         return Err(ReplayFault::TooManyEvents);
     }
-    // What was read is in form: the plan is built, and faulty parties are of the cluster.
+    // What was read is in form: faulty parties are of the cluster.
     read_is_in_form();
     let line = 7 + schedule.head.faulty.as_slice().len() as u32;
     match schedule.head.service {
