@@ -68,10 +68,6 @@ fn refusal_of_text(fault: TextFault) -> Option<Refusal>
             line,
             cause: Cause::BadLine,
         }),
-        TextFault::NotBuilt(line) => Some(Refusal {
-            line,
-            cause: Cause::NotBuilt,
-        }),
         TextFault::NoEnd(line) => Some(Refusal {
             line,
             cause: Cause::NoEnd,
@@ -85,7 +81,7 @@ fn refusal_of_step(line: u32, fault: WorldFault) -> Option<Refusal>
     ensures { result ≡ step_refusal line fault }
 {
     let cause = match fault {
-        WorldFault::NotBuilt => Cause::NotBuilt,
+        WorldFault::BadCommand => Cause::BadLine,
         WorldFault::NoPacket => Cause::NoPacket,
         WorldFault::BadParty => Cause::BadParty,
         WorldFault::Busy => Cause::Busy,

@@ -10,12 +10,10 @@ use Rattle.ab_replay.proofs.TextLemmas.{all_served}
 use Rattle.ab_replay.proofs.running.simulate.Goals as goal
 
 pub perform-requires-clause-served : goal.perform-requires-clause-served
-perform-requires-clause-served c =
-    let s = script_of c.in-Ok.schedule.head c.in-Ok.schedule.events in λ i one. all_served s.plan i
+perform-requires-clause-served c = λ i one. all_served c.in-Ok.schedule.head.cluster.plan i
 
 pub perform-requires-in-Kv-clause-served : goal.perform-requires-in-Kv-clause-served
-perform-requires-in-Kv-clause-served c =
-    let s = script_of c.in-Ok.schedule.head c.in-Ok.schedule.events in λ i one. all_served s.plan i
+perform-requires-in-Kv-clause-served c = λ i one. all_served c.in-Ok.schedule.head.cluster.plan i
 
 pub returns-in-Echo-clause-cause : goal.returns-in-Echo-clause-cause
 returns-in-Echo-clause-cause c =
