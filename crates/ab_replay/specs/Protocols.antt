@@ -1,4 +1,4 @@
--- The protocol of each kind of instance that is built.
+-- The protocol of each kind of instance.
 use Rattle.std.specs.Prelude.{Bool}
 use Rattle.ab_num.specs.declared.plan.Kind.{Kind}
 use Rattle.ab_svc.specs.Machines.{Machine}
