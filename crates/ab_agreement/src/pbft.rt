@@ -3,6 +3,7 @@
 ghost use Rattle.std.specs.Prelude.{◌≡◌, ◌+◌, ◌<◌, IfOk, IsErrOf};
 ghost use Rattle.ab_msg.specs.Pens.{moved};
 ghost use Rattle.ab_slots.specs.Turns.{input_of};
+ghost use Rattle.ab_shelf.specs.Signing.{signer_of};
 ghost use Rattle.ab_agreement.specs.Events.{next_of, post_of, signs_of};
 
 use crate::putting::put;
@@ -40,7 +41,9 @@ impl Model for Pbft {
 
 impl Pbft {
     /// Who signs.
-    fn signer(&self) -> Signer {
+    fn signer(&self) -> Signer
+        ensures { result ≡ signer_of self.now }
+    {
         Signer {
             cluster: self.cluster,
             instance: self.seat.instance,
