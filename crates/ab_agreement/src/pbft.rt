@@ -6,13 +6,12 @@ ghost use Rattle.ab_slots.specs.Turns.{input_of};
 ghost use Rattle.ab_shelf.specs.Signing.{signer_of};
 ghost use Rattle.ab_agreement.specs.Events.{next_of, post_of, signs_of};
 
-use crate::putting::put;
+use crate::putting::{receive, shelve};
 use ab_abs::{Entry, StepFault};
 use ab_backup::Orderer;
 use ab_hist::History;
 use ab_msg::{Notary, Outs};
 use ab_num::{Cluster, OutOfMemory};
-use ab_reading::read;
 use ab_shelf::{Shelf, Signer};
 use ab_slots::{Input, Memory, Seat, Turn};
 use ab_wire::MsgRef;
@@ -124,11 +123,10 @@ impl Orderer for Pbft {
         m: MsgRef<'_>,
         n: &mut N,
     ) -> Result<(Self, Outs), StepFault> {
-        let m = m.own(alloc)?;
-        let input = read(alloc, &self.cluster, self.seat.instance, &m)?;
-        let mut shelf = self.shelf.copy(alloc)?;
-        put(self.seat.f, &mut shelf, m, &input)?;
-        self.work(alloc, shelf, input, n)
+        let shelf = self.shelf.copy(alloc)?;
+        let (m, input) = receive(alloc, &self.cluster, self.seat.instance, m)?;
+        let held = shelve(self.seat.f, shelf, m, &input)?;
+        self.work(alloc, held, input, n)
     }
 
     fn timeout<N: Notary>(&self, alloc: Global, n: &mut N) -> Result<(Self, Outs), StepFault> {

@@ -1,17 +1,22 @@
-//! What came is put on the shelf.
+//! What came is read, and put on the shelf.
 
-ghost use Rattle.std.specs.Prelude.{◌≡◌, ℕ, OnOk};
+ghost use Rattle.std.specs.Prelude.{◌≡◌, ℕ, IfOk, OnOk};
 ghost use Rattle.ab_msg.specs.declared.content.Content.{Content};
 ghost use Rattle.ab_msg.specs.declared.message.Msg.{Msg as TheMsg};
 ghost use Rattle.ab_msg.specs.declared.message.Msg.TheVariants as msg;
+ghost use Rattle.ab_wire.specs.Views.{IsReceived, message};
 ghost use Rattle.ab_abs.specs.Messages.{took};
+ghost use Rattle.ab_order.specs.Readings.{read_message};
 ghost use Rattle.ab_slots.specs.Turns.{input_of};
 ghost use Rattle.ab_shelf.specs.Signing.{puts};
 
 use ab_msg::{Msg, Proof, Signed, Tags};
-use ab_num::OutOfMemory;
+use ab_num::{Cluster, OutOfMemory};
+use ab_reading::read;
 use ab_shelf::{Ballot, Shelf};
 use ab_slots::Input;
+use ab_wire::MsgRef;
+use std::alloc::Global;
 
 /// The tags of a request that is told.
 fn put_tags(shelf: &mut Shelf, tags: Tags, input: &Input) -> Result<(), OutOfMemory>
@@ -57,9 +62,25 @@ fn put_proof(f: u8, shelf: &mut Shelf, proof: Proof, input: &Input) -> Result<()
     }
 }
 
+/// A message with memory of its own, and what it tells a replica of this instance.
+pub(crate) fn receive(
+    alloc: Global,
+    c: &Cluster,
+    instance: u32,
+    m: MsgRef<'_>,
+) -> Result<(Msg, Input), OutOfMemory>
+    requires { IsReceived m }
+    ensures own { IfOk result (λ told. told.0 ≡ message m.entry) }
+    ensures tells { IfOk result (λ told. input_of told.1 ≡ read_message c.now instance (message m.entry)) }
+{
+    let m = m.own(alloc)?;
+    let input = read(alloc, c, instance, &m)?;
+    Ok((m, input))
+}
+
 /// Keeps what a message brings, which tells a replica this: a request's tags, a PREPARE of the present view, and a
 /// VIEW-CHANGE that fits where f replicas may be faulty. After an `Err` the shelf may be anything.
-pub(crate) fn put(f: u8, shelf: &mut Shelf, m: Msg, input: &Input) -> Result<(), OutOfMemory>
+fn put(f: u8, shelf: &mut Shelf, m: Msg, input: &Input) -> Result<(), OutOfMemory>
     ensures { OnOk result (shelf.new ≡ puts f (took m) (input_of input.now) shelf.old) }
 {
     match m {
@@ -71,4 +92,12 @@ pub(crate) fn put(f: u8, shelf: &mut Shelf, m: Msg, input: &Input) -> Result<(),
         Msg::ViewChange { change } => put_proof(f, shelf, change, input),
         _other => Ok(()),
     }
+}
+
+/// A shelf once what a message brings is on it.
+pub(crate) fn shelve(f: u8, mut shelf: Shelf, m: Msg, input: &Input) -> Result<Shelf, OutOfMemory>
+    ensures { IfOk result (λ held. held ≡ puts f (took m) (input_of input.now) shelf) }
+{
+    put(f, &mut shelf, m, input)?;
+    Ok(shelf)
 }
