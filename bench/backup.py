@@ -44,24 +44,28 @@ class Schedule:
             self.deliver(waiting)
         return self.delivered - before
 
-    def invoke(self):
-        self.requests += 1
-        for client in range(CLIENTS):
+    def invoke(self, clients=CLIENTS):
+        """That many clients invoke at once."""
+        for client in range(clients):
+            self.requests += 1
             self.lines.append(f"invoke c{client} put k{client} v{self.requests}")
 
     def time_out(self):
-        """Clients whose request no replica took ask again, and those that have none aren't there to time out."""
+        """Clients whose request no replica took ask again."""
         self.lines.extend(f"timeout c{client}" for client in range(CLIENTS))
 
 
 def begun():
-    """The first instances take 1, 2, 4, 8 and 16 requests, so that the first round needs all of these."""
+    """The first four instances take 1, 2, 4 and 8 requests, so that the first round of 16 needs a fifth, whose other 15 places
+    are filled by a second round. From then on each round is an instance."""
     made = Schedule()
     made.invoke()
     made.drain()
     for _ in range(4):
         made.time_out()
         made.drain()
+    made.invoke(15)
+    made.drain()
     return made
 
 
@@ -69,13 +73,13 @@ def main():
     for commits in (250, 500, 1000):
         made = begun()
         packets = None
-        while made.requests * CLIENTS < commits:
+        while made.requests < commits:
             made.invoke()
             if packets is None:
                 packets = made.drain()
             else:
                 made.deliver(packets)
-        time_replay(f"{made.requests * CLIENTS} commits", made.lines, made.requests * CLIENTS)
+        time_replay(f"{made.requests} commits", made.lines, made.requests)
 
 
 if __name__ == "__main__":
