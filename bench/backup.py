@@ -4,6 +4,8 @@
 A Backup takes at most 16 requests, so each round of the 16 clients needs an instance of its own: the replicas have stopped,
 answer with their ABORTs, and the clients carry their requests into the next instance. Prints, for 250, 500 and 1,000
 commits, the events, the seconds, events per second and the peak memory of the program.
+
+How many packets a round sends is learned from the program, round by round, which takes some minutes.
 """
 
 import subprocess
@@ -70,15 +72,13 @@ def begun():
 
 
 def main():
+    made = begun()
+    made.invoke()
+    packets = made.drain()
     for commits in (250, 500, 1000):
-        made = begun()
-        packets = None
         while made.requests < commits:
             made.invoke()
-            if packets is None:
-                packets = made.drain()
-            else:
-                made.deliver(packets)
+            made.deliver(packets)
         time_replay(f"{made.requests} commits", made.lines, made.requests)
 
 
