@@ -2,8 +2,9 @@
 """Times replays of Backup alone: 16 clients invoke at once, again and again, and every packet is delivered in its order.
 
 A Backup takes at most 16 requests, so each round of the 16 clients needs an instance of its own: the replicas have stopped,
-answer with their ABORTs, and the clients carry their requests into the next instance. Prints, for 250, 500 and 1,000
-commits, the events, the seconds, events per second and the peak memory of the program.
+answer with their ABORTs, and the clients carry their requests into the next instance. Prints, for 200, 400 and 800
+commits, the events, the seconds, events per second and the peak memory of the program. A replica can sign 1,024 times, once for
+each slot and once for each ABORT, which is enough for some 900.
 
 How many packets a round sends is learned from the program, round by round, which takes some minutes.
 """
@@ -75,7 +76,7 @@ def main():
     made = begun()
     made.invoke()
     packets = made.drain()
-    for commits in (250, 500, 1000):
+    for commits in (200, 400, 800):
         while made.requests < commits:
             made.invoke()
             made.deliver(packets)
