@@ -29,7 +29,7 @@ use Rattle.ab_world.specs.declared.fault.WorldFault.{WorldFault}
 use Rattle.ab_world.specs.declared.fault.WorldFault.TheVariants.{BadParty, EventLimit, PacketLimit, NotBuilt}
 use Rattle.ab_world.specs.Steps.{Happening, Given, ask, hand, ring, refuse_command, asked_at, asked, handed, rung, delivered, happening, ready_in, ready, after, within_limit, stepped_by, stepped}
 use Rattle.ab_world.specs.Worlds.{World, start}
-use Rattle.ab_world.proofs.SeatLemmas.{length-first_seats}
+use Rattle.ab_world.proofs.SeatLemmas.{length-first_seats, length-first_sites}
 use Rattle.ab_storm_run.specs.Standing.{Goes}
 use Rattle.ab_storm_run.specs.Runs.{idle_of, drawn_at, storm_of, storm_setup}
 use Rattle.ab_storm_run.proofs.Stepping.{given_keeps}
@@ -242,6 +242,7 @@ module _ {P : Type 0} (proto : Proto P) (s : Storm) (w : World P) (goes : Goes s
       let over : GoesOver (after proto w (happened h)) = record {
         goes = record {
           cluster = next_same (length w.packets) (idle_of w) s ∙ goes.cluster ∙ sym (ap (λ (y : Setup). y.cluster) keeps.setup);
+          replicas = keeps.replicas ∙ goes.replicas ∙ sym (ap (λ (y : Setup). 3 * y.cluster.f + 1) keeps.setup);
           clients = keeps.clients ∙ goes.clients ∙ sym (ap (λ (y : Setup). y.cluster.clients) keeps.setup);
           ended = keeps.ended ∙ goes.ended;
         };
@@ -259,4 +260,4 @@ module _ {P : Type 0} (proto : Proto P) (s : Storm) (w : World P) (goes : Goes s
 
 -- a storm goes over its cluster before the first event
 pub storm_goes : {P : Type 0} (proto : Proto P) (c : Cluster) (seed : ℕ) → Goes (storm_of c seed) (start proto (storm_setup c))
-storm_goes proto c seed = record { cluster = refl; clients = length-first_seats c c.clients; ended = refl }
+storm_goes proto c seed = record { cluster = refl; replicas = length-first_sites (storm_setup c) proto (3 * c.f + 1); clients = length-first_seats c c.clients; ended = refl }

@@ -62,8 +62,8 @@ pub drawn_so : {P : Type 0} (s t : Storm) (w : World P) (e : Event) (packets : �
 drawn_so s t w e packets idle sent free is =
     let so : ◌≡◌ {A = Event × Storm} (e, t) (drawn_at s w) = is ∙ (λ j. next_of (sent j) (free j) s) in (ap (λ d. d.0) so, ap (λ d. d.1) so)
 
-apart : (n : ℕ) (f : StormFault) → ◌≡◌ {A = Option StormFault} (Some f) None → ⊥
-apart n f is = cc (is)
+some_none : (f : StormFault) → ◌≡◌ {A = Option StormFault} (Some f) None → ⊥
+some_none f is = cc (is)
 
 module _ {P : Type 0} (proto : Proto P) where
   ok_same : (w v : World P) → ◌≡◌ {A = Result (World P) (ℕ × WorldFault)} (Ok w) (Ok v) → w ≡ v
@@ -104,10 +104,10 @@ module _ {P : Type 0} (proto : Proto P) where
   end_caused w event n PacketLimit e is cause = subst (λ (g : StormFault). StepCause g n (stepped proto w event)) (some_same e TooManyPackets is) cause
   end_caused w event n BadParty e is cause = subst (λ (g : StormFault). StepCause g n (stepped proto w event)) (some_same e (NoReceiver n) is) (refl, cause)
   end_caused w event n NoMemory e is cause = subst (λ (g : StormFault). StepCause g n (stepped proto w event)) (some_same e OutOfMemory is) tt
-  end_caused w event n EventLimit e is cause = absurd (apart n e is)
-  end_caused w event n NotBuilt e is cause = absurd (apart n e is)
-  end_caused w event n NoPacket e is cause = absurd (apart n e is)
-  end_caused w event n Busy e is cause = absurd (apart n e is)
+  end_caused w event n EventLimit e is cause = absurd (some_none e is)
+  end_caused w event n NotBuilt e is cause = absurd (some_none e is)
+  end_caused w event n NoPacket e is cause = absurd (some_none e is)
+  end_caused w event n Busy e is cause = absurd (some_none e is)
 
   -- no event is left
   pub run_done : (n i : ℕ) (s : Storm) (w : World P) → i ≡ n → outcome proto (i + 1) w (drawn_events proto (n - i) s w) ≡ Ok w
