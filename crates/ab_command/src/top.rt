@@ -175,7 +175,7 @@ fn serve<I: Source, O: Sink, E: Sink>(
 /// - 0: the report was written, and its premise line says `held`; or the key text was written.
 /// - 1: the report was written, and its premise line says `broken`.
 /// - 2: the words are no command.
-/// - 3: a line is out of form or not built, or its event is refused.
+/// - 3: a line is out of form or missing, or its event is refused.
 /// - 4: `input` failed.
 /// - 5: `out` or `err` failed.
 /// - 7: the input has more bytes or more events than are taken, or the packets of its run have more

@@ -26,7 +26,7 @@ use Rattle.ab_cast.specs.Setups.{Setup, own_place, numbered_place, place_of}
 use Rattle.ab_cast.specs.Cores.{client}
 use Rattle.ab_cast.specs.Casts.{is_free, first_seat, first_seats}
 use Rattle.ab_world.specs.declared.fault.WorldFault.{WorldFault}
-use Rattle.ab_world.specs.declared.fault.WorldFault.TheVariants.{BadParty, EventLimit, PacketLimit, NotBuilt}
+use Rattle.ab_world.specs.declared.fault.WorldFault.TheVariants.{BadParty, EventLimit, PacketLimit, BadCommand}
 use Rattle.ab_world.specs.Steps.{Happening, Given, ask, hand, ring, refuse_command, asked_at, asked, handed, rung, delivered, happening, ready_in, ready, after, within_limit, stepped_by, stepped}
 use Rattle.ab_world.specs.Worlds.{World, start}
 use Rattle.ab_world.proofs.SeatLemmas.{length-first_seats, length-first_sites}
@@ -98,7 +98,7 @@ module _ {P : Type 0} (w : World P) (all : length w.cast.clients ≡ w.cast.setu
   free_within c (Some s) at e = subst (λ n. c < n) all (slice_get_within w.cast.clients c s at)
 
   invoked : (p : Party) (twin : Option ℕ) (bytes : ArrayVec ℕ) → twin ≡ None → IsAsked (idle_of w) p bytes.items
-      → Gives (if nat_le 1 (length bytes.items) && nat_le (length bytes.items) 128 then asked w bytes (place_of x p twin) else Err NotBuilt)
+      → Gives (if nat_le 1 (length bytes.items) && nat_le (length bytes.items) 128 then asked w bytes (place_of x p twin) else Err BadCommand)
   invoked (Replica r) twin bytes e is = absurd is
   invoked (Client c) (Some t) bytes e is = absurd (cc (e))
   invoked (Client c) None bytes e (idle, some, few) =
@@ -108,7 +108,7 @@ module _ {P : Type 0} (w : World P) (all : length w.cast.clients ≡ w.cast.setu
         party = Client c;
         given = ask bytes;
         gives =
-            ap (λ b. if b then asked w bytes (place_of x (Client c) None) else Err NotBuilt) (within_command (length bytes.items) some few)
+            ap (λ b. if b then asked w bytes (place_of x (Client c) None) else Err BadCommand) (within_command (length bytes.items) some few)
             ∙ ap (asked w bytes) (own_there x (Client c) (lt-ltb c x.cluster.clients lt))
             ∙ seat_asked c bytes (slice_get w.cast.clients c) free;
       }

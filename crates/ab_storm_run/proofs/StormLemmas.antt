@@ -14,7 +14,7 @@ use Rattle.ab_text.specs.declared.event.Event.{Event}
 use Rattle.ab_words.specs.Commands.{StormCommand}
 use Rattle.ab_storm.specs.Storms.{Storm, next_of}
 use Rattle.ab_world.specs.declared.fault.WorldFault.{WorldFault}
-use Rattle.ab_world.specs.declared.fault.WorldFault.TheVariants.{PacketLimit, EventLimit, NotBuilt, NoPacket, BadParty, Busy, OutOfMemory as NoMemory}
+use Rattle.ab_world.specs.declared.fault.WorldFault.TheVariants.{PacketLimit, EventLimit, BadCommand, NoPacket, BadParty, Busy, OutOfMemory as NoMemory}
 use Rattle.ab_keys.specs.Keys.{is_party}
 use Rattle.ab_world.specs.Steps.{Cause, Happening, happening, stepped}
 use Rattle.ab_world.specs.Runs.{outcome, refused_or}
@@ -92,7 +92,7 @@ module _ {P : Type 0} (proto : Proto P) where
   fault_ends s w n BadParty goes few cause = tt
   fault_ends s w n NoMemory goes few cause = tt
   fault_ends s w n EventLimit goes few cause = refusal_ends s w n EventLimit goes few cause
-  fault_ends s w n NotBuilt goes few cause = refusal_ends s w n NotBuilt goes few cause
+  fault_ends s w n BadCommand goes few cause = refusal_ends s w n BadCommand goes few cause
   fault_ends s w n NoPacket goes few cause = refusal_ends s w n NoPacket goes few cause
   fault_ends s w n Busy goes few cause = refusal_ends s w n Busy goes few cause
 
@@ -105,7 +105,7 @@ module _ {P : Type 0} (proto : Proto P) where
   end_caused w event n BadParty e is cause = subst (λ (g : StormFault). StepCause g n (stepped proto w event)) (some_same e (NoReceiver n) is) (refl, cause)
   end_caused w event n NoMemory e is cause = subst (λ (g : StormFault). StepCause g n (stepped proto w event)) (some_same e OutOfMemory is) tt
   end_caused w event n EventLimit e is cause = absurd (some_none e is)
-  end_caused w event n NotBuilt e is cause = absurd (some_none e is)
+  end_caused w event n BadCommand e is cause = absurd (some_none e is)
   end_caused w event n NoPacket e is cause = absurd (some_none e is)
   end_caused w event n Busy e is cause = absurd (some_none e is)
 

@@ -62,7 +62,7 @@ fn ended_by(number: u32, fault: WorldFault) -> StormFault
         WorldFault::PacketLimit => StormFault::TooManyPackets,
         WorldFault::BadParty => StormFault::NoReceiver(number),
         WorldFault::OutOfMemory => StormFault::OutOfMemory,
-        WorldFault::EventLimit | WorldFault::NotBuilt => unreachable!(),
+        WorldFault::EventLimit | WorldFault::BadCommand => unreachable!(),
         WorldFault::NoPacket | WorldFault::Busy => unreachable!(),
     }
 }
