@@ -9,9 +9,12 @@ use Rattle.ab_num.specs.declared.cluster.Cluster.{Cluster}
 use Rattle.ab_num.specs.declared.plan.Kind.{Kind}
 use Rattle.ab_num.specs.declared.party.Party.TheVariants.{Replica, Client}
 use Rattle.ab_num.specs.Places.{kind_of}
+use Rattle.ab_hist.specs.declared.request.Request.{Request}
 use Rattle.ab_msg.specs.declared.message.Msg.{Msg}
 use Rattle.ab_msg.specs.declared.message.Out.{Out}
+use Rattle.ab_abs.specs.declared.ballot.Ballot.{Ballot}
 use Rattle.ab_abs.specs.declared.seen.Seen.{Seen}
+use Rattle.ab_abs.specs.declared.seen.Seen.TheVariants.{Committed}
 use Rattle.ab_abs.specs.Ensembles.{Proto}
 use Rattle.ab_abs.specs.Places.{KeepsForm}
 use Rattle.ab_abs.specs.Promises.{ServesAll}
@@ -20,13 +23,14 @@ use Rattle.ab_replica.specs.Sites.{Site}
 use Rattle.ab_run.specs.Local.{Cue, rep_marks, cli_after, cli_sends, cli_marks}
 use Rattle.ab_run.proofs.Listed.{set_hit, set_miss, set_length, get_before, get_last}
 use Rattle.ab_client.specs.Clients.{Seat, alone, after, sends, marks}
+use Rattle.ab_client.specs.Moved.{IsLastVote}
 use Rattle.ab_run.specs.Forms.{IsDraftOf}
 use Rattle.ab_cast.specs.declared.place.Place.{Place}
 use Rattle.ab_cast.specs.declared.place.Place.TheVariants as place
 use Rattle.ab_cast.specs.declared.fault.CommandFault.TheVariants.{Busy}
 use Rattle.ab_run.specs.declared.phase.Phase.TheVariants.{Idle}
 use Rattle.ab_cast.specs.Setups.{Setup, run_setup, replica_twins, client_twins, place_of, party_at}
-use Rattle.ab_cast.specs.Cores.{Core, replica, client, Taken, message, cue_of}
+use Rattle.ab_cast.specs.Cores.{ClientCommits, CommitsAtOnce, Core, replica, client, Taken, message, time, cue_of}
 use Rattle.ab_cast.specs.declared.given.Given.{Given}
 use Rattle.ab_cast.specs.Hearing.{IsGiven, RepHears, call_of, taken_of}
 use Rattle.ab_cast.specs.Casts.{Cast, core_at, with_core, next, first_seat, first_seats, first_site, first_sites, first_cast, is_idle, command_refusal, IsTaken, IsSeat, AreSeats, AreTwinSeats, IsSite, AreOwn, AreTwins, IsCast}
@@ -326,6 +330,21 @@ module _ {P : Type 0} (proto : Proto P) (serves : Kind → Bool) (x : Cast P) (i
           drafts = seat_drafts n x.events s seat (cue_of t) outs (does.drafts s here (few_clients n x.events s there.0 seat));
         }
 
+-- ---- commits at once
+
+-- what a client is handed, as the code reads it where the client stands
+module _ (s seat : Seat) (same : s ≡ seat) (t : Taken) (seen : Seen) where
+  pub message_commits : (m : Msg) → t ≡ message m → (T : Type 0)
+      → ((r : Request) (b : Ballot) → IsLastVote seat m r b → seen ≡ Committed seat.cli.at seat.me r b.n b.d b.reply → T) → ClientCommits s t seen → T
+  message_commits m is T each commits =
+      let there : ClientCommits seat (message m) seen = subst (λ (u : Taken). ClientCommits seat u seen) is (subst (λ (q : Seat). ClientCommits q t seen) same commits) in
+      each there.0 there.1 there.2 there.3
+
+  pub time_commits : t ≡ time → (T : Type 0) → ClientCommits s t seen → T
+  time_commits is T commits =
+      let there : ClientCommits seat time seen = subst (λ (u : Taken). ClientCommits seat u seen) is (subst (λ (q : Seat). ClientCommits q t seen) same commits) in
+      absurd there
+
 -- ---- what clauses say of the core at a place
 
 module _ {P : Type 0} where
@@ -334,6 +353,17 @@ module _ {P : Type 0} where
 
   pub client_core : (xs : List Seat) (i : ℕ) (Q : Core P → Type 0) → ((t : Seat) → slice_get xs i ≡ Some t → Q (client t)) → (s : Core P) → option_map client (slice_get xs i) ≡ Some s → Q s
   client_core xs i Q each s at = let m = mapped_cases client (slice_get xs i) s at in subst Q m.1.1 (each m.0 m.1.0)
+
+  -- what follows where the core at a place commits at once
+  abbrev pub WhereCommits : Taken → Seen → Type 0 → Core P → Type 0
+  WhereCommits t seen T s = CommitsAtOnce s t seen → T
+
+  pub no_replica_commits : (xs : List (Site P)) (i : ℕ) (t : Taken) (seen : Seen) (T : Type 0) → (s : Core P) → option_map replica (slice_get xs i) ≡ Some s → WhereCommits t seen T s
+  no_replica_commits xs i t seen T = replica_core xs i (WhereCommits t seen T) (λ q at commits. absurd commits)
+
+  pub client_commits : (xs : List Seat) (i : ℕ) (t : Taken) (seen : Seen) (T : Type 0) → ((s : Seat) → slice_get xs i ≡ Some s → ClientCommits s t seen → T)
+      → (s : Core P) → option_map client (slice_get xs i) ≡ Some s → WhereCommits t seen T s
+  client_commits xs i t seen T each = client_core xs i (WhereCommits t seen T) each
 
   module _ (x now : Cast P) (view : x ≡ now) (p at : Place) (placed : p ≡ at) where
     pub at_core : (Q : Cast P → Place → Core P → Type 0) → ((s : Core P) → core_at x at ≡ Some s → Q x at s) → (s : Core P) → core_at now p ≡ Some s → Q now p s

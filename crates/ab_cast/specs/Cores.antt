@@ -1,13 +1,16 @@
 -- A core of a party, and what it does with what comes to it.
-use Rattle.std.specs.Prelude.{ℕ, ◌+◌, Bool, false, List, []}
+use Rattle.std.specs.Prelude.{◌≡◌, ℕ, ◌+◌, Bool, false, List, []}
 use Rattle.arrayvec.specs.ArrayVec.{ArrayVec}
 use Rattle.ab_num.specs.declared.party.Party.{Party}
 use Rattle.ab_num.specs.declared.party.Party.TheVariants.{Replica, Client}
+use Rattle.ab_hist.specs.declared.request.Request.{Request}
 use Rattle.ab_msg.specs.declared.content.Content.{Content}
 use Rattle.ab_msg.specs.declared.message.Msg.{Msg}
 use Rattle.ab_msg.specs.declared.message.Out.{Out}
 use Rattle.ab_msg.specs.Claims.{claims}
+use Rattle.ab_abs.specs.declared.ballot.Ballot.{Ballot}
 use Rattle.ab_abs.specs.declared.seen.Seen.{Seen}
+use Rattle.ab_abs.specs.declared.seen.Seen.TheVariants.{Committed}
 use Rattle.ab_abs.specs.Messages.{Call, took, timed}
 use Rattle.ab_abs.specs.Ensembles.{Proto}
 use Rattle.ab_run.specs.Setups.{Setup as RunSetup}
@@ -16,6 +19,7 @@ use Rattle.ab_replica.specs.Sites.{Site}
 use Rattle.ab_replica.specs.Doings.{entries_in}
 use Rattle.ab_run.specs.Local.{Cue, cue_command, cue_message, cue_time, rep_after, rep_sends, rep_marks, cli_after, cli_sends, cli_marks}
 use Rattle.ab_client.specs.Clients.{Seat}
+use Rattle.ab_client.specs.Moved.{IsLastVote}
 use Rattle.ab_cast.specs.Setups.{Setup, run_setup}
 
 -- a replica or a client, where it is
@@ -43,6 +47,18 @@ abbrev pub taken_claims : ℕ → Party → Taken → List Content
 taken_claims f p (command bytes) = []
 taken_claims f p (message m) = claims f p m
 taken_claims f p time = []
+
+-- what client s is handed completes the equal first answers of all replicas, in an instance of Quorum or ZLight, and by them it commits
+-- what is seen
+abbrev pub ClientCommits : Seat → Taken → Seen → Type 0
+ClientCommits s (command bytes) seen = ⊥
+ClientCommits s (message m) seen = (r : Request) × (b : Ballot) × IsLastVote s m r b × (seen ≡ Committed s.cli.at s.me r b.n b.d b.reply)
+ClientCommits s time seen = ⊥
+
+-- the same of a core. A replica commits nothing
+abbrev pub CommitsAtOnce : {P : Type 0} → Core P → Taken → Seen → Type 0
+CommitsAtOnce (replica s) t seen = ⊥
+CommitsAtOnce (client s) t seen = ClientCommits s t seen
 
 -- where a replica is after a call
 abbrev pub site_after : {P : Type 0} → RunSetup → Proto P → ℕ → Site P → Call → Site P

@@ -1,12 +1,13 @@
 //! The cores of all parties.
 
-ghost use Rattle.std.specs.Prelude.{option_and_then, ◌≡◌, ◌+◌, ◌*◌, ◌<◌, ◌≤◌, ℕ, IsTrue, IfOk, IfErr, OnOk, OnErr, Option, Some, None, length, slice_get};
+ghost use Rattle.std.specs.Prelude.{option_and_then, ◌≡◌, ◌+◌, ◌*◌, ◌<◌, ◌≤◌, ℕ, IsTrue, IsOkAnd, IfOk, IfErr, OnOk, OnErr, Option, Some, None, [], ◌∷◌, length, slice_get};
 ghost use Rattle.std.specs.Option.{option_map};
 ghost use Rattle.ab_num.specs.declared.party.Party.{Party as TheParty};
+ghost use Rattle.ab_abs.specs.declared.seen.Seen.{Seen};
 ghost use Rattle.ab_abs.specs.Promises.{ServesAll};
 ghost use Rattle.ab_wire.specs.Views.{IsReceived, message as message_of};
 ghost use Rattle.ab_cast.specs.Setups.{place_of, party_at};
-ghost use Rattle.ab_cast.specs.Cores.{Core, command, message, time};
+ghost use Rattle.ab_cast.specs.Cores.{CommitsAtOnce, Core, command, message, time};
 ghost use Rattle.ab_cast.specs.Hearing.{IsGiven, taken_of};
 ghost use Rattle.ab_cast.specs.Casts.{AreSeats, IsTaken, core_at, next, first_cast, is_free, command_refusal, CommandCause};
 
@@ -174,6 +175,10 @@ impl<S: Service, P: Protocol<S>> Cast<S, P> {
         requires there { (twin : Option ℕ) × (place_of self.old.setup (party_at place) twin ≡ Some place) }
         ensures taken { (s : Core P) → core_at self.old place ≡ Some s
             → IfOk result (λ e. IsTaken P.proto self.old place s (message (message_of m.entry)) self.new e.outs e.marks.items e.spent) }
+
+        // What makes a client commit at once can't be refused.
+        ensures at_once { (s : Core P) (seen : Seen) → core_at self.old place ≡ Some s → CommitsAtOnce s (message (message_of m.entry)) seen
+            → IsOkAnd result (λ e. e.marks.items ≡ seen ∷ []) }
         ensures err { OnErr result (self.new ≡ self.old) }
     {
         self.give(alloc, place, Given::Message(m))
@@ -202,6 +207,8 @@ impl<S: Service, P: Protocol<S>> Cast<S, P> {
         requires there { (twin : Option ℕ) × (place_of self.old.setup (party_at place) twin ≡ Some place) }
         ensures taken { (s : Core P) → core_at self.old place ≡ Some s
             → IfOk result (λ e. IsTaken P.proto self.old place s (taken_of given.entry) self.new e.outs e.marks.items e.spent) }
+        ensures at_once { (s : Core P) (seen : Seen) → core_at self.old place ≡ Some s → CommitsAtOnce s (taken_of given.entry) seen
+            → IsOkAnd result (λ e. e.marks.items ≡ seen ∷ []) }
         ensures err { OnErr result (self.new ≡ self.old) }
     {
         match place {

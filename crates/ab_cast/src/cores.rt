@@ -1,14 +1,15 @@
 //! Events of single cores, and the cores before the first event.
 
-ghost use Rattle.std.specs.Prelude.{◌≡◌, ◌≢◌, ◌+◌, ◌*◌, ◌-◌, ◌^◌, ◌<◌, ◌≤◌, ◌++◌, ◌⊎◌, false, ℕ, All, IsTrue, IfOk, IfErr, OnOk, OnErr, length, map, replicate, slice_get, slice_set, vec_len};
+ghost use Rattle.std.specs.Prelude.{◌≡◌, ◌≢◌, ◌+◌, ◌*◌, ◌-◌, ◌^◌, ◌<◌, ◌≤◌, ◌++◌, ◌⊎◌, false, [], ◌∷◌, ℕ, All, IsTrue, IsOkAnd, IfOk, IfErr, OnOk, OnErr, length, map, replicate, slice_get, slice_set, vec_len};
 ghost use Rattle.ab_num.specs.declared.party.Party.TheVariants.{Client as ClientParty};
+ghost use Rattle.ab_abs.specs.declared.seen.Seen.{Seen};
 ghost use Rattle.ab_abs.specs.Promises.{ServesAll};
 ghost use Rattle.ab_run.specs.Forms.{IsDraftOf};
 ghost use Rattle.ab_run.specs.declared.phase.Phase.TheVariants.{Idle};
 ghost use Rattle.ab_replica.specs.Sites.{Site};
 ghost use Rattle.ab_client.specs.Clients.{Seat, told, after, sends, marks};
 ghost use Rattle.ab_cast.specs.Setups.{client_twins, replica_twins, signatures_of};
-ghost use Rattle.ab_cast.specs.Cores.{cue_of};
+ghost use Rattle.ab_cast.specs.Cores.{ClientCommits, cue_of};
 ghost use Rattle.ab_cast.specs.Hearing.{IsGiven, RepHears, call_of, taken_of};
 ghost use Rattle.ab_cast.specs.Casts.{IsSite, first_seat, first_seats, first_site, first_sites};
 
@@ -177,6 +178,7 @@ pub(crate) fn hear_client(
     ensures drafts { (s : Seat) → slice_get cores.old.items at ≡ Some s → s.me ≤ 15 → IfOk result (λ e. All (IsDraftOf s.cluster.f (ClientParty s.me)) e.outs) }
     ensures spent { IfOk result (λ e. e.spent ≡ false) }
     ensures stamp { (s : Seat) → slice_get cores.old.items at ≡ Some s → OnOk result ((after s (cue_of (taken_of given.entry))).cli.stamp ≡ s.cli.stamp) }
+    ensures at_once { (s : Seat) (seen : Seen) → slice_get cores.old.items at ≡ Some s → ClientCommits s (taken_of given.entry) seen → IsOkAnd result (λ e. e.marks.items ≡ seen ∷ []) }
     ensures err { OnErr result (cores.new.items ≡ cores.old.items) }
 {
     let core = &mut cores[at];

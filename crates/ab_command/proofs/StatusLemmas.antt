@@ -16,7 +16,7 @@ use Rattle.ab_replay.specs.declared.refusal.Refusal.{Refusal}
 use Rattle.ab_command.specs.declared.status.Status.{Status}
 use Rattle.ab_command.specs.declared.status.Status.TheVariants.{Done, Broken, Usage, Refused, ReadFault, WriteFault, Limit, OutOfMemory}
 use Rattle.ab_command.specs.Texts.{code_of}
-use Rattle.ab_replay.specs.Streams.{IsAllOf, IsTooLong}
+use Rattle.ab_replay.specs.Streams.{IsAllOf, IsInput, IsTooLong}
 use Rattle.ab_words.specs.declared.command.Command.{Command}
 use Rattle.ab_words.specs.declared.command.Command.TheVariants.{Replay, Keys, Storm}
 use Rattle.ab_words.specs.Commands.{KeysCommand, StormCommand}
@@ -73,8 +73,8 @@ same_storm words j k one other = let e : ◌≡◌ {A = Option Command} (Some (S
 
 module _ (one : (text : List ℕ) (r q : Result Script TextFault) → ReadsText text r → ReadsText text q → r ≡ q) (c : Call) (clear : IsClear c) where
   -- the bytes that were read are those that the input tells
-  same_text : (text : List ℕ) → IsAllOf c.left text → text ≡ clear.text
-  same_text text all = sym (subst (λ left. IsAllOf left text) clear.input all)
+  same_text : (text : List ℕ) → IsInput c.left text → text ≡ clear.text
+  same_text text input = sym (subst (λ left. IsAllOf left text) clear.input input.all)
 
   not_ended : (text : List ℕ) (s : Script) (n : ℕ) (f : WorldFault) → text ≡ clear.text → ReadsText text (Ok s) → Runs s (Err (n, f)) → ⊥
   not_ended text s n f same reads ends =
@@ -91,9 +91,9 @@ module _ (one : (text : List ℕ) (r q : Result Script TextFault) → ReadsText 
 
   -- the report says whether the premises hold at the end of the run that the input tells
   says_clear : (held : Bool) → HasReport held c → IsTrue held ↔ (premise_of clear.end ≡ Held)
-  says_clear held (report, (text, all, replays), appended) =
+  says_clear held (report, (text, input, replays), appended) =
       let s = replays.schedule in
-      let e : Ok s ≡ Ok clear.schedule = one clear.text (Ok s) (Ok clear.schedule) (subst (λ t. ReadsText t (Ok s)) (same_text text all) replays.reads) clear.reads in
+      let e : Ok s ≡ Ok clear.schedule = one clear.text (Ok s) (Ok clear.schedule) (subst (λ t. ReadsText t (Ok s)) (same_text text input) replays.reads) clear.reads in
       let is : s ≡ clear.schedule = cc in
       said_of s.service s report held clear.end replays.performs (subst (λ (q : Script). Runs q (Ok clear.end)) (sym is) clear.runs)
 
@@ -104,7 +104,7 @@ module _ (one : (text : List ℕ) (r q : Result Script TextFault) → ReadsText 
   clear_status Broken (inl (words, report), kept) = inl (code_of_broken (premise_of clear.end) ((says_clear false report).1))
   clear_status Broken (inr (k, summary, asks, storms, written), kept) = absurd (not_replay c.words k clear.words asks)
   clear_status Usage (others, none, kept, said) = absurd (others clear.words)
-  clear_status (Refused r) (inl (words, (text, all, refused)), kept, said) = absurd (not_refused text r (same_text text all) refused)
+  clear_status (Refused r) (inl (words, (text, input, refused)), kept, said) = absurd (not_refused text r (same_text text input) refused)
   clear_status (Refused r) (inr (k, asks, strays), kept, said) = absurd (not_replay c.words k clear.words asks)
   clear_status ReadFault (words, rose, kept, said) = absurd (clear.read rose)
   clear_status WriteFault (rose, front) = elim rose [
@@ -113,12 +113,12 @@ module _ (one : (text : List ℕ) (r q : Result Script TextFault) → ReadsText 
   ]
   clear_status (Limit Bytes) (words, long, kept, said) =
       absurd (let above : 67108864 < length clear.text = subst IsTooLong clear.input long in omega (arith, above, clear.short))
-  clear_status (Limit Events) (words, (text, all, (s, reads, many)), kept, said) =
-      absurd (let e : Ok s ≡ Ok clear.schedule = one clear.text (Ok s) (Ok clear.schedule) (subst (λ t. ReadsText t (Ok s)) (same_text text all) reads) clear.reads in
+  clear_status (Limit Events) (words, (text, input, (s, reads, many)), kept, said) =
+      absurd (let e : Ok s ≡ Ok clear.schedule = one clear.text (Ok s) (Ok clear.schedule) (subst (λ t. ReadsText t (Ok s)) (same_text text input) reads) clear.reads in
       let same : s ≡ clear.schedule = cc in
       omega (arith, many, ap (λ x. length x.events) same, clear.few))
-  clear_status (Limit Packets) (inl (words, (text, all, many)), kept, said) =
-      absurd (not_ended text many.schedule many.event PacketLimit (same_text text all) many.reads many.runs)
+  clear_status (Limit Packets) (inl (words, (text, input, many)), kept, said) =
+      absurd (not_ended text many.schedule many.event PacketLimit (same_text text input) many.reads many.runs)
   clear_status (Limit Packets) (inr (k, n, asks, passes), kept, said) = absurd (not_replay c.words k clear.words asks)
   clear_status OutOfMemory cause = inr refl
 

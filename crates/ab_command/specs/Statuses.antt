@@ -6,7 +6,7 @@ use Rattle.ab_command.specs.declared.status.Bound.TheVariants.{Bytes, Events, Pa
 use Rattle.ab_command.specs.declared.status.Status.{Status}
 use Rattle.ab_command.specs.declared.status.Status.TheVariants.{Done, Broken, Usage, Refused, ReadFault, WriteFault, Limit, OutOfMemory}
 use Rattle.ab_command.specs.Texts.{code_of, text_of}
-use Rattle.ab_replay.specs.Streams.{IsAllOf, IsTooLong, AppendsFront, AppendsPart}
+use Rattle.ab_replay.specs.Streams.{IsInput, IsTooLong, AppendsFront, AppendsPart}
 use Rattle.ab_text.specs.Heads.{Script}
 use Rattle.ab_text.specs.Schedules.{ReadsText}
 use Rattle.ab_text.specs.declared.line.Premise.{Premise}
@@ -61,9 +61,9 @@ KeepsOut c = Keeps c.out_old c.out_new
 abbrev pub IsReplay : List (List ℕ) → Type 0
 IsReplay words = command_in words ≡ Some Replay
 
--- the input was read to its end, and its bytes are so
+-- the input was read to its end, of no more bytes than a program reads, and its bytes are so
 abbrev pub HasInput : (List ℕ → Type 0) → Call → Type 0
-HasInput Is c = (text : List ℕ) × IsAllOf c.left text × Is text
+HasInput Is c = (text : List ℕ) × IsInput c.left text × Is text
 
 -- out got the report of the run that the input spells, and nothing else. Its premise line says `held` or `broken`
 abbrev pub HasReport : Bool → Call → Type 0

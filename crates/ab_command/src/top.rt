@@ -222,7 +222,7 @@ fn serve<I: Source, O: Sink, E: Sink>(
 ///   written.
 /// - 1: the report or the summary was written, and its premise line says `broken`.
 /// - 2: the words are no command.
-/// - 3: a line is out of form or not built, or its event is refused; or the event of a storm with the
+/// - 3: a line is out of form or missing, or its event is refused; or the event of a storm with the
 ///   line's number delivers a packet that was sent to no party of the cluster.
 /// - 4: `input` failed.
 /// - 5: `out` or `err` failed.

@@ -29,7 +29,7 @@ use Rattle.ab_cast.specs.Setups.{Setup, party_at, place_of}
 use Rattle.ab_cast.specs.Cores.{Core, Taken, replica, client, core_after}
 use Rattle.ab_cast.specs.Casts.{Cast, with_core, core_at, command_refusal, first_site, first_sites}
 use Rattle.ab_world.specs.declared.fault.WorldFault.{WorldFault}
-use Rattle.ab_world.specs.declared.fault.WorldFault.TheVariants.{EventLimit, NotBuilt, PacketLimit}
+use Rattle.ab_world.specs.declared.fault.WorldFault.TheVariants.{EventLimit, BadCommand, PacketLimit}
 use Rattle.ab_world.specs.Runs.{outcome, refused_or}
 use Rattle.ab_world.specs.Steps.{Happening, ready, ready_in, happening, asked, asked_at, handed, addressed, delivered, rung, refuse_command, after, after_taking, moved_at, stepped, stepped_by, taken_from}
 use Rattle.ab_world.specs.Worlds.{World, start}
@@ -108,7 +108,7 @@ delivered_within x None core e = cc (e)
 delivered_within x (Some packet) core e = handed_within packet.bytes (addressed x packet.to core) e
 
 happens_within : (w : World Any) (e : Event) → NoLimit (happening w e)
-happens_within w (Invoke core bytes) = no_limit_if _ (asked w bytes (place_of w.cast.setup core.party core.twin)) (Err NotBuilt) (asked_within w bytes (place_of w.cast.setup core.party core.twin)) (λ e. cc (e))
+happens_within w (Invoke core bytes) = no_limit_if _ (asked w bytes (place_of w.cast.setup core.party core.twin)) (Err BadCommand) (asked_within w bytes (place_of w.cast.setup core.party core.twin)) (λ e. cc (e))
 happens_within w (Deliver packet core) = delivered_within w.cast.setup (nth w.packets packet) core
 happens_within w (Timeout core) = rung_within (place_of w.cast.setup core.party core.twin)
 happens_within w (Inject core bytes) = handed_within bytes (place_of w.cast.setup core.party core.twin)

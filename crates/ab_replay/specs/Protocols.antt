@@ -1,4 +1,4 @@
--- The protocol of each kind of instance that is built.
+-- The protocol of each kind of instance.
 use Rattle.std.specs.Prelude.{Bool}
 use Rattle.ab_num.specs.declared.plan.Kind.{Kind}
 use Rattle.ab_svc.specs.Machines.{Machine}
@@ -7,17 +7,21 @@ use Rattle.ab_abs.specs.Members.{Member}
 use Rattle.ab_quorum.specs.Rules.{quorum, is_quorum}
 use Rattle.ab_zlight.specs.Rules.{Light, zlight, is_zlight}
 use Rattle.ab_chain.specs.Rules.{Link, chain, is_chain}
+use Rattle.ab_order.specs.Backups.{Backing}
+use Rattle.ab_order.specs.Protos.{backup, is_backup}
+use Rattle.ab_pbft.specs.Rules.{pbft}
+use Rattle.ab_shelf.specs.Signing.{Signing, signing}
 use Rattle.ab_choice.specs.declared.choice.Choice.{Choice}
 use Rattle.ab_choice.specs.Rules.{choice, either}
 
--- a replica of Quorum, of ZLight or of Chain
+-- a replica of Quorum, of ZLight, of Chain, or of Backup over PBFT
 abbrev pub Any : Type 0
-Any = Choice Member (Choice Light Link)
+Any = Choice Member (Choice Light (Choice Link (Backing Signing)))
 
 -- it goes by the rules of its instance's kind
 abbrev pub any : {S : Type 0} → Machine S → Proto Any
-any machine = choice (quorum machine) (choice (zlight machine) (chain machine) is_zlight) is_quorum
+any machine = choice (quorum machine) (choice (zlight machine) (choice (chain machine) (backup signing pbft machine) is_chain) is_zlight) is_quorum
 
--- the kinds that have a protocol
+-- the kinds that have a protocol: all
 abbrev pub is_served : Kind → Bool
-is_served = either is_quorum (either is_zlight is_chain)
+is_served = either is_quorum (either is_zlight (either is_chain is_backup))

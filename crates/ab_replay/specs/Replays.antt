@@ -27,12 +27,12 @@ use Rattle.ab_world.specs.declared.fault.WorldFault.TheVariants as world_fault
 use Rattle.ab_world.specs.Lines.{entries_of}
 use Rattle.ab_world.specs.Runs.{outcome, inputs_of, came_to}
 use Rattle.ab_world.specs.Worlds.{World, start, opener, premise_of}
-use Rattle.ab_replay.specs.declared.refusal.Cause.TheVariants.{BadLine, NoEnd, NotBuilt, NoPacket, BadParty, Busy}
+use Rattle.ab_replay.specs.declared.refusal.Cause.TheVariants.{BadLine, NoEnd, NoPacket, BadParty, Busy}
 use Rattle.ab_replay.specs.declared.refusal.Refusal.{Refusal}
 use Rattle.ab_replay.specs.declared.running.ReplayFault.{ReplayFault}
 use Rattle.ab_replay.specs.declared.running.ReplayFault.TheVariants as replaying
 use Rattle.ab_replay.specs.Protocols.{Any, any}
-use Rattle.ab_replay.specs.Streams.{IsAllOf, IsTooLong}
+use Rattle.ab_replay.specs.Streams.{IsInput, IsTooLong}
 use Rattle.ab_io.specs.Causes.{Rose}
 
 -- ---- runs
@@ -124,13 +124,12 @@ fault_from (Some r) = replaying.Refused r
 -- the refusal of a text that is no schedule
 abbrev pub text_refusal : TextFault → Option Refusal
 text_refusal (text_fault.BadLine n) = Some (record { line = n; cause = BadLine })
-text_refusal (text_fault.NotBuilt n) = Some (record { line = n; cause = NotBuilt })
 text_refusal (text_fault.NoEnd n) = Some (record { line = n; cause = NoEnd })
 text_refusal text_fault.OutOfMemory = None
 
--- the refusal of an event in this line
+-- the refusal of an event in this line. No schedule that was read has a bad command
 abbrev pub step_refusal : ℕ → WorldFault → Option Refusal
-step_refusal line world_fault.NotBuilt = Some (record { line = line; cause = NotBuilt })
+step_refusal line world_fault.BadCommand = Some (record { line = line; cause = BadLine })
 step_refusal line world_fault.NoPacket = Some (record { line = line; cause = NoPacket })
 step_refusal line world_fault.BadParty = Some (record { line = line; cause = BadParty })
 step_refusal line world_fault.Busy = Some (record { line = line; cause = Busy })
@@ -142,7 +141,7 @@ step_refusal line world_fault.OutOfMemory = None
 abbrev pub head_lines : Script → ℕ
 head_lines s = 7 + length s.faulty
 
--- a line is out of form, not built or missing
+-- a line is out of form or missing
 pub record IsBadText (text : List ℕ) (r : Refusal) : Type 0 where
   pub fault : TextFault
   pub reads : ReadsText text (Err fault)
@@ -194,9 +193,9 @@ TextCause replaying.TooLong text = ⊥
 
 -- when each fault of a replay of an input comes: by what was left of it, and its count of faults
 abbrev pub ReplayCause : ReplayFault → Option (List ℕ) → ℕ → ℕ → Type 0
-ReplayCause (replaying.Refused r) left before now = (text : List ℕ) × IsAllOf left text × IsRefused text r
-ReplayCause replaying.TooManyEvents left before now = (text : List ℕ) × IsAllOf left text × HasTooManyEvents text
-ReplayCause replaying.TooManyPackets left before now = (text : List ℕ) × IsAllOf left text × HasTooManyBytes text
+ReplayCause (replaying.Refused r) left before now = (text : List ℕ) × IsInput left text × IsRefused text r
+ReplayCause replaying.TooManyEvents left before now = (text : List ℕ) × IsInput left text × HasTooManyEvents text
+ReplayCause replaying.TooManyPackets left before now = (text : List ℕ) × IsInput left text × HasTooManyBytes text
 ReplayCause replaying.OutOfMemory left before now = ⊤
 ReplayCause replaying.Read left before now = Rose before now
 ReplayCause replaying.TooLong left before now = IsTooLong left

@@ -12,6 +12,11 @@ abbrev pub IsAllOf : Option (List ℕ) → List ℕ → Type 0
 IsAllOf None bytes = ⊤
 IsAllOf (Some xs) bytes = xs ≡ bytes
 
+-- the bytes are all that was left, where that was told, and no more than a program reads
+pub record IsInput (left : Option (List ℕ)) (bytes : List ℕ) : Type 0 where
+  pub all : IsAllOf left bytes
+  pub short : length bytes ≤ 67108864
+
 -- more was left than a program reads
 abbrev pub IsTooLong : Option (List ℕ) → Type 0
 IsTooLong left = IfSome left (λ bytes. 67108864 < length bytes)

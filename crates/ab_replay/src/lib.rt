@@ -1,4 +1,4 @@
-//! Replays of schedules: each plan that is built as one protocol, a run of it, and the report of the run.
+//! Replays of schedules: all plans as one protocol, a run of it, and the report of the run.
 #![tactic(auto)]
 
 mod refusal;

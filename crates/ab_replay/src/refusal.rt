@@ -12,8 +12,6 @@ pub enum Cause {
     BadLine,
     /// The text ends before it.
     NoEnd,
-    /// It has a form that this program doesn't take yet.
-    NotBuilt,
     /// No packet has this number.
     NoPacket,
     /// The cluster has no such core.
@@ -36,7 +34,6 @@ impl Cause {
         match self {
             Cause::BadLine => "bad line",
             Cause::NoEnd => "no end",
-            Cause::NotBuilt => "not built",
             Cause::NoPacket => "no packet",
             Cause::BadParty => "bad party",
             Cause::Busy => "busy",

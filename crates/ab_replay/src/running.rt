@@ -7,11 +7,13 @@ ghost use Rattle.ab_keys.specs.Keys.{is_party};
 ghost use Rattle.ab_world.specs.Runs.{outcome};
 ghost use Rattle.ab_replay.specs.Protocols.{any, is_served};
 ghost use Rattle.ab_replay.specs.Replays.{run_in, Performs, Replays, EventsCause, TextCause, ReplayCause, fault_from, text_refusal, step_refusal};
-ghost use Rattle.ab_replay.specs.Streams.{IsAllOf};
+ghost use Rattle.ab_replay.specs.Streams.{IsInput};
 
 use crate::refusal::{Cause, Refusal};
 use crate::report::report;
 use crate::stream::{ReadFault, read_all};
+use ab_agreement::Pbft;
+use ab_backup::Backup;
 use ab_cast::Setup;
 use ab_chain::Chain;
 use ab_choice::Choice;
@@ -25,10 +27,10 @@ use ab_world::{World, WorldFault, premise_is_exact, worlds_keep_promises};
 use ab_zlight::ZLight;
 use std::alloc::Global;
 
-/// The protocol of each kind of instance that is built.
-pub type AnyProtocol<S> = Choice<Quorum<S>, Choice<ZLight<S>, Chain<S>>>;
+/// The protocol of each kind of instance.
+pub type AnyProtocol<S> = Choice<Quorum<S>, Choice<ZLight<S>, Choice<Chain<S>, Backup<S, Pbft>>>>;
 
-/// A cluster under any plan that is built.
+/// A cluster under any plan.
 pub type AnyWorld<S> = World<S, AnyProtocol<S>>;
 
 /// How many events a schedule may have.
@@ -66,10 +68,6 @@ fn refusal_of_text(fault: TextFault) -> Option<Refusal>
             line,
             cause: Cause::BadLine,
         }),
-        TextFault::NotBuilt(line) => Some(Refusal {
-            line,
-            cause: Cause::NotBuilt,
-        }),
         TextFault::NoEnd(line) => Some(Refusal {
             line,
             cause: Cause::NoEnd,
@@ -83,7 +81,7 @@ fn refusal_of_step(line: u32, fault: WorldFault) -> Option<Refusal>
     ensures { result ≡ step_refusal line fault }
 {
     let cause = match fault {
-        WorldFault::NotBuilt => Cause::NotBuilt,
+        WorldFault::BadCommand => Cause::BadLine,
         WorldFault::NoPacket => Cause::NoPacket,
         WorldFault::BadParty => Cause::BadParty,
         WorldFault::Busy => Cause::Busy,
@@ -142,8 +140,7 @@ fn is_held(premise: &Premise) -> bool
     matches!(premise, Premise::Held)
 }
 
-/// The report of a schedule of few events under a plan that is built, with a service. The first event
-/// stands in the line after this one.
+/// The report of a schedule of few events, with a service. The first event stands in the line after this one.
 fn perform<S: Service>(
     alloc: Global,
     schedule: &Schedule,
@@ -181,7 +178,7 @@ fn simulate(alloc: Global, text: &[u8]) -> Result<Replayed, ReplayFault>
     if schedule.events.as_slice().len() > MOST_EVENTS {
         return Err(ReplayFault::TooManyEvents);
     }
-    // What was read is in form: the plan is built, and faulty parties are of the cluster.
+    // What was read is in form: faulty parties are of the cluster.
     read_is_in_form();
     let line = 7 + schedule.head.faulty.as_slice().len() as u32;
     match schedule.head.service {
@@ -192,7 +189,7 @@ fn simulate(alloc: Global, text: &[u8]) -> Result<Replayed, ReplayFault>
 
 /// The report of the schedule that an input spells.
 pub fn replay<I: Source>(alloc: Global, input: &mut I) -> Result<Replayed, ReplayFault>
-    ensures ok { IfOk result (λ v. (text : List ℕ) × IsAllOf (I.left input.old) text × Replays text v.report.items v.held) }
+    ensures ok { IfOk result (λ v. (text : List ℕ) × IsInput (I.left input.old) text × Replays text v.report.items v.held) }
     ensures later { I.faults input.old ≤ I.faults input.new }
     ensures cause { IfErr result (λ e. ReplayCause e (I.left input.old) (I.faults input.old) (I.faults input.new)) }
 {

@@ -26,10 +26,10 @@ use Rattle.ab_cast.specs.Setups.{Setup, own_place, numbered_place, place_of}
 use Rattle.ab_cast.specs.Cores.{client}
 use Rattle.ab_cast.specs.Casts.{is_free, first_seat, first_seats}
 use Rattle.ab_world.specs.declared.fault.WorldFault.{WorldFault}
-use Rattle.ab_world.specs.declared.fault.WorldFault.TheVariants.{BadParty, EventLimit, PacketLimit, NotBuilt}
+use Rattle.ab_world.specs.declared.fault.WorldFault.TheVariants.{BadParty, EventLimit, PacketLimit, BadCommand}
 use Rattle.ab_world.specs.Steps.{Happening, Given, ask, hand, ring, refuse_command, asked_at, asked, handed, rung, delivered, happening, ready_in, ready, after, within_limit, stepped_by, stepped}
 use Rattle.ab_world.specs.Worlds.{World, start}
-use Rattle.ab_world.proofs.SeatLemmas.{length-first_seats}
+use Rattle.ab_world.proofs.SeatLemmas.{length-first_seats, length-first_sites}
 use Rattle.ab_storm_run.specs.Standing.{Goes}
 use Rattle.ab_storm_run.specs.Runs.{idle_of, drawn_at, storm_of, storm_setup}
 use Rattle.ab_storm_run.proofs.Stepping.{given_keeps}
@@ -98,7 +98,7 @@ module _ {P : Type 0} (w : World P) (all : length w.cast.clients ≡ w.cast.setu
   free_within c (Some s) at e = subst (λ n. c < n) all (slice_get_within w.cast.clients c s at)
 
   invoked : (p : Party) (twin : Option ℕ) (bytes : ArrayVec ℕ) → twin ≡ None → IsAsked (idle_of w) p bytes.items
-      → Gives (if nat_le 1 (length bytes.items) && nat_le (length bytes.items) 128 then asked w bytes (place_of x p twin) else Err NotBuilt)
+      → Gives (if nat_le 1 (length bytes.items) && nat_le (length bytes.items) 128 then asked w bytes (place_of x p twin) else Err BadCommand)
   invoked (Replica r) twin bytes e is = absurd is
   invoked (Client c) (Some t) bytes e is = absurd (cc (e))
   invoked (Client c) None bytes e (idle, some, few) =
@@ -108,7 +108,7 @@ module _ {P : Type 0} (w : World P) (all : length w.cast.clients ≡ w.cast.setu
         party = Client c;
         given = ask bytes;
         gives =
-            ap (λ b. if b then asked w bytes (place_of x (Client c) None) else Err NotBuilt) (within_command (length bytes.items) some few)
+            ap (λ b. if b then asked w bytes (place_of x (Client c) None) else Err BadCommand) (within_command (length bytes.items) some few)
             ∙ ap (asked w bytes) (own_there x (Client c) (lt-ltb c x.cluster.clients lt))
             ∙ seat_asked c bytes (slice_get w.cast.clients c) free;
       }
@@ -242,6 +242,7 @@ module _ {P : Type 0} (proto : Proto P) (s : Storm) (w : World P) (goes : Goes s
       let over : GoesOver (after proto w (happened h)) = record {
         goes = record {
           cluster = next_same (length w.packets) (idle_of w) s ∙ goes.cluster ∙ sym (ap (λ (y : Setup). y.cluster) keeps.setup);
+          replicas = keeps.replicas ∙ goes.replicas ∙ sym (ap (λ (y : Setup). 3 * y.cluster.f + 1) keeps.setup);
           clients = keeps.clients ∙ goes.clients ∙ sym (ap (λ (y : Setup). y.cluster.clients) keeps.setup);
           ended = keeps.ended ∙ goes.ended;
         };
@@ -259,4 +260,4 @@ module _ {P : Type 0} (proto : Proto P) (s : Storm) (w : World P) (goes : Goes s
 
 -- a storm goes over its cluster before the first event
 pub storm_goes : {P : Type 0} (proto : Proto P) (c : Cluster) (seed : ℕ) → Goes (storm_of c seed) (start proto (storm_setup c))
-storm_goes proto c seed = record { cluster = refl; clients = length-first_seats c c.clients; ended = refl }
+storm_goes proto c seed = record { cluster = refl; replicas = length-first_sites (storm_setup c) proto (3 * c.f + 1); clients = length-first_seats c c.clients; ended = refl }

@@ -16,25 +16,26 @@ use Rattle.ab_world.specs.Steps.{Given, taken_from, moved_at, after_taking, afte
 use Rattle.ab_world.specs.Worlds.{World}
 
 module _ {P : Type 0} (proto : Proto P) (w : World P) where
-  -- of the same setup, with as many clients, at most one event later, and no more ended
+  -- of the same setup, with as many replicas and clients, at most one event later, and no more ended
   pub record Keeps (v : World P) : Type 0 where
     pub setup : v.cast.setup ≡ w.cast.setup
+    pub replicas : length v.cast.replicas ≡ length w.cast.replicas
     pub clients : length v.cast.clients ≡ length w.cast.clients
     pub events : v.cast.events ≤ w.cast.events + 1
     pub ended : v.ended ≡ w.ended
 
   still : Keeps w
-  still = record { setup = refl; clients = refl; events = omega arith; ended = refl }
+  still = record { setup = refl; replicas = refl; clients = refl; events = omega arith; ended = refl }
 
   replica_keeps : (r : ℕ) (t : Taken) (o : Option (Site P)) → Keeps (moved_at proto w (own_place (Replica r)) t (option_map replica o))
   replica_keeps r t None = still
-  replica_keeps r (command bytes) (Some s) = record { setup = refl; clients = refl; events = omega arith; ended = refl }
-  replica_keeps r (message m) (Some s) = record { setup = refl; clients = refl; events = omega arith; ended = refl }
-  replica_keeps r time (Some s) = record { setup = refl; clients = refl; events = omega arith; ended = refl }
+  replica_keeps r (command bytes) (Some s) = record { setup = refl; replicas = set_length w.cast.replicas r _; clients = refl; events = omega arith; ended = refl }
+  replica_keeps r (message m) (Some s) = record { setup = refl; replicas = set_length w.cast.replicas r _; clients = refl; events = omega arith; ended = refl }
+  replica_keeps r time (Some s) = record { setup = refl; replicas = set_length w.cast.replicas r _; clients = refl; events = omega arith; ended = refl }
 
   client_keeps : (c : ℕ) (t : Taken) (o : Option Seat) → Keeps (moved_at proto w (own_place (Client c)) t (option_map client o))
   client_keeps c t None = still
-  client_keeps c t (Some s) = record { setup = refl; clients = set_length w.cast.clients c _; events = omega arith; ended = refl }
+  client_keeps c t (Some s) = record { setup = refl; replicas = refl; clients = set_length w.cast.clients c _; events = omega arith; ended = refl }
 
   own_keeps : (p : Party) (t : Taken) → Keeps (moved_at proto w (own_place p) t (core_at w.cast (own_place p)))
   own_keeps (Replica r) t = replica_keeps r t (slice_get w.cast.replicas r)
@@ -42,7 +43,7 @@ module _ {P : Type 0} (proto : Proto P) (w : World P) where
 
   taking_keeps : (p : Party) (r : Result Taken OpenFault) → Keeps (after_taking proto w (own_place p) r)
   taking_keeps p (Ok t) = own_keeps p t
-  taking_keeps p (Err fault) = record { setup = refl; clients = refl; events = omega arith; ended = refl }
+  taking_keeps p (Err fault) = record { setup = refl; replicas = refl; clients = refl; events = omega arith; ended = refl }
 
   -- what is given to a party's own core
   pub given_keeps : (p : Party) (g : Given) → Keeps (after proto w (record { place = own_place p; given = g }))

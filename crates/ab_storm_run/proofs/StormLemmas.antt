@@ -14,7 +14,7 @@ use Rattle.ab_text.specs.declared.event.Event.{Event}
 use Rattle.ab_words.specs.Commands.{StormCommand}
 use Rattle.ab_storm.specs.Storms.{Storm, next_of}
 use Rattle.ab_world.specs.declared.fault.WorldFault.{WorldFault}
-use Rattle.ab_world.specs.declared.fault.WorldFault.TheVariants.{PacketLimit, EventLimit, NotBuilt, NoPacket, BadParty, Busy, OutOfMemory as NoMemory}
+use Rattle.ab_world.specs.declared.fault.WorldFault.TheVariants.{PacketLimit, EventLimit, BadCommand, NoPacket, BadParty, Busy, OutOfMemory as NoMemory}
 use Rattle.ab_keys.specs.Keys.{is_party}
 use Rattle.ab_world.specs.Steps.{Cause, Happening, happening, stepped}
 use Rattle.ab_world.specs.Runs.{outcome, refused_or}
@@ -62,8 +62,8 @@ pub drawn_so : {P : Type 0} (s t : Storm) (w : World P) (e : Event) (packets : �
 drawn_so s t w e packets idle sent free is =
     let so : ◌≡◌ {A = Event × Storm} (e, t) (drawn_at s w) = is ∙ (λ j. next_of (sent j) (free j) s) in (ap (λ d. d.0) so, ap (λ d. d.1) so)
 
-apart : (n : ℕ) (f : StormFault) → ◌≡◌ {A = Option StormFault} (Some f) None → ⊥
-apart n f is = cc (is)
+some_none : (f : StormFault) → ◌≡◌ {A = Option StormFault} (Some f) None → ⊥
+some_none f is = cc (is)
 
 module _ {P : Type 0} (proto : Proto P) where
   ok_same : (w v : World P) → ◌≡◌ {A = Result (World P) (ℕ × WorldFault)} (Ok w) (Ok v) → w ≡ v
@@ -92,7 +92,7 @@ module _ {P : Type 0} (proto : Proto P) where
   fault_ends s w n BadParty goes few cause = tt
   fault_ends s w n NoMemory goes few cause = tt
   fault_ends s w n EventLimit goes few cause = refusal_ends s w n EventLimit goes few cause
-  fault_ends s w n NotBuilt goes few cause = refusal_ends s w n NotBuilt goes few cause
+  fault_ends s w n BadCommand goes few cause = refusal_ends s w n BadCommand goes few cause
   fault_ends s w n NoPacket goes few cause = refusal_ends s w n NoPacket goes few cause
   fault_ends s w n Busy goes few cause = refusal_ends s w n Busy goes few cause
 
@@ -104,10 +104,10 @@ module _ {P : Type 0} (proto : Proto P) where
   end_caused w event n PacketLimit e is cause = subst (λ (g : StormFault). StepCause g n (stepped proto w event)) (some_same e TooManyPackets is) cause
   end_caused w event n BadParty e is cause = subst (λ (g : StormFault). StepCause g n (stepped proto w event)) (some_same e (NoReceiver n) is) (refl, cause)
   end_caused w event n NoMemory e is cause = subst (λ (g : StormFault). StepCause g n (stepped proto w event)) (some_same e OutOfMemory is) tt
-  end_caused w event n EventLimit e is cause = absurd (apart n e is)
-  end_caused w event n NotBuilt e is cause = absurd (apart n e is)
-  end_caused w event n NoPacket e is cause = absurd (apart n e is)
-  end_caused w event n Busy e is cause = absurd (apart n e is)
+  end_caused w event n EventLimit e is cause = absurd (some_none e is)
+  end_caused w event n BadCommand e is cause = absurd (some_none e is)
+  end_caused w event n NoPacket e is cause = absurd (some_none e is)
+  end_caused w event n Busy e is cause = absurd (some_none e is)
 
   -- no event is left
   pub run_done : (n i : ℕ) (s : Storm) (w : World P) → i ≡ n → outcome proto (i + 1) w (drawn_events proto (n - i) s w) ≡ Ok w

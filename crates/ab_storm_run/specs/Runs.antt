@@ -114,7 +114,7 @@ end_of n world_fault.PacketLimit = Some storm_fault.TooManyPackets
 end_of n world_fault.BadParty = Some (storm_fault.NoReceiver n)
 end_of n world_fault.OutOfMemory = Some storm_fault.OutOfMemory
 end_of n world_fault.EventLimit = None
-end_of n world_fault.NotBuilt = None
+end_of n world_fault.BadCommand = None
 end_of n world_fault.NoPacket = None
 end_of n world_fault.Busy = None
 

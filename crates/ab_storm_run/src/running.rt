@@ -1,6 +1,6 @@
 //! A storm is run.
 
-ghost use Rattle.std.specs.Prelude.{◌≡◌, ◌↔◌, ◌+◌, ◌<◌, ◌≤◌, ℕ, IsTrue, IsSome, IfOk, IfErr, OnOk, Ok, Some};
+ghost use Rattle.std.specs.Prelude.{◌≡◌, ◌↔◌, ◌<◌, ◌≤◌, ℕ, IsTrue, IsSome, IfOk, IfErr, OnOk, Ok, Some};
 ghost use Rattle.ab_num.specs.Places.{kind_of};
 ghost use Rattle.ab_world.specs.Runs.{outcome};
 ghost use Rattle.ab_world.specs.Steps.{stepped};
@@ -62,7 +62,7 @@ fn ended_by(number: u32, fault: WorldFault) -> StormFault
         WorldFault::PacketLimit => StormFault::TooManyPackets,
         WorldFault::BadParty => StormFault::NoReceiver(number),
         WorldFault::OutOfMemory => StormFault::OutOfMemory,
-        WorldFault::EventLimit | WorldFault::NotBuilt => unreachable!(),
+        WorldFault::EventLimit | WorldFault::BadCommand => unreachable!(),
         WorldFault::NoPacket | WorldFault::Busy => unreachable!(),
     }
 }
@@ -98,6 +98,7 @@ fn run_events<S: Service, P: Protocol<S>>(
     requires goes { Goes storm.old world.old }
     requires begins { world.old.cast.events ≡ 0 }
     ensures ok { OnOk result (outcome P.proto 1 world.old (drawn_events P.proto events storm.old world.old) ≡ Ok world.new) }
+    ensures goes { OnOk result (Goes storm.new world.new) }
     ensures cause { IfErr result (λ e. EndCause e (outcome P.proto 1 world.old (drawn_events P.proto events storm.old world.old))) }
 {
     for done in 0..events {

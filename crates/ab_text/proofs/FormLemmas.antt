@@ -63,10 +63,8 @@ few f clients (x ∷ xs) next = let all = few_after f clients x xs [] next.0.ins
 
 pub read_in_form : (text : List ℕ) (s : Script) → ReadsText text (Ok s) → IsInForm s
 read_in_form text s reads =
-    let read = read_spelled text s reads in
-    let schedule = read.0.schedule in
+    let schedule = (read_spelled text s reads).schedule in
     record {
-      plan = read.1.plan;
       parties = declared s.f s.clients s.faulty [] schedule.faulty;
       ascending = ascending s.f s.clients s.faulty [] schedule.faulty;
       few = few s.f s.clients s.faulty schedule.faulty;

@@ -1,5 +1,5 @@
--- The lines before a fault begin a schedule of the forms that are built.
-use Rattle.std.proofs.Common.{◌≡◌, ℕ, ◌+◌, ◌-◌, ◌≤◌, List, [], ◌∷◌, ◌++◌, Result, Ok, Err, length, take, codes, decimal, refl, sym, ap, ◌∙◌, subst, arith, inl, inr, IsTrue, get_or}
+-- The lines before a fault begin a schedule.
+use Rattle.std.proofs.Common.{◌≡◌, ℕ, ◌+◌, ◌-◌, ◌≤◌, List, [], ◌∷◌, ◌++◌, Result, Ok, Err, length, take, codes, decimal, refl, sym, ap, ◌∙◌, subst, append_assoc, arith, inl, inr, get_or}
 use Rattle.std.specs.List.{AllByRecursion}
 use Rattle.std.proofs.Math.Seq.{take-append_seam}
 use Rattle.ab_num.specs.declared.party.Party.{Party}
@@ -9,32 +9,33 @@ use Rattle.ab_num.specs.declared.plan.ServiceName.{ServiceName}
 use Rattle.ab_num.specs.declared.plan.ServiceName.TheVariants.{Echo}
 use Rattle.ab_num.specs.declared.plan.Height.{Height}
 use Rattle.ab_num.specs.declared.plan.Height.TheVariants.{Five}
+use Rattle.ab_num.specs.Bounds.{IsInBounds}
 use Rattle.ab_text.specs.declared.event.Event.{Event}
 use Rattle.ab_text.specs.declared.fault.TextFault.{TextFault}
-use Rattle.ab_text.specs.declared.fault.TextFault.TheVariants.{BadLine, NotBuilt, NoEnd, OutOfMemory}
+use Rattle.ab_text.specs.declared.fault.TextFault.TheVariants.{BadLine, NoEnd, OutOfMemory}
 use Rattle.ab_text.specs.Lines.{lines_of}
 use Rattle.ab_text.specs.EventLines.{event_line, IsEvent}
-use Rattle.ab_text.specs.Built.{plan_is_built, service_is_built, height_is_built, event_is_built}
 use Rattle.ab_text.specs.Heads.{◌>>=◌, Script, number_at, name_at, plan_line, plans, service_line, services, lms_line, heights, head_at}
 use Rattle.ab_text.specs.Schedules.{ReadsEvents, ReadsFaulty, ReadsText, Continues, with_event, with_faulty}
-use Rattle.ab_text.specs.Spelling.{schedule_lines, event_lines, faulty_lines, AreFaulty, IsSchedule, IsBuilt}
-use Rattle.ab_text.specs.Faults.{BeginsBuilt}
+use Rattle.ab_text.specs.Spelling.{schedule_lines, head_lines, event_lines, faulty_lines, AreFaulty, IsSchedule}
+use Rattle.ab_text.specs.Faults.{BeginsSome}
 use Rattle.ab_text.proofs.HeadLemmas.{Rest, script, from2, from3, from4, from5, from6, number_is, name_is, line_is}
-use Rattle.ab_text.proofs.FaultLemmas.{failed, IsAtLine, err_is, not_ok, sides, IsStep, number_step, name_step, line_step}
+use Rattle.ab_text.proofs.FaultLemmas.{failed, not_ok, IsStep, number_step, name_step, line_step}
 
 -- the fault is that of line n, which is there or missing
 abbrev IsOfLine : TextFault → ℕ → Type 0
 IsOfLine (BadLine k) n = k ≡ n
-IsOfLine (NotBuilt k) n = k ≡ n
 IsOfLine (NoEnd k) n = k ≡ n
 IsOfLine OutOfMemory n = ⊥
+
+err_is : (e d : TextFault) → failed e ≡ failed d → e ≡ d
+err_is e d h = cc
 
 of_line : (e d : TextFault) (n m : ℕ) → failed e ≡ failed d → IsOfLine d n → IsOfLine e m → m ≡ n
 of_line e d n m h is at = by d (subst (λ x. IsOfLine x m) (err_is e d h) at) is
   where
     by : (d : TextFault) → IsOfLine d m → IsOfLine d n → m ≡ n
     by (BadLine k) a b = sym a ∙ b
-    by (NotBuilt k) a b = sym a ∙ b
     by (NoEnd k) a b = sym a ∙ b
     by OutOfMemory a b = absurd a
 
@@ -60,16 +61,15 @@ one_more n m l ls Next Whole f on =
 record AreEvents (ls : Rest) : Type 0 where
   events : List Event
   good : AllByRecursion IsEvent events
-  built : AllByRecursion (λ e. IsTrue (event_is_built e)) events
   lines : ls ≡ event_lines events
 
 no_events : AreEvents (codes "end" ∷ [])
-no_events = record { events = []; good = tt; built = tt; lines = refl }
+no_events = record { events = []; good = tt; lines = refl }
 
-more_events : (l : List ℕ) (v : Event) → IsEvent v → IsTrue (event_is_built v) → l ≡ event_line v → (rest : Rest) → AreEvents rest → AreEvents (l ∷ rest)
-more_events l v good built said rest are =
+more_events : (l : List ℕ) (v : Event) → IsEvent v → l ≡ event_line v → (rest : Rest) → AreEvents rest → AreEvents (l ∷ rest)
+more_events l v good said rest are =
     let lines = are.lines in
-    record { events = v ∷ are.events; good = (good, are.good); built = (built, are.built); lines = λ j. said j ∷ lines j }
+    record { events = v ∷ are.events; good = (good, are.good); lines = λ j. said j ∷ lines j }
 
 events_front : (ls : Rest) (n : ℕ) (s : Script) (e : TextFault) (m : ℕ) → IsOfLine e m → ReadsEvents n s ls (Err e) → IsFront n m ls AreEvents
 events_front [] n s e m at h = at_once n m [] (codes "end" ∷ []) AreEvents (of_line e (NoEnd n) n m h refl at) no_events
@@ -78,10 +78,8 @@ events_front (l ∷ k ∷ ls) n s e m at (inl (said, ends)) =
     one_more n m l (k ∷ ls) (λ rest. rest ≡ []) AreEvents
     (at_once (n + 1) m (k ∷ ls) [] (λ rest. rest ≡ []) (of_line e (BadLine (n + 1)) (n + 1) m ends refl at) refl)
     (λ rest none. subst AreEvents (λ j. sym said j ∷ sym none j) no_events)
-events_front (l ∷ ls) n s e m at (inr (inl (v, good, said, rest))) = elim (sides (event_is_built v) (ReadsEvents (n + 1) (with_event s v) ls (Err e)) (failed e ≡ failed (NotBuilt n)) rest) [
-  | inl (built, on) ↦ one_more n m l ls AreEvents AreEvents (events_front ls (n + 1) (with_event s v) e m at on) (more_events l v good built said)
-  | inr (other, stop) ↦ at_once n m (l ∷ ls) (codes "end" ∷ []) AreEvents (of_line e (NotBuilt n) n m stop refl at) no_events
-]
+events_front (l ∷ ls) n s e m at (inr (inl (v, good, said, rest))) =
+    one_more n m l ls AreEvents AreEvents (events_front ls (n + 1) (with_event s v) e m at rest) (more_events l v good said)
 events_front (l ∷ ls) n s e m at (inr (inr (bad, h))) = at_once n m (l ∷ ls) (codes "end" ∷ []) AreEvents (of_line e (BadLine n) n m h refl at) no_events
 
 record IsBody (f clients : ℕ) (done : List (Party × ℕ)) (ls : Rest) : Type 0 where
@@ -89,81 +87,63 @@ record IsBody (f clients : ℕ) (done : List (Party × ℕ)) (ls : Rest) : Type 
   events : List Event
   next : AreFaulty f clients done faulty
   good : AllByRecursion IsEvent events
-  built : AllByRecursion (λ e. IsTrue (event_is_built e)) events
   lines : ls ≡ faulty_lines faulty events
 
 run_body : (f clients : ℕ) (done : List (Party × ℕ)) (l : List ℕ) → l ≡ codes "run" → (rest : Rest) → AreEvents rest → IsBody f clients done (l ∷ rest)
 run_body f clients done l said rest are =
     let lines = are.lines in
-    record { faulty = []; events = are.events; next = tt; good = are.good; built = are.built; lines = λ j. said j ∷ lines j }
+    record { faulty = []; events = are.events; next = tt; good = are.good; lines = λ j. said j ∷ lines j }
 
-no_body : (f clients : ℕ) (done : List (Party × ℕ)) → IsBody f clients done (codes "run" ∷ codes "end" ∷ [])
+-- a body without faulty parties and events
+abbrev last : Rest
+last = codes "run" ∷ codes "end" ∷ []
+
+no_body : (f clients : ℕ) (done : List (Party × ℕ)) → IsBody f clients done last
 no_body f clients done = run_body f clients done (codes "run") refl (codes "end" ∷ []) no_events
 
 body_front : (ls : Rest) (n : ℕ) (s : Script) (e : TextFault) (m : ℕ) → IsOfLine e m → ReadsFaulty n s ls (Err e) → IsFront n m ls (IsBody s.f s.clients s.faulty)
-body_front [] n s e m at h = at_once n m [] (codes "run" ∷ codes "end" ∷ []) (IsBody s.f s.clients s.faulty) (of_line e (NoEnd n) n m h refl at) (no_body s.f s.clients s.faulty)
+body_front [] n s e m at h = at_once n m [] last (IsBody s.f s.clients s.faulty) (of_line e (NoEnd n) n m h refl at) (no_body s.f s.clients s.faulty)
 body_front (l ∷ ls) n s e m at (inl (said, rest)) = one_more n m l ls AreEvents (IsBody s.f s.clients s.faulty) (events_front ls (n + 1) s e m at rest) (run_body s.f s.clients s.faulty l said)
 body_front (l ∷ ls) n s e m at (inr (inl (v, good, said, rest))) =
     one_more n m l ls (IsBody s.f s.clients (s.faulty ++ v ∷ [])) (IsBody s.f s.clients s.faulty) (body_front ls (n + 1) (with_faulty s v) e m at rest)
     (λ more body.
     let lines = body.lines in
-    record { faulty = v ∷ body.faulty; events = body.events; next = (good, body.next); good = body.good; built = body.built; lines = λ j. said j ∷ lines j })
-body_front (l ∷ ls) n s e m at (inr (inr (bad, h))) = at_once n m (l ∷ ls) (codes "run" ∷ codes "end" ∷ []) (IsBody s.f s.clients s.faulty) (of_line e (BadLine n) n m h refl at) (no_body s.f s.clients s.faulty)
+    record { faulty = v ∷ body.faulty; events = body.events; next = (good, body.next); good = body.good; lines = λ j. said j ∷ lines j })
+body_front (l ∷ ls) n s e m at (inr (inr (bad, h))) = at_once n m (l ∷ ls) last (IsBody s.f s.clients s.faulty) (of_line e (BadLine n) n m h refl at) (no_body s.f s.clients s.faulty)
 
 -- ---- the head
 
--- a line of a good value, and lines that may come after it
-record IsLed {A : Type 0} (spell : A → List ℕ) (Good : A → Type 0) (Next : A → Rest → Type 0) (ls : Rest) : Type 0 where
-  value : A
-  good : Good value
-  rest : Rest
-  next : Next value rest
-  lines : ls ≡ spell value ∷ rest
+-- the lines of a schedule are these and then the rest
+abbrev Completes : Rest → Rest → Type 0
+Completes before rest = (s : Script) × IsSchedule s × (schedule_lines s ≡ before ++ rest)
 
-abbrev Fronts : ℕ → (Rest → Result (Script × Rest) TextFault) → (Rest → Type 0) → Type 0
-Fronts n read Whole = (ls : Rest) (e : TextFault) (m : ℕ) → IsOfLine e m → Continues (read ls) (Err e) → IsFront n m ls Whole
+-- before line n stand these lines
+abbrev Fronts : ℕ → (Rest → Result (Script × Rest) TextFault) → Rest → Type 0
+Fronts n read before = (ls : Rest) (e : TextFault) (m : ℕ) → IsOfLine e m → Continues (read ls) (Err e) → IsFront n m ls (Completes before)
 
-weaker : (e : TextFault) (n : ℕ) → IsAtLine e n → IsOfLine e n
-weaker (BadLine k) n h = h
-weaker (NotBuilt k) n h = h
-weaker (NoEnd k) n h = absurd h
-weaker OutOfMemory n h = h
+-- a head alone, and the last lines
+bare_schedule : (f : ℕ) (p : Plan) (c : ℕ) (v : ServiceName) (h : Height) → IsInBounds f c → IsSchedule (script f p c v h)
+bare_schedule f p c v h bounds = record { bounds = bounds; faulty = tt; events = tt }
 
-module _ {A : Type 0} (spell : A → List ℕ) (Good : A → Type 0) (Next : A → Rest → Type 0) (first : A) (fine : Good first) (after : Rest) (follows : Next first after) where
-  default_led : IsLed spell Good Next (spell first ∷ after)
-  default_led = record { value = first; good = fine; rest = after; next = follows; lines = refl }
-
-  step_front : (n : ℕ) (g : Rest → Result (A × Rest) TextFault) (k : A → Rest → Result (Script × Rest) TextFault) → IsStep n g
-      → ((ls rest : Rest) (x : A) → g ls ≡ Ok (x, rest) → (ls ≡ spell x ∷ rest) × Good x)
-      → ((x : A) → Fronts (n + 1) (k x) (Next x)) → Fronts n (λ ls. g ls >>= λ (p : A × Rest). k p.0 p.1) (IsLed spell Good Next)
-  step_front n g k step says on [] e m at h =
-      let stop : failed e ≡ failed (NoEnd n) = subst (λ o. Continues (o >>= λ (p : A × Rest). k p.0 p.1) (Err e)) step.none h in
-      at_once n m [] (spell first ∷ after) (IsLed spell Good Next) (of_line e (NoEnd n) n m stop refl at) default_led
-  step_front n g k step says on (l ∷ ls) e m at h =
-      let After : Result (A × Rest) TextFault → Type 0 = λ o. Continues (o >>= λ (p : A × Rest). k p.0 p.1) (Err e) in
-      elim (step.each l) [
-        | inl (x, good) ↦
-            let said = says (l ∷ ls) ls x (good ls) in
-            let line : l ≡ spell x = ap (λ t. get_or t 0 []) said.0 in
-            one_more n m l ls (Next x) (IsLed spell Good Next) (on x ls e m at (subst After (good ls) h))
-            (λ rest next. record { value = x; good = said.1; rest = rest; next = next; lines = ap (λ t. t ∷ rest) line })
-        | inr (d, near, bad) ↦
-            let stop : failed e ≡ failed d = subst After (bad ls) h in
-            at_once n m (l ∷ ls) (spell first ∷ after) (IsLed spell Good Next) (of_line e d n m stop (weaker d n near) at) default_led
-      ]
-
--- there is a plan, a service and a height that are built
-quorum_built : IsTrue (plan_is_built Quorum)
-unfolding plan_is_built
-quorum_built = refl
-
-echo_built : IsTrue (service_is_built Echo)
-unfolding service_is_built
-echo_built = refl
-
-five_built : IsTrue (height_is_built Five)
-unfolding height_is_built
-five_built = refl
+step_front : {A : Type 0} (spell : A → List ℕ) (n : ℕ) (g : Rest → Result (A × Rest) TextFault) (k : A → Rest → Result (Script × Rest) TextFault) (before after : Rest)
+    → IsStep n g → Completes before after
+    → ((ls rest : Rest) (x : A) → g ls ≡ Ok (x, rest) → (ls ≡ spell x ∷ rest) × Fronts (n + 1) (k x) (before ++ spell x ∷ []))
+    → Fronts n (λ ls. g ls >>= λ (p : A × Rest). k p.0 p.1) before
+step_front {A} spell n g k before after step whole says [] e m at h =
+    let stop : failed e ≡ failed (NoEnd n) = subst (λ o. Continues (o >>= λ (p : A × Rest). k p.0 p.1) (Err e)) step.none h in
+    at_once n m [] after (Completes before) (of_line e (NoEnd n) n m stop refl at) whole
+step_front {A} spell n g k before after step whole says (l ∷ ls) e m at h =
+    let After : Result (A × Rest) TextFault → Type 0 = λ o. Continues (o >>= λ (p : A × Rest). k p.0 p.1) (Err e) in
+    elim (step.each l) [
+      | inl (x, good) ↦
+          let said = says (l ∷ ls) ls x (good ls) in
+          let line : l ≡ spell x = ap (λ t. get_or t 0 []) said.0 in
+          one_more n m l ls (Completes (before ++ spell x ∷ [])) (Completes before) (said.1 ls e m at (subst After (good ls) h))
+          (λ rest all. (all.0, all.1, all.2 ∙ append_assoc before (spell x ∷ []) rest ∙ ap (λ t. before ++ t ∷ rest) (sym line)))
+      | inr bad ↦
+          let stop : failed e ≡ failed (BadLine n) = subst After (bad ls) h in
+          at_once n m (l ∷ ls) after (Completes before) (of_line e (BadLine n) n m stop refl at) whole
+    ]
 
 abbrev f_line : ℕ → List ℕ
 f_line f = codes "f " ++ decimal f
@@ -171,140 +151,96 @@ f_line f = codes "f " ++ decimal f
 abbrev clients_line : ℕ → List ℕ
 clients_line c = codes "clients " ++ decimal c
 
-abbrev IsHeight : Height → Type 0
-IsHeight h = IsTrue (height_is_built h)
+abbrev AreFew : ℕ → Type 0
+AreFew f = (1 ≤ f) × (f ≤ 2)
 
-abbrev IsService : ServiceName → Type 0
-IsService v = IsTrue (service_is_built v)
+in_bounds : (f c : ℕ) → AreFew f → 1 ≤ c → c ≤ 16 → IsInBounds f c
+in_bounds f c few low high = record { some_faulty = few.0; few_faulty = few.1; some_client = low; few_clients = high }
 
-abbrev IsPlan : Plan → Type 0
-IsPlan p = IsTrue (plan_is_built p)
+one_client : (f : ℕ) → AreFew f → IsInBounds f 1
+one_client f few = in_bounds f 1 few (omega arith) (omega arith)
 
-abbrev AreClients : ℕ → Type 0
-AreClients c = (1 ≤ c) × (c ≤ 16)
+abbrev before3 : ℕ → Rest
+before3 f = codes "abstract 1" ∷ f_line f ∷ []
 
-abbrev IsF : ℕ → Type 0
-IsF f = (1 ≤ f) × (f ≤ 2)
+abbrev before4 : ℕ → Plan → Rest
+before4 f p = codes "abstract 1" ∷ f_line f ∷ plan_line p ∷ []
 
-abbrev From7 : ℕ → ℕ → Height → Rest → Type 0
-From7 f c h = IsBody f c []
+abbrev before5 : ℕ → Plan → ℕ → Rest
+before5 f p c = codes "abstract 1" ∷ f_line f ∷ plan_line p ∷ clients_line c ∷ []
 
-abbrev From6 : ℕ → ℕ → ServiceName → Rest → Type 0
-From6 f c v = IsLed lms_line IsHeight (From7 f c)
+abbrev before6 : ℕ → Plan → ℕ → ServiceName → Rest
+before6 f p c v = codes "abstract 1" ∷ f_line f ∷ plan_line p ∷ clients_line c ∷ service_line v ∷ []
 
-abbrev From5 : ℕ → ℕ → Rest → Type 0
-From5 f c = IsLed service_line IsService (From6 f c)
+fronts7 : (f : ℕ) (p : Plan) (c : ℕ) (v : ServiceName) (h : Height) → IsInBounds f c → Fronts 7 (λ ls. Ok (script f p c v h, ls)) (head_lines (script f p c v h))
+fronts7 f p c v h bounds ls e m at r =
+    let body = body_front ls 7 (script f p c v h) e m at r in
+    let whole = body.whole in
+    record {
+      front = body.front;
+      back = body.back;
+      more = body.more;
+      split = body.split;
+      place = body.place;
+      whole = (
+        record { f = f; clients = c; plan = p; service = v; lms = h; faulty = whole.faulty; events = whole.events },
+        record { bounds = bounds; faulty = whole.next; events = whole.good },
+        ap (λ t. head_lines (script f p c v h) ++ t) (sym whole.lines),
+      );
+    }
 
-abbrev From4 : ℕ → Plan → Rest → Type 0
-From4 f p = IsLed clients_line AreClients (From5 f)
+fronts6 : (f : ℕ) (p : Plan) (c : ℕ) (v : ServiceName) → IsInBounds f c → Fronts 6 (from6 f p c v) (before6 f p c v)
+fronts6 f p c v bounds = step_front lms_line 6 (name_at lms_line heights 6) (λ h ls. Ok (script f p c v h, ls)) (before6 f p c v) (lms_line Five ∷ last) (name_step lms_line heights 6)
+    (script f p c v Five, bare_schedule f p c v Five bounds, refl) (λ ls rest h is. (name_is lms_line heights 6 ls rest h is, fronts7 f p c v h bounds))
 
-abbrev From3 : ℕ → Rest → Type 0
-From3 f = IsLed plan_line IsPlan (From4 f)
+fronts5 : (f : ℕ) (p : Plan) (c : ℕ) → IsInBounds f c → Fronts 5 (from5 f p c) (before5 f p c)
+fronts5 f p c bounds = step_front service_line 5 (name_at service_line services 5) (from6 f p c) (before5 f p c) (service_line Echo ∷ lms_line Five ∷ last) (name_step service_line services 5)
+    (script f p c Echo Five, bare_schedule f p c Echo Five bounds, refl) (λ ls rest v is. (name_is service_line services 5 ls rest v is, fronts6 f p c v bounds))
 
-abbrev From2 : Rest → Type 0
-From2 = IsLed f_line IsF From3
+fronts4 : (f : ℕ) (p : Plan) → AreFew f → Fronts 4 (from4 f p) (before4 f p)
+fronts4 f p few = step_front clients_line 4 (number_at (codes "clients ") 1 16 4) (from5 f p) (before4 f p) (clients_line 1 ∷ service_line Echo ∷ lms_line Five ∷ last) (number_step (codes "clients ") 1 16 4)
+    (script f p 1 Echo Five, bare_schedule f p 1 Echo Five (one_client f few), refl)
+    (λ ls rest c is. let n = number_is (codes "clients ") 1 16 4 ls rest c is in (n.0, fronts5 f p c (in_bounds f c few n.1 n.2)))
 
-abbrev rest7 : Rest
-rest7 = codes "run" ∷ codes "end" ∷ []
-
-abbrev rest6 : Rest
-rest6 = lms_line Five ∷ rest7
-
-abbrev rest5 : Rest
-rest5 = service_line Echo ∷ rest6
-
-abbrev rest4 : Rest
-rest4 = clients_line 1 ∷ rest5
-
-abbrev rest3 : Rest
-rest3 = plan_line Quorum ∷ rest4
+fronts3 : (f : ℕ) → AreFew f → Fronts 3 (from3 f) (before3 f)
+fronts3 f few = step_front plan_line 3 (name_at plan_line plans 3) (from4 f) (before3 f) (plan_line Quorum ∷ clients_line 1 ∷ service_line Echo ∷ lms_line Five ∷ last) (name_step plan_line plans 3)
+    (script f Quorum 1 Echo Five, bare_schedule f Quorum 1 Echo Five (one_client f few), refl) (λ ls rest p is. (name_is plan_line plans 3 ls rest p is, fronts4 f p few))
 
 abbrev rest2 : Rest
-rest2 = f_line 1 ∷ rest3
+rest2 = f_line 1 ∷ plan_line Quorum ∷ clients_line 1 ∷ service_line Echo ∷ lms_line Five ∷ last
 
-led6 : (f c : ℕ) (v : ServiceName) → From6 f c v rest6
-led6 f c v = default_led lms_line IsHeight (From7 f c) Five five_built rest7 (no_body f c [])
+some_schedule : Completes [] (codes "abstract 1" ∷ rest2)
+some_schedule = (script 1 Quorum 1 Echo Five, bare_schedule 1 Quorum 1 Echo Five (one_client 1 (omega arith, omega arith)), refl)
 
-led5 : (f c : ℕ) → From5 f c rest5
-led5 f c = default_led service_line IsService (From6 f c) Echo echo_built rest6 (led6 f c Echo)
+fronts2 : Fronts 2 from2 (codes "abstract 1" ∷ [])
+fronts2 = step_front f_line 2 (number_at (codes "f ") 1 2 2) from3 (codes "abstract 1" ∷ []) rest2 (number_step (codes "f ") 1 2 2)
+    some_schedule (λ ls rest f is. let n = number_is (codes "f ") 1 2 2 ls rest f is in (n.0, fronts3 f (n.1, n.2)))
 
-led4 : (f : ℕ) (p : Plan) → From4 f p rest4
-led4 f p = default_led clients_line AreClients (From5 f) 1 (omega arith, omega arith) rest5 (led5 f 1)
-
-led3 : (f : ℕ) → From3 f rest3
-led3 f = default_led plan_line IsPlan (From4 f) Quorum quorum_built rest4 (led4 f Quorum)
-
-fronts6 : (f : ℕ) (p : Plan) (c : ℕ) (v : ServiceName) → Fronts 6 (from6 f p c v) (From6 f c v)
-fronts6 f p c v = step_front lms_line IsHeight (From7 f c) Five five_built rest7 (no_body f c []) 6 (name_at lms_line heights height_is_built 6) (λ h ls. Ok (script f p c v h, ls)) (name_step lms_line heights height_is_built 6)
-    (λ ls rest x. name_is lms_line heights height_is_built 6 ls rest x) (λ h ls e m at r. body_front ls 7 (script f p c v h) e m at r)
-
-fronts5 : (f : ℕ) (p : Plan) (c : ℕ) → Fronts 5 (from5 f p c) (From5 f c)
-fronts5 f p c = step_front service_line IsService (From6 f c) Echo echo_built rest6 (led6 f c Echo) 5 (name_at service_line services service_is_built 5) (from6 f p c) (name_step service_line services service_is_built 5)
-    (λ ls rest x. name_is service_line services service_is_built 5 ls rest x) (fronts6 f p c)
-
-fronts4 : (f : ℕ) (p : Plan) → Fronts 4 (from4 f p) (From4 f p)
-fronts4 f p = step_front clients_line AreClients (From5 f) 1 (omega arith, omega arith) rest5 (led5 f 1) 4 (number_at (codes "clients ") 1 16 4) (from5 f p) (number_step (codes "clients ") 1 16 4)
-    (λ ls rest x h. let n = number_is (codes "clients ") 1 16 4 ls rest x h in (n.0, (n.1, n.2))) (fronts5 f p)
-
-fronts3 : (f : ℕ) → Fronts 3 (from3 f) (From3 f)
-fronts3 f = step_front plan_line IsPlan (From4 f) Quorum quorum_built rest4 (led4 f Quorum) 3 (name_at plan_line plans plan_is_built 3) (from4 f) (name_step plan_line plans plan_is_built 3)
-    (λ ls rest x. name_is plan_line plans plan_is_built 3 ls rest x) (fronts4 f)
-
-fronts2 : Fronts 2 from2 From2
-fronts2 = step_front f_line IsF From3 1 (omega arith, omega arith) rest3 (led3 1) 2 (number_at (codes "f ") 1 2 2) from3 (number_step (codes "f ") 1 2 2)
-    (λ ls rest x h. let n = number_is (codes "f ") 1 2 2 ls rest x h in (n.0, (n.1, n.2))) fronts3
-
--- all the lines of a built schedule
-abbrev AreLines : Rest → Type 0
-AreLines ls = (rest : Rest) × From2 rest × (ls ≡ codes "abstract 1" ∷ rest)
-
-some_lines : AreLines (codes "abstract 1" ∷ rest2)
-some_lines = (rest2, default_led f_line IsF From3 1 (omega arith, omega arith) rest3 (led3 1), refl)
-
-head_fronts : Fronts 1 head_at AreLines
+head_fronts : Fronts 1 head_at []
 unfolding head_at
-head_fronts [] e m at h = at_once 1 m [] (codes "abstract 1" ∷ rest2) AreLines (of_line e (NoEnd 1) 1 m h refl at) some_lines
+head_fronts [] e m at h = at_once 1 m [] (codes "abstract 1" ∷ rest2) (Completes []) (of_line e (NoEnd 1) 1 m h refl at) some_schedule
 head_fronts (l ∷ ls) e m at h =
     let After : Result Rest TextFault → Type 0 = λ o. Continues (o >>= from2) (Err e) in
     elim (line_step (codes "abstract 1") l 1) [
       | inl good ↦
           let line : l ≡ codes "abstract 1" = ap (λ t. get_or t 0 []) (line_is (codes "abstract 1") 1 (l ∷ ls) ls (good ls)) in
-          one_more 1 m l ls From2 AreLines (fronts2 ls e m at (subst After (good ls) h)) (λ rest led. (rest, led, ap (λ t. t ∷ rest) line))
+          one_more 1 m l ls (Completes (codes "abstract 1" ∷ [])) (Completes []) (fronts2 ls e m at (subst After (good ls) h))
+          (λ rest all. (all.0, all.1, all.2 ∙ ap (λ t. t ∷ rest) (sym line)))
       | inr bad ↦
           let stop : failed e ≡ failed (BadLine 1) = subst After (bad ls) h in
-          at_once 1 m (l ∷ ls) (codes "abstract 1" ∷ rest2) AreLines (of_line e (BadLine 1) 1 m stop refl at) some_lines
+          at_once 1 m (l ∷ ls) (codes "abstract 1" ∷ rest2) (Completes []) (of_line e (BadLine 1) 1 m stop refl at) some_schedule
     ]
 
--- such lines are those of a schedule
-schedule_of : (ls : Rest) → AreLines ls → (s : Script) × IsSchedule s × IsBuilt s × (ls ≡ schedule_lines s)
-schedule_of ls (rest, two, said) =
-    let three = two.next in
-    let four = three.next in
-    let five = four.next in
-    let six = five.next in
-    let body = six.next in
-    let s : Script = record { f = two.value; clients = four.value; plan = three.value; service = five.value; lms = six.value; faulty = body.faulty; events = body.events } in (
-      s,
-      record { bounds = record { some_faulty = two.good.0; few_faulty = two.good.1; some_client = four.good.0; few_clients = four.good.1 }; faulty = body.next; events = body.good },
-      record { plan = three.good; service = five.good; lms = six.good; events = body.built },
-      said ∙ ap (λ t. codes "abstract 1" ∷ t) (two.lines ∙ ap (λ t. f_line two.value ∷ t) (three.lines ∙ ap (λ t. plan_line three.value ∷ t)
-          (four.lines ∙ ap (λ t. clients_line four.value ∷ t) (five.lines ∙ ap (λ t. service_line five.value ∷ t) (six.lines ∙ ap (λ t. lms_line six.value ∷ t) body.lines))))),
-    )
-
-front_begins : (ls : Rest) (e : TextFault) (m : ℕ) → IsOfLine e m → Continues (head_at ls) (Err e) → BeginsBuilt (take (m - 1) ls)
+front_begins : (ls : Rest) (e : TextFault) (m : ℕ) → IsOfLine e m → Continues (head_at ls) (Err e) → BeginsSome (take (m - 1) ls)
 front_begins ls e m at h =
     let f = head_fronts ls e m at h in
     let place : m - 1 ≡ length f.front = (let p = f.place in omega (arith, p)) in
     let front : take (m - 1) ls ≡ f.front = (λ j. take (place j) (f.split j)) ∙ take-append_seam f.front f.back in
-    let all = schedule_of (f.front ++ f.more) f.whole in
-    (all.0, f.more, all.1, all.2, sym all.3 ∙ ap (λ x. x ++ f.more) (sym front))
+    (f.whole.0, f.more, f.whole.1, f.whole.2 ∙ ap (λ x. x ++ f.more) (sym front))
 
--- the lines before a fault begin a built schedule
-pub bad_front : (text : List ℕ) (n : ℕ) → ReadsText text (Err (BadLine n)) → BeginsBuilt (take (n - 1) (lines_of text))
+-- the lines before a fault begin a schedule
+pub bad_front : (text : List ℕ) (n : ℕ) → ReadsText text (Err (BadLine n)) → BeginsSome (take (n - 1) (lines_of text))
 bad_front text n h = front_begins (lines_of text) (BadLine n) n refl h
 
-pub unbuilt_front : (text : List ℕ) (n : ℕ) → ReadsText text (Err (NotBuilt n)) → BeginsBuilt (take (n - 1) (lines_of text))
-unbuilt_front text n h = front_begins (lines_of text) (NotBuilt n) n refl h
-
-pub end_front : (text : List ℕ) (n : ℕ) → ReadsText text (Err (NoEnd n)) → BeginsBuilt (take (n - 1) (lines_of text))
+pub end_front : (text : List ℕ) (n : ℕ) → ReadsText text (Err (NoEnd n)) → BeginsSome (take (n - 1) (lines_of text))
 end_front text n h = front_begins (lines_of text) (NoEnd n) n refl h

@@ -1,5 +1,5 @@
 -- The head of a schedule, read and spelled.
-use Rattle.std.proofs.Common.{◌≡◌, ℕ, ◌<◌, ◌≤◌, ◌^◌, List, [], ◌∷◌, ◌++◌, Bool, true, false, Option, Some, None, Result, Ok, Err, find, codes, decimal, refl, sym, ap, ◌∙◌, inl, inr, nat_le, ◌&&◌, if◌then◌else◌, eqb, arith, IsTrue, subst}
+use Rattle.std.proofs.Common.{◌≡◌, ℕ, ◌<◌, ◌≤◌, ◌^◌, List, [], ◌∷◌, ◌++◌, Bool, true, false, Option, Some, None, Result, Ok, Err, find, codes, decimal, refl, sym, ap, ◌∙◌, inl, inr, nat_le, ◌&&◌, if◌then◌else◌, eqb, arith, subst}
 use Rattle.std.specs.Str.{bytes_eq}
 use Rattle.std.specs.Str.Parse.{digits_value}
 use Rattle.std.proofs.lemmas.Bool.{cases_Bool, and_parts, leb-true, le-leb}
@@ -13,9 +13,8 @@ use Rattle.ab_num.specs.declared.plan.ServiceName.TheVariants.{Echo, Kv}
 use Rattle.ab_num.specs.declared.plan.Height.{Height}
 use Rattle.ab_num.specs.declared.plan.Height.TheVariants.{Five, Ten}
 use Rattle.ab_text.specs.declared.fault.TextFault.{TextFault}
-use Rattle.ab_text.specs.declared.fault.TextFault.TheVariants.{BadLine, NotBuilt}
+use Rattle.ab_text.specs.declared.fault.TextFault.TheVariants.{BadLine}
 use Rattle.ab_text.specs.Numbers.{number_of, is_number}
-use Rattle.ab_text.specs.Built.{plan_is_built, service_is_built, height_is_built}
 use Rattle.ab_text.specs.Heads.{◌>>=◌, Script, line_at, number_at, number_after, number_in, stripped, within, spelled_in, taken, name_at, plan_line, plans, service_line, services, lms_line, heights, head_at}
 use Rattle.ab_text.specs.Spelling.{head_lines}
 use Rattle.ab_text.proofs.WordLemmas.{stripped-is}
@@ -95,19 +94,18 @@ spelled_says : {A : Type 0} (spell : A → List ℕ) (all : List A) (l : List �
 unfolding spelled_in
 spelled_says spell all l a h = (bytes_eq-Decides l (spell a)).0 (found_says (λ a. bytes_eq l (spell a)) all a h)
 
-taken_says : {A : Type 0} (is_built : A → Bool) (n : ℕ) (ls rest : List (List ℕ)) (o : Option A) (a : A) → taken is_built n ls o ≡ Ok (a, rest) → (o ≡ Some a) × (ls ≡ rest) × IsTrue (is_built a)
-taken_says is_built n ls rest None a h = absurd (cc)
-taken_says {A} is_built n ls rest (Some b) a h =
-    let both = chosen (is_built b) (b, ls) (a, rest) (NotBuilt n) h in
-    let same : b ≡ a = ap (λ (p : A × List (List ℕ)). p.0) both.1 in
-    (ap Some same, ap (λ (p : A × List (List ℕ)). p.1) both.1, sym (ap is_built same) ∙ both.0)
+taken_says : {A : Type 0} (n : ℕ) (ls rest : List (List ℕ)) (o : Option A) (a : A) → taken n ls o ≡ Ok (a, rest) → (o ≡ Some a) × (ls ≡ rest)
+taken_says n ls rest None a h = absurd (cc)
+taken_says {A} n ls rest (Some b) a h =
+    let both : ◌≡◌ {A = A × List (List ℕ)} (b, ls) (a, rest) = cc in
+    (ap (λ (p : A × List (List ℕ)). Some p.0) both, ap (λ (p : A × List (List ℕ)). p.1) both)
 
-pub name_is : {A : Type 0} (spell : A → List ℕ) (all : List A) (is_built : A → Bool) (n : ℕ) (ls rest : List (List ℕ)) (a : A) → name_at spell all is_built n ls ≡ Ok (a, rest) → (ls ≡ spell a ∷ rest) × IsTrue (is_built a)
-name_is spell all is_built n [] rest a h = absurd (cc)
-name_is spell all is_built n (l ∷ ls) rest a h =
-    let parts = taken_says is_built n ls rest (spelled_in spell all l) a h in
+pub name_is : {A : Type 0} (spell : A → List ℕ) (all : List A) (n : ℕ) (ls rest : List (List ℕ)) (a : A) → name_at spell all n ls ≡ Ok (a, rest) → ls ≡ spell a ∷ rest
+name_is spell all n [] rest a h = absurd (cc)
+name_is spell all n (l ∷ ls) rest a h =
+    let parts = taken_says n ls rest (spelled_in spell all l) a h in
     let said = spelled_says spell all l a parts.0 in
-    ((λ j. said j ∷ parts.1 j), parts.2)
+    λ j. said j ∷ parts.1 j
 
 -- the head from each of its lines on
 abbrev pub Rest : Type 0
@@ -117,16 +115,16 @@ abbrev pub script : ℕ → Plan → ℕ → ServiceName → Height → Script
 script f p c v h = record { f = f; clients = c; plan = p; service = v; lms = h; faulty = []; events = [] }
 
 abbrev pub from6 : ℕ → Plan → ℕ → ServiceName → Rest → Result (Script × Rest) TextFault
-from6 f p c v ls = name_at lms_line heights height_is_built 6 ls >>= λ (x : Height × Rest). Ok (script f p c v x.0, x.1)
+from6 f p c v ls = name_at lms_line heights 6 ls >>= λ (x : Height × Rest). Ok (script f p c v x.0, x.1)
 
 abbrev pub from5 : ℕ → Plan → ℕ → Rest → Result (Script × Rest) TextFault
-from5 f p c ls = name_at service_line services service_is_built 5 ls >>= λ (x : ServiceName × Rest). from6 f p c x.0 x.1
+from5 f p c ls = name_at service_line services 5 ls >>= λ (x : ServiceName × Rest). from6 f p c x.0 x.1
 
 abbrev pub from4 : ℕ → Plan → Rest → Result (Script × Rest) TextFault
 from4 f p ls = number_at (codes "clients ") 1 16 4 ls >>= λ (x : ℕ × Rest). from5 f p x.0 x.1
 
 abbrev pub from3 : ℕ → Rest → Result (Script × Rest) TextFault
-from3 f ls = name_at plan_line plans plan_is_built 3 ls >>= λ (x : Plan × Rest). from4 f x.0 x.1
+from3 f ls = name_at plan_line plans 3 ls >>= λ (x : Plan × Rest). from4 f x.0 x.1
 
 abbrev pub from2 : Rest → Result (Script × Rest) TextFault
 from2 ls = number_at (codes "f ") 1 2 2 ls >>= λ (x : ℕ × Rest). from3 x.0 x.1
@@ -137,54 +135,48 @@ same_pair s t r rest e =
     (ap (λ (p : Script × Rest). p.0) both, ap (λ (p : Script × Rest). p.1) both)
 
 is6 : (f : ℕ) (p : Plan) (c : ℕ) (v : ServiceName) (ls rest : Rest) (s : Script) → from6 f p c v ls ≡ Ok (s, rest)
-    → (h : Height) × (ls ≡ lms_line h ∷ rest) × IsTrue (height_is_built h) × (script f p c v h ≡ s)
+    → (h : Height) × (ls ≡ lms_line h ∷ rest) × (script f p c v h ≡ s)
 is6 f p c v ls rest s e =
-    let b = bind_ok (name_at lms_line heights height_is_built 6 ls) (λ (x : Height × Rest). Ok (script f p c v x.0, x.1)) (s, rest) e in
+    let b = bind_ok (name_at lms_line heights 6 ls) (λ (x : Height × Rest). Ok (script f p c v x.0, x.1)) (s, rest) e in
     let q = same_pair (script f p c v b.0.0) s b.0.1 rest b.2 in
-    let n = name_is lms_line heights height_is_built 6 ls b.0.1 b.0.0 b.1 in
-    (b.0.0, n.0 ∙ ap (λ t. lms_line b.0.0 ∷ t) q.1, n.1, q.0)
+    let n = name_is lms_line heights 6 ls b.0.1 b.0.0 b.1 in
+    (b.0.0, n ∙ ap (λ t. lms_line b.0.0 ∷ t) q.1, q.0)
 
 is5 : (f : ℕ) (p : Plan) (c : ℕ) (ls rest : Rest) (s : Script) → from5 f p c ls ≡ Ok (s, rest)
-    → (v : ServiceName) × (h : Height) × (ls ≡ service_line v ∷ lms_line h ∷ rest) × IsTrue (service_is_built v) × IsTrue (height_is_built h) × (script f p c v h ≡ s)
+    → (v : ServiceName) × (h : Height) × (ls ≡ service_line v ∷ lms_line h ∷ rest) × (script f p c v h ≡ s)
 is5 f p c ls rest s e =
-    let b = bind_ok (name_at service_line services service_is_built 5 ls) (λ (x : ServiceName × Rest). from6 f p c x.0 x.1) (s, rest) e in
-    let n = name_is service_line services service_is_built 5 ls b.0.1 b.0.0 b.1 in
+    let b = bind_ok (name_at service_line services 5 ls) (λ (x : ServiceName × Rest). from6 f p c x.0 x.1) (s, rest) e in
+    let n = name_is service_line services 5 ls b.0.1 b.0.0 b.1 in
     let q = is6 f p c b.0.0 b.0.1 rest s b.2 in
-    (b.0.0, q.0, n.0 ∙ ap (λ t. service_line b.0.0 ∷ t) q.1, n.1, q.2, q.3)
+    (b.0.0, q.0, n ∙ ap (λ t. service_line b.0.0 ∷ t) q.1, q.2)
 
 abbrev tail4 : ℕ → ServiceName → Height → Rest → Rest
 tail4 c v h rest = (codes "clients " ++ decimal c) ∷ service_line v ∷ lms_line h ∷ rest
 
 is4 : (f : ℕ) (p : Plan) (ls rest : Rest) (s : Script) → from4 f p ls ≡ Ok (s, rest)
-    → (c : ℕ) × (v : ServiceName) × (h : Height) × (ls ≡ tail4 c v h rest) × (1 ≤ c) × (c ≤ 16) × IsTrue (service_is_built v) × IsTrue (height_is_built h) × (script f p c v h ≡ s)
+    → (c : ℕ) × (v : ServiceName) × (h : Height) × (ls ≡ tail4 c v h rest) × (1 ≤ c) × (c ≤ 16) × (script f p c v h ≡ s)
 is4 f p ls rest s e =
     let b = bind_ok (number_at (codes "clients ") 1 16 4 ls) (λ (x : ℕ × Rest). from5 f p x.0 x.1) (s, rest) e in
     let n = number_is (codes "clients ") 1 16 4 ls b.0.1 b.0.0 b.1 in
     let q = is5 f p b.0.0 b.0.1 rest s b.2 in
-    (b.0.0, q.0, q.1, n.0 ∙ ap (λ t. (codes "clients " ++ decimal b.0.0) ∷ t) q.2, n.1, n.2, q.3, q.4, q.5)
+    (b.0.0, q.0, q.1, n.0 ∙ ap (λ t. (codes "clients " ++ decimal b.0.0) ∷ t) q.2, n.1, n.2, q.3)
 
 -- a head that was read, and the lines after it
 pub record IsHead (s : Script) (ls rest : List (List ℕ)) : Type 0 where
   pub lines : ls ≡ head_lines s ++ rest
   pub bounds : IsInBounds s.f s.clients
-  pub plan : IsTrue (plan_is_built s.plan)
-  pub service : IsTrue (service_is_built s.service)
-  pub lms : IsTrue (height_is_built s.lms)
   pub faulty : s.faulty ≡ []
   pub events : s.events ≡ []
 
 is3 : (f : ℕ) (ls rest : Rest) (s : Script) → from3 f ls ≡ Ok (s, rest) → 1 ≤ f → f ≤ 2
     → IsHead s (codes "abstract 1" ∷ (codes "f " ++ decimal f) ∷ ls) rest
 is3 f ls rest s e low high =
-    let b = bind_ok (name_at plan_line plans plan_is_built 3 ls) (λ (x : Plan × Rest). from4 f x.0 x.1) (s, rest) e in
-    let n = name_is plan_line plans plan_is_built 3 ls b.0.1 b.0.0 b.1 in
+    let b = bind_ok (name_at plan_line plans 3 ls) (λ (x : Plan × Rest). from4 f x.0 x.1) (s, rest) e in
+    let n = name_is plan_line plans 3 ls b.0.1 b.0.0 b.1 in
     let q = is4 f b.0.0 b.0.1 rest s b.2 in
-    subst (λ t. IsHead t (codes "abstract 1" ∷ (codes "f " ++ decimal f) ∷ ls) rest) q.8 (record {
-      lines = ap (λ t. codes "abstract 1" ∷ (codes "f " ++ decimal f) ∷ t) (n.0 ∙ ap (λ t. plan_line b.0.0 ∷ t) q.3);
+    subst (λ t. IsHead t (codes "abstract 1" ∷ (codes "f " ++ decimal f) ∷ ls) rest) q.6 (record {
+      lines = ap (λ t. codes "abstract 1" ∷ (codes "f " ++ decimal f) ∷ t) (n ∙ ap (λ t. plan_line b.0.0 ∷ t) q.3);
       bounds = record { some_faulty = low; few_faulty = high; some_client = q.4; few_clients = q.5 };
-      plan = n.1;
-      service = q.6;
-      lms = q.7;
       faulty = refl;
       events = refl;
     })
@@ -209,9 +201,8 @@ number_reads word low high n ls k above below small =
     ∙ ap (within low high n ls) (is_some_number (decimal k) k small refl)
     ∙ (λ j. if le-leb low k above j && le-leb k high below j then Ok (k, ls) else Err (BadLine n))
 
-name_reads : {A : Type 0} (spell : A → List ℕ) (all : List A) (is_built : A → Bool) (n : ℕ) (ls : Rest) (a : A) → spelled_in spell all (spell a) ≡ Some a
-    → name_at spell all is_built n (spell a ∷ ls) ≡ (if is_built a then Ok (a, ls) else Err (NotBuilt n))
-name_reads spell all is_built n ls a e = ap (taken is_built n ls) e
+name_reads : {A : Type 0} (spell : A → List ℕ) (all : List A) (n : ℕ) (ls : Rest) (a : A) → spelled_in spell all (spell a) ≡ Some a → name_at spell all n (spell a ∷ ls) ≡ Ok (a, ls)
+name_reads spell all n ls a e = ap (taken n ls) e
 
 plan_read : (p : Plan) → spelled_in plan_line plans (plan_line p) ≡ Some p
 unfolding spelled_in
@@ -232,37 +223,18 @@ unfolding spelled_in
 height_read Five = refl
 height_read Ten = refl
 
-abbrev bare : Script → Script
-bare s = script s.f s.plan s.clients s.service s.lms
-
--- the head's lines give the head, or the first of its forms that isn't built
-abbrev pub head_outcome : Script → List (List ℕ) → Result (Script × List (List ℕ)) TextFault
-head_outcome s rest =
-    if plan_is_built s.plan then (if service_is_built s.service then (if height_is_built s.lms then Ok (record s { faulty = []; events = [] }, rest) else Err (NotBuilt 6)) else Err (NotBuilt 5)) else Err (NotBuilt 3)
-
-branch : {A B : Type 0} (b : Bool) (x : A) (n : ℕ) (f : A → Result B TextFault) → ((if b then Ok x else Err (NotBuilt n)) >>= f) ≡ (if b then f x else Err (NotBuilt n))
-branch true x n f = refl
-branch false x n f = refl
-
-pub head_reads : (s : Script) (rest : List (List ℕ)) → IsInBounds s.f s.clients → head_at (head_lines s ++ rest) ≡ head_outcome s rest
+pub head_reads : (s : Script) (rest : Rest) → IsInBounds s.f s.clients → head_at (head_lines s ++ rest) ≡ Ok (script s.f s.plan s.clients s.service s.lms, rest)
 unfolding head_at
 head_reads s rest bounds =
     let f_low = bounds.some_faulty in
     let f_high = bounds.few_faulty in
     let c_low = bounds.some_client in
     let c_high = bounds.few_clients in
-    let six : from6 s.f s.plan s.clients s.service (lms_line s.lms ∷ rest) ≡ (if height_is_built s.lms then Ok (bare s, rest) else Err (NotBuilt 6)) =
-    ap (λ (r : Result (Height × Rest) TextFault). r >>= λ (x : Height × Rest). Ok (script s.f s.plan s.clients s.service x.0, x.1)) (name_reads lms_line heights height_is_built 6 rest s.lms (height_read s.lms))
-    ∙ branch (height_is_built s.lms) (s.lms, rest) 6 (λ (x : Height × Rest). Ok (script s.f s.plan s.clients s.service x.0, x.1)) in
-    let five : from5 s.f s.plan s.clients (service_line s.service ∷ lms_line s.lms ∷ rest) ≡ (if service_is_built s.service then from6 s.f s.plan s.clients s.service (lms_line s.lms ∷ rest) else Err (NotBuilt 5)) =
-    ap (λ (r : Result (ServiceName × Rest) TextFault). r >>= λ (x : ServiceName × Rest). from6 s.f s.plan s.clients x.0 x.1) (name_reads service_line services service_is_built 5 (lms_line s.lms ∷ rest) s.service (service_read s.service))
-    ∙ branch (service_is_built s.service) (s.service, lms_line s.lms ∷ rest) 5 (λ (x : ServiceName × Rest). from6 s.f s.plan s.clients x.0 x.1) in
-    let four : from4 s.f s.plan (tail4 s.clients s.service s.lms rest) ≡ from5 s.f s.plan s.clients (service_line s.service ∷ lms_line s.lms ∷ rest) =
-    ap (λ (r : Result (ℕ × Rest) TextFault). r >>= λ (x : ℕ × Rest). from5 s.f s.plan x.0 x.1) (number_reads (codes "clients ") 1 16 4 (service_line s.service ∷ lms_line s.lms ∷ rest) s.clients c_low c_high (omega (arith, c_high))) in
-    let three : from3 s.f (plan_line s.plan ∷ tail4 s.clients s.service s.lms rest) ≡ (if plan_is_built s.plan then from4 s.f s.plan (tail4 s.clients s.service s.lms rest) else Err (NotBuilt 3)) =
-    ap (λ (r : Result (Plan × Rest) TextFault). r >>= λ (x : Plan × Rest). from4 s.f x.0 x.1) (name_reads plan_line plans plan_is_built 3 (tail4 s.clients s.service s.lms rest) s.plan (plan_read s.plan))
-    ∙ branch (plan_is_built s.plan) (s.plan, tail4 s.clients s.service s.lms rest) 3 (λ (x : Plan × Rest). from4 s.f x.0 x.1) in
-    ap (λ (r : Result Rest TextFault). r >>= from2) (line_reads (codes "abstract 1") 1 ((codes "f " ++ decimal s.f) ∷ plan_line s.plan ∷ tail4 s.clients s.service s.lms rest))
-    ∙ ap (λ (r : Result (ℕ × Rest) TextFault). r >>= λ (x : ℕ × Rest). from3 x.0 x.1) (number_reads (codes "f ") 1 2 2 (plan_line s.plan ∷ tail4 s.clients s.service s.lms rest) s.f f_low f_high (omega (arith, f_high)))
-    ∙ three
-    ∙ ap (λ (r : Result (Script × Rest) TextFault). if plan_is_built s.plan then r else Err (NotBuilt 3)) (four ∙ five ∙ ap (λ (r : Result (Script × Rest) TextFault). if service_is_built s.service then r else Err (NotBuilt 5)) six)
+    let rest4 = tail4 s.clients s.service s.lms rest in
+    let rest5 = service_line s.service ∷ lms_line s.lms ∷ rest in
+    ap (λ (r : Result Rest TextFault). r >>= from2) (line_reads (codes "abstract 1") 1 ((codes "f " ++ decimal s.f) ∷ plan_line s.plan ∷ rest4))
+    ∙ ap (λ (r : Result (ℕ × Rest) TextFault). r >>= λ (x : ℕ × Rest). from3 x.0 x.1) (number_reads (codes "f ") 1 2 2 (plan_line s.plan ∷ rest4) s.f f_low f_high (omega (arith, f_high)))
+    ∙ ap (λ (r : Result (Plan × Rest) TextFault). r >>= λ (x : Plan × Rest). from4 s.f x.0 x.1) (name_reads plan_line plans 3 rest4 s.plan (plan_read s.plan))
+    ∙ ap (λ (r : Result (ℕ × Rest) TextFault). r >>= λ (x : ℕ × Rest). from5 s.f s.plan x.0 x.1) (number_reads (codes "clients ") 1 16 4 rest5 s.clients c_low c_high (omega (arith, c_high)))
+    ∙ ap (λ (r : Result (ServiceName × Rest) TextFault). r >>= λ (x : ServiceName × Rest). from6 s.f s.plan s.clients x.0 x.1) (name_reads service_line services 5 (lms_line s.lms ∷ rest) s.service (service_read s.service))
+    ∙ ap (λ (r : Result (Height × Rest) TextFault). r >>= λ (x : Height × Rest). Ok (script s.f s.plan s.clients s.service x.0, x.1)) (name_reads lms_line heights 6 rest s.lms (height_read s.lms))

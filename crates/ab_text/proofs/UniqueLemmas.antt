@@ -1,6 +1,5 @@
 -- A line spells one event, and a text gives one result.
-use Rattle.std.proofs.Common.{◌≡◌, ℕ, ◌+◌, ◌^◌, ◌<◌, List, [], ◌∷◌, ◌++◌, Bool, true, false, Option, None, Some, IfSome, Result, Ok, Err, get_or, drop, ◌≤◌, codes, decimal, refl, sym, ap, ◌∙◌, subst, arith, inl, inr, append-nil}
-use Rattle.std.specs.Prelude.{MatchBool}
+use Rattle.std.proofs.Common.{◌≡◌, ℕ, ◌+◌, ◌^◌, ◌<◌, List, [], ◌∷◌, ◌++◌, Option, None, Some, IfSome, Result, Ok, Err, get_or, drop, ◌≤◌, codes, decimal, refl, sym, ap, ◌∙◌, subst, arith, inl, inr, append-nil}
 use Rattle.std.specs.Str.Parse.{digits_value}
 use Rattle.std.specs.Result.{result_unwrap_or}
 use Rattle.std.proofs.lemmas.Fmt.{decimal_is_IsNumeral}
@@ -11,10 +10,8 @@ use Rattle.ab_text.specs.declared.event.Core.{Core}
 use Rattle.ab_text.specs.declared.event.Event.{Event}
 use Rattle.ab_text.specs.declared.event.Event.TheVariants.{Invoke, Deliver, Timeout, Inject}
 use Rattle.ab_text.specs.declared.fault.TextFault.{TextFault}
-use Rattle.ab_text.specs.declared.fault.TextFault.TheVariants.{NotBuilt}
 use Rattle.ab_text.specs.Cores.{Lacks, party_text, IsParty, twin_text, core_text, IsTwin, IsCore}
 use Rattle.ab_text.specs.EventLines.{event_line, delivery_text, IsEvent, IsInjected}
-use Rattle.ab_text.specs.Built.{event_is_built}
 use Rattle.ab_text.specs.Heads.{Script, head_at}
 use Rattle.ab_text.specs.Schedules.{ReadsEvents, ReadsFaulty, Continues, Ends, IsInside, faulty_line, with_event, with_faulty}
 use Rattle.ab_text.proofs.PartLemmas.{same_parts, no_split, Lacks-decimal}
@@ -101,11 +98,6 @@ no_end (Inject c x) is = let e : 100 ≡ 106 = ap (λ xs. get_or xs 2 0) is in o
 abbrev Outcome : Type 0
 Outcome = Result Script TextFault
 
--- two results on either side of a test are one, if those of each side are
-either : (b : Bool) (P Q : Outcome → Type 0) (r q : Outcome) → (P r → P q → r ≡ q) → (Q r → Q q → r ≡ q) → MatchBool b (P r) (Q r) → MatchBool b (P q) (Q q) → r ≡ q
-either true P Q r q one other a b = one a b
-either false P Q r q one other a b = other a b
-
 ends_once : (n : ℕ) (s : Script) (ls : List (List ℕ)) (r q : Outcome) → Ends n s ls r → Ends n s ls q → r ≡ q
 ends_once n s [] r q a b = a ∙ sym b
 ends_once n s (l ∷ ls) r q a b = a ∙ sym b
@@ -118,8 +110,7 @@ events_once (l ∷ ls) n s r q (inl (said, a)) (inr (inr (bad, b))) = absurd (ba
 events_once (l ∷ ls) n s r q (inr (inl (e, good, said, a))) (inl (told, b)) = absurd (no_end e (sym told ∙ said))
 events_once (l ∷ ls) n s r q (inr (inl (e, good, said, a))) (inr (inl (f, fine, told, b))) =
     let one : f ≡ e = same_event f e fine good (sym told ∙ said) in
-    either (event_is_built e) (ReadsEvents (n + 1) (with_event s e) ls) (λ x. x ≡ Err (NotBuilt n)) r q (events_once ls (n + 1) (with_event s e) r q) (λ x y. x ∙ sym y) a
-    (subst (λ x. MatchBool (event_is_built x) (ReadsEvents (n + 1) (with_event s x) ls q) (q ≡ Err (NotBuilt n))) one b)
+    events_once ls (n + 1) (with_event s e) r q a (subst (λ x. ReadsEvents (n + 1) (with_event s x) ls q) one b)
 events_once (l ∷ ls) n s r q (inr (inl (e, good, said, a))) (inr (inr (bad, b))) = absurd (bad.no_event e good said)
 events_once (l ∷ ls) n s r q (inr (inr (bad, a))) (inl (told, b)) = absurd (bad.no_end told)
 events_once (l ∷ ls) n s r q (inr (inr (bad, a))) (inr (inl (f, fine, told, b))) = absurd (bad.no_event f fine told)

@@ -1,8 +1,7 @@
 -- What a caller may take of a schedule that was read.
-use Rattle.std.specs.Prelude.{ℕ, ◌+◌, ◌*◌, ◌≤◌, length, All, AllPairs, IsTrue}
+use Rattle.std.specs.Prelude.{ℕ, ◌+◌, ◌*◌, ◌≤◌, length, All, AllPairs}
 use Rattle.ab_num.specs.declared.party.Party.{Party}
 use Rattle.ab_text.specs.EventLines.{IsEvent}
-use Rattle.ab_text.specs.Built.{plan_is_built}
 use Rattle.ab_text.specs.Heads.{Script}
 use Rattle.ab_text.specs.Schedules.{IsBefore, IsInside}
 
@@ -14,7 +13,6 @@ pub record IsDeclared (f clients : ℕ) (x : Party × ℕ) : Type 0 where
 
 -- no party is declared twice, and each event has a line: so commands, injected bytes and the numbers of twins have their bounds
 pub record IsInForm (s : Script) : Type 0 where
-  pub plan : IsTrue (plan_is_built s.plan)
   pub parties : All (IsDeclared s.f s.clients) s.faulty
   pub ascending : AllPairs (λ x later. IsBefore x.0 later.0) s.faulty
   pub few : length s.faulty ≤ 3 * s.f + 1 + s.clients

@@ -1,5 +1,5 @@
 -- The head of a schedule: six lines in their order.
-use Rattle.std.specs.Prelude.{◌≡◌, ℕ, List, [], ◌∷◌, Bool, Option, None, Some, Result, Ok, Err, codes, find, ◌&&◌, nat_le, nat_eq, if◌then◌else◌}
+use Rattle.std.specs.Prelude.{◌≡◌, ℕ, List, [], ◌∷◌, Option, None, Some, Result, Ok, Err, codes, find, ◌&&◌, nat_le, nat_eq, if◌then◌else◌}
 use Rattle.std.specs.Str.{bytes_eq}
 use Rattle.ab_num.specs.declared.party.Party.{Party}
 use Rattle.ab_num.specs.declared.plan.Plan.{Plan}
@@ -10,9 +10,8 @@ use Rattle.ab_num.specs.declared.plan.Height.{Height}
 use Rattle.ab_num.specs.declared.plan.Height.TheVariants.{Five, Ten}
 use Rattle.ab_text.specs.declared.event.Event.{Event}
 use Rattle.ab_text.specs.declared.fault.TextFault.{TextFault}
-use Rattle.ab_text.specs.declared.fault.TextFault.TheVariants.{BadLine, NotBuilt, NoEnd, OutOfMemory}
+use Rattle.ab_text.specs.declared.fault.TextFault.TheVariants.{BadLine, NoEnd, OutOfMemory}
 use Rattle.ab_text.specs.Numbers.{number_of}
-use Rattle.ab_text.specs.Built.{plan_is_built, service_is_built, height_is_built}
 
 -- a schedule as plain values
 pub record Script : Type 0 where
@@ -63,14 +62,14 @@ line_at form n (l ∷ ls) = if bytes_eq l form then Ok ls else Err (BadLine n)
 unfoldable pub spelled_in : {A : Type 0} → (A → List ℕ) → List A → List ℕ → Option A
 spelled_in spell all l = find (λ a. bytes_eq l (spell a)) all
 
-abbrev pub taken : {A : Type 0} → (A → Bool) → ℕ → List (List ℕ) → Option A → Result (A × List (List ℕ)) TextFault
-taken is_built n ls None = Err (BadLine n)
-taken is_built n ls (Some a) = if is_built a then Ok (a, ls) else Err (NotBuilt n)
+abbrev pub taken : {A : Type 0} → ℕ → List (List ℕ) → Option A → Result (A × List (List ℕ)) TextFault
+taken n ls None = Err (BadLine n)
+taken n ls (Some a) = Ok (a, ls)
 
--- line n is that of one of these, and built
-abbrev pub name_at : {A : Type 0} → (A → List ℕ) → List A → (A → Bool) → ℕ → List (List ℕ) → Result (A × List (List ℕ)) TextFault
-name_at spell all is_built n [] = Err (NoEnd n)
-name_at spell all is_built n (l ∷ ls) = taken is_built n ls (spelled_in spell all l)
+-- line n is that of one of these
+abbrev pub name_at : {A : Type 0} → (A → List ℕ) → List A → ℕ → List (List ℕ) → Result (A × List (List ℕ)) TextFault
+name_at spell all n [] = Err (NoEnd n)
+name_at spell all n (l ∷ ls) = taken n ls (spelled_in spell all l)
 
 -- what comes after a word
 abbrev pub stripped : List ℕ → List ℕ → Option (List ℕ)
@@ -100,17 +99,16 @@ unfoldable pub head_at : List (List ℕ) → Result (Script × List (List ℕ)) 
 head_at ls = do
   name ← line_at (codes "abstract 1") 1 ls
   f ← number_at (codes "f ") 1 2 2 name
-  plan ← name_at plan_line plans plan_is_built 3 f.1
+  plan ← name_at plan_line plans 3 f.1
   clients ← number_at (codes "clients ") 1 16 4 plan.1
-  service ← name_at service_line services service_is_built 5 clients.1
-  lms ← name_at lms_line heights height_is_built 6 service.1
+  service ← name_at service_line services 5 clients.1
+  lms ← name_at lms_line heights 6 service.1
   Ok (record { f = f.0; clients = clients.0; plan = plan.0; service = service.0; lms = lms.0; faulty = []; events = [] }, lms.1)
 
 -- what a function returned, seen by view, is what reading gives, unless memory ran out
 abbrev pub Fails : {Y : Type 0} → TextFault → Result Y TextFault → Type 0
 Fails OutOfMemory read = Unit {0}
 Fails (BadLine n) read = read ≡ Err (BadLine n)
-Fails (NotBuilt n) read = read ≡ Err (NotBuilt n)
 Fails (NoEnd n) read = read ≡ Err (NoEnd n)
 
 abbrev pub Gives : {X Y : Type 0} → (X → Y) → Result X TextFault → Result Y TextFault → Type 0

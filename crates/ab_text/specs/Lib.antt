@@ -4,7 +4,6 @@ pub mod Numbers
 pub mod Cores
 pub mod HexDigits
 pub mod EventLines
-pub mod Built
 pub mod Heads
 pub mod Settings
 pub mod Schedules

@@ -1,15 +1,14 @@
 -- The lines of a schedule.
-use Rattle.std.specs.Prelude.{◌≡◌, ℕ, ◌+◌, ◌*◌, ◌<◌, ◌≤◌, List, [], ◌∷◌, ◌++◌, Result, Ok, Err, All, MatchBool, codes, decimal, ◌⊎◌}
+use Rattle.std.specs.Prelude.{◌≡◌, ℕ, ◌+◌, ◌*◌, ◌<◌, ◌≤◌, List, [], ◌∷◌, ◌++◌, Result, Ok, Err, All, codes, decimal, ◌⊎◌}
 use Rattle.ab_num.specs.declared.party.Party.{Party}
 use Rattle.ab_num.specs.declared.party.Party.TheVariants.{Replica, Client}
 use Rattle.ab_text.specs.declared.event.Event.{Event}
 use Rattle.ab_text.specs.declared.fault.TextFault.{TextFault}
-use Rattle.ab_text.specs.declared.fault.TextFault.TheVariants.{BadLine, NotBuilt, NoEnd, OutOfMemory}
+use Rattle.ab_text.specs.declared.fault.TextFault.TheVariants.{BadLine, NoEnd, OutOfMemory}
 use Rattle.ab_text.specs.declared.schedule.Head.{Head}
 use Rattle.ab_text.specs.Lines.{lines_of}
 use Rattle.ab_text.specs.Cores.{party_text}
 use Rattle.ab_text.specs.EventLines.{event_line, IsEvent}
-use Rattle.ab_text.specs.Built.{event_is_built}
 use Rattle.ab_text.specs.Heads.{Script, head_at}
 
 abbrev pub script_of : Head → List Event → Script
@@ -71,7 +70,7 @@ abbrev pub ReadsEvents : ℕ → Script → List (List ℕ) → Result Script Te
 ReadsEvents n s [] r = r ≡ Err (NoEnd n)
 ReadsEvents n s (l ∷ ls) r =
     ((l ≡ codes "end") × Ends (n + 1) s ls r)
-    ⊎ (((e : Event) × IsEvent e × (l ≡ event_line e) × MatchBool (event_is_built e) (ReadsEvents (n + 1) (with_event s e) ls r) (r ≡ Err (NotBuilt n)))
+    ⊎ (((e : Event) × IsEvent e × (l ≡ event_line e) × ReadsEvents (n + 1) (with_event s e) ls r)
     ⊎ (IsNoEvent l × (r ≡ Err (BadLine n))))
 
 -- neither `run` nor a faulty party that may come next
@@ -94,7 +93,7 @@ abbrev pub Continues : Result (Script × List (List ℕ)) TextFault → Result S
 Continues (Err e) r = r ≡ Err e
 Continues (Ok p) r = ReadsFaulty 7 p.0 p.1 r
 
--- what a text gives: a schedule, or the first line that is out of form, not built or missing
+-- what a text gives: a schedule, or the first line that is out of form or missing
 abbrev pub ReadsText : List ℕ → Result Script TextFault → Type 0
 ReadsText text r = Continues (head_at (lines_of text)) r
 
@@ -102,5 +101,4 @@ ReadsText text r = Continues (head_at (lines_of text)) r
 abbrev pub FaultOf : TextFault → (Result Script TextFault → Type 0) → Type 0
 FaultOf OutOfMemory Reads = Unit {0}
 FaultOf (BadLine n) Reads = Reads (Err (BadLine n))
-FaultOf (NotBuilt n) Reads = Reads (Err (NotBuilt n))
 FaultOf (NoEnd n) Reads = Reads (Err (NoEnd n))

@@ -1,12 +1,11 @@
 -- The one spelling of a schedule.
-use Rattle.std.specs.Prelude.{◌≡◌, ℕ, List, [], ◌∷◌, ◌++◌, IsTrue, map, codes, decimal}
+use Rattle.std.specs.Prelude.{◌≡◌, ℕ, List, [], ◌∷◌, ◌++◌, map, codes, decimal}
 use Rattle.std.specs.List.{AllByRecursion}
 use Rattle.ab_num.specs.declared.party.Party.{Party}
 use Rattle.ab_num.specs.Bounds.{IsInBounds}
 use Rattle.ab_text.specs.declared.event.Event.{Event}
 use Rattle.ab_text.specs.Lines.{lines_of}
 use Rattle.ab_text.specs.EventLines.{event_line, IsEvent}
-use Rattle.ab_text.specs.Built.{plan_is_built, service_is_built, height_is_built, event_is_built}
 use Rattle.ab_text.specs.Heads.{Script, plan_line, service_line, lms_line}
 use Rattle.ab_text.specs.Schedules.{faulty_line, IsNextFaulty}
 
@@ -34,13 +33,6 @@ pub record IsSchedule (s : Script) : Type 0 where
   pub bounds : IsInBounds s.f s.clients
   pub faulty : AreFaulty s.f s.clients [] s.faulty
   pub events : AllByRecursion IsEvent s.events
-
--- all of its forms are built
-pub record IsBuilt (s : Script) : Type 0 where
-  pub plan : IsTrue (plan_is_built s.plan)
-  pub service : IsTrue (service_is_built s.service)
-  pub lms : IsTrue (height_is_built s.lms)
-  pub events : AllByRecursion (λ e. IsTrue (event_is_built e)) s.events
 
 -- the lines of the text are those of the schedule
 pub record IsSpelled (text : List ℕ) (s : Script) : Type 0 where

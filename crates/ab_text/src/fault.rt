@@ -7,8 +7,6 @@ use ab_num::OutOfMemory;
 pub enum TextFault {
     /// The line is out of form.
     BadLine(u32),
-    /// The line has a form that this program doesn't take.
-    NotBuilt(u32),
     /// The text ends before this line, which is wanted.
     NoEnd(u32),
     OutOfMemory,

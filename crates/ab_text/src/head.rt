@@ -3,11 +3,9 @@
 ghost use Rattle.std.specs.Prelude.{◌≡◌, ◌<◌, ◌≤◌, [], length, IfOk};
 ghost use Rattle.ab_num.specs.Bounds.{IsInBounds};
 ghost use Rattle.ab_text.specs.Lines.{lines_of};
-ghost use Rattle.ab_text.specs.Built.{plan_is_built, service_is_built, height_is_built};
 ghost use Rattle.ab_text.specs.Heads.{Gives, line_at, number_at, name_at, head_at, number_after, spelled_in, plan_line, plans, service_line, services, lms_line, heights};
 ghost use Rattle.ab_text.specs.Settings.{set_up};
 
-use crate::built::{takes_height, takes_plan, takes_service};
 use crate::fault::TextFault;
 use crate::lines::next_line;
 use crate::numbers::number;
@@ -126,60 +124,42 @@ pub fn height_in(line: &[u8]) -> Option<Height>
 
 /// The plan in line `n`, and what comes after that line.
 fn plan_at(text: &[u8], n: u32) -> Result<(Plan, &[u8]), TextFault>
-    ensures reads { Gives (λ p. (p.0, lines_of p.1.now)) result (name_at plan_line plans plan_is_built n (lines_of text.now)) }
+    ensures reads { Gives (λ p. (p.0, lines_of p.1.now)) result (name_at plan_line plans n (lines_of text.now)) }
     ensures shorter { IfOk result (λ p. length p.1.now ≤ length text.now) }
 {
     match next_line(text) {
         None => Err(TextFault::NoEnd(n)),
         Some((line, rest)) => match plan_in(line) {
             None => Err(TextFault::BadLine(n)),
-            Some(plan) => {
-                if takes_plan(plan) {
-                    Ok((plan, rest))
-                } else {
-                    Err(TextFault::NotBuilt(n))
-                }
-            }
+            Some(plan) => Ok((plan, rest)),
         },
     }
 }
 
 /// The service in line `n`, and what comes after that line.
 fn service_at(text: &[u8], n: u32) -> Result<(ServiceName, &[u8]), TextFault>
-    ensures reads { Gives (λ p. (p.0, lines_of p.1.now)) result (name_at service_line services service_is_built n (lines_of text.now)) }
+    ensures reads { Gives (λ p. (p.0, lines_of p.1.now)) result (name_at service_line services n (lines_of text.now)) }
     ensures shorter { IfOk result (λ p. length p.1.now ≤ length text.now) }
 {
     match next_line(text) {
         None => Err(TextFault::NoEnd(n)),
         Some((line, rest)) => match service_in(line) {
             None => Err(TextFault::BadLine(n)),
-            Some(service) => {
-                if takes_service(service) {
-                    Ok((service, rest))
-                } else {
-                    Err(TextFault::NotBuilt(n))
-                }
-            }
+            Some(service) => Ok((service, rest)),
         },
     }
 }
 
 /// The height in line `n`, and what comes after that line.
 fn height_at(text: &[u8], n: u32) -> Result<(Height, &[u8]), TextFault>
-    ensures reads { Gives (λ p. (p.0, lines_of p.1.now)) result (name_at lms_line heights height_is_built n (lines_of text.now)) }
+    ensures reads { Gives (λ p. (p.0, lines_of p.1.now)) result (name_at lms_line heights n (lines_of text.now)) }
     ensures shorter { IfOk result (λ p. length p.1.now ≤ length text.now) }
 {
     match next_line(text) {
         None => Err(TextFault::NoEnd(n)),
         Some((line, rest)) => match height_in(line) {
             None => Err(TextFault::BadLine(n)),
-            Some(height) => {
-                if takes_height(height) {
-                    Ok((height, rest))
-                } else {
-                    Err(TextFault::NotBuilt(n))
-                }
-            }
+            Some(height) => Ok((height, rest)),
         },
     }
 }

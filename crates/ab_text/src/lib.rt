@@ -1,7 +1,6 @@
 //! The texts of schedules and reports.
 #![tactic(auto)]
 
-mod built;
 mod bytes;
 mod cores;
 mod event;

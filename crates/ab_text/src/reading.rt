@@ -1,16 +1,15 @@
 //! Schedules, read.
 
-ghost use Rattle.std.specs.Prelude.{◌≡◌, ℕ, List, Result, ◌+◌, ◌-◌, ◌<◌, ◌≤◌, ◌^◌, [], length, take, MatchResult, Ok, Err, ◌⊎◌, IsTrue, ◌↔◌, codes};
+ghost use Rattle.std.specs.Prelude.{◌≡◌, ℕ, List, Result, ◌+◌, ◌-◌, ◌<◌, ◌≤◌, ◌^◌, [], length, take, MatchResult, Ok, Err, IsTrue, ◌↔◌, codes};
 ghost use Rattle.ab_text.specs.Lines.{lines_of};
 ghost use Rattle.ab_text.specs.declared.fault.TextFault.{TextFault as TheFault};
 ghost use Rattle.ab_text.specs.Heads.{Script};
 ghost use Rattle.ab_text.specs.Settings.{set_up};
-ghost use Rattle.ab_text.specs.Faults.{BeginsBuilt, BeginsNone, BeginsNoneBuilt};
-ghost use Rattle.ab_text.specs.Spelling.{IsBuilt, IsSpelled};
+ghost use Rattle.ab_text.specs.Faults.{BeginsNone, BeginsSome};
+ghost use Rattle.ab_text.specs.Spelling.{IsSpelled};
 ghost use Rattle.ab_text.specs.Forms.{IsInForm};
 ghost use Rattle.ab_text.specs.Schedules.{ReadsEvents, ReadsFaulty, ReadsText, FaultOf, script_of};
 
-use crate::built::takes_event;
 use crate::event_lines::event_of;
 use crate::fault::TextFault;
 use crate::faulty::next_faulty;
@@ -55,12 +54,7 @@ fn events_after(alloc: Global, head: Head, text: &[u8], first: u32) -> Result<Sc
         }
         match event_of(alloc, line)? {
             None => return Err(TextFault::BadLine(n)),
-            Some(event) => {
-                if !takes_event(&event) {
-                    return Err(TextFault::NotBuilt(n));
-                }
-                events.push(event)?;
-            }
+            Some(event) => events.push(event)?,
         }
         rest = after;
         n += 1;
@@ -110,7 +104,7 @@ fn faulty_after(
     Err(TextFault::NoEnd(n))
 }
 
-/// The schedule that a text spells. A line that is out of form, not built or missing is the first one.
+/// The schedule that a text spells. A line that is out of form or missing is the first one.
 pub fn read_schedule(alloc: Global, text: &[u8]) -> Result<Schedule, TextFault>
     requires { length text.now < 2 ^ 31 }
     ensures { MatchResult result
@@ -121,22 +115,19 @@ pub fn read_schedule(alloc: Global, text: &[u8]) -> Result<Schedule, TextFault>
     faulty_after(alloc, setting, rest, 7)
 }
 
-/// What is read as a schedule is spelled so, and all of its forms are built.
+/// What is read as a schedule is spelled so.
 pub fn read_is_spelled()
-    ensures { (text : List ℕ) (s : Script) → ReadsText text (Ok s) → IsSpelled text s × IsBuilt s }
+    ensures { (text : List ℕ) (s : Script) → ReadsText text (Ok s) → IsSpelled text s }
 {}
 
-/// What is read as a schedule has a plan that is built, faulty parties of the cluster, each once with
-/// 1 to 4 twins, and events in form.
+/// What is read as a schedule has faulty parties of the cluster, each once with 1 to 4 twins, and events in form.
 pub fn read_is_in_form()
     ensures { (text : List ℕ) (s : Script) → ReadsText text (Ok s) → IsInForm s }
 {}
 
-/// What is spelled so is read where all of its forms are built, and is otherwise no bad line.
+/// What is spelled so is read.
 pub fn spelled_is_read()
-    ensures built { (text : List ℕ) (s : Script) → IsSpelled text s → IsBuilt s → ReadsText text (Ok s) }
-    ensures other { (text : List ℕ) (s : Script) → IsSpelled text s
-        → ReadsText text (Ok s) ⊎ ((n : ℕ) × ReadsText text (Err (TextFault.NotBuilt n))) }
+    ensures { (text : List ℕ) (s : Script) → IsSpelled text s → ReadsText text (Ok s) }
 {}
 
 /// A text gives one result.
@@ -144,21 +135,16 @@ pub fn one_reading()
     ensures { (text : List ℕ) (r q : Result Script TheFault) → ReadsText text r → ReadsText text q → r ≡ q }
 {}
 
-/// A fault names the first line that is out of form, not built or missing: the lines before it begin a
-/// schedule that is built, and with it they begin none of the grammar, or none that is built.
+/// A fault names the first line that is out of form or missing: the lines before it begin a schedule, and
+/// with it they begin none.
 pub fn fault_is_first()
     ensures before_bad { (text : List ℕ) (n : ℕ) → ReadsText text (Err (TextFault.BadLine n))
-        → BeginsBuilt (take (n - 1) (lines_of text)) }
+        → BeginsSome (take (n - 1) (lines_of text)) }
     ensures bad { (text : List ℕ) (n : ℕ) → ReadsText text (Err (TextFault.BadLine n))
         → (1 ≤ n) × (n ≤ length (lines_of text)) × BeginsNone (take n (lines_of text)) }
 
-    ensures before_not_built { (text : List ℕ) (n : ℕ) → ReadsText text (Err (TextFault.NotBuilt n))
-        → BeginsBuilt (take (n - 1) (lines_of text)) }
-    ensures not_built { (text : List ℕ) (n : ℕ) → ReadsText text (Err (TextFault.NotBuilt n))
-        → (1 ≤ n) × (n ≤ length (lines_of text)) × BeginsNoneBuilt (take n (lines_of text)) }
-
     ensures before_no_end { (text : List ℕ) (n : ℕ) → ReadsText text (Err (TextFault.NoEnd n))
-        → BeginsBuilt (take (n - 1) (lines_of text)) }
+        → BeginsSome (take (n - 1) (lines_of text)) }
     ensures no_end { (text : List ℕ) (n : ℕ) → ReadsText text (Err (TextFault.NoEnd n))
         → (n ≡ length (lines_of text) + 1) × ((s : Script) → IsSpelled text s → ⊥) }
 {}

@@ -33,11 +33,10 @@ fn heads(rt: HostRuntime) -> Result<(), Fail> {
         ("abstract 1\nf 3\n", TextFault::BadLine(2)),
         ("abstract 1\nf 01\n", TextFault::BadLine(2)),
         ("abstract 1\nf 2\nplan quorums\n", TextFault::BadLine(3)),
-        ("abstract 1\nf 2\nplan azyzzyva\n", TextFault::NotBuilt(3)),
-        ("abstract 1\nf 2\nplan aliph\n", TextFault::NotBuilt(3)),
+        ("abstract 1\nf 2\nplan Aliph\n", TextFault::BadLine(3)),
         ("abstract 1\nf 2\nplan zlight\n", TextFault::NoEnd(4)),
         ("abstract 1\nf 2\nplan chain\n", TextFault::NoEnd(4)),
-        ("abstract 1\nf 2\nplan backup\n", TextFault::NotBuilt(3)),
+        ("abstract 1\nf 2\nplan backup \n", TextFault::BadLine(3)),
         (
             "abstract 1\nf 1\nplan quorum\nclients 0\n",
             TextFault::BadLine(4),
@@ -73,6 +72,27 @@ fn heads(rt: HostRuntime) -> Result<(), Fail> {
             Some(fault),
             "{text}"
         );
+    }
+    Ok(())
+}
+
+#[test]
+fn plans(rt: HostRuntime) -> Result<(), Fail> {
+    let alloc = rt.alloc();
+    let cases = [
+        ("azyzzyva", Plan::AZyzzyva),
+        ("aliph", Plan::Aliph),
+        ("backup", Plan::Backup),
+    ];
+    for (name, plan) in cases {
+        let text = format!(in alloc;
+            "abstract 1\nf 1\nplan {name}\nclients 1\nservice kv\nlms 10\nrun\nend\n"
+        )?;
+        assert!(rt; text.len() < 1000);
+        match read_schedule(alloc, text.as_bytes()) {
+            Err(_) => assert!(rt; false),
+            Ok(schedule) => assert_eq!(rt; schedule.head.cluster.plan, plan),
+        }
     }
     Ok(())
 }

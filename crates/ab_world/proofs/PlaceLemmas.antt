@@ -22,7 +22,7 @@ use Rattle.ab_cast.specs.Setups.{Setup, is_bad, place_of, numbered_place, twin_p
 use Rattle.ab_cast.specs.Cores.{Core, replica}
 use Rattle.ab_cast.specs.Casts.{core_at, command_refusal}
 use Rattle.ab_world.specs.declared.fault.WorldFault.{WorldFault}
-use Rattle.ab_world.specs.declared.fault.WorldFault.TheVariants.{EventLimit, NotBuilt}
+use Rattle.ab_world.specs.declared.fault.WorldFault.TheVariants.{EventLimit, BadCommand}
 use Rattle.ab_world.specs.Worlds.{World}
 use Rattle.ab_world.specs.Steps.{Given, ask, hand, ring, Happening, refuse_command, asked_at, asked, handed, rung, addressed, delivered, happening, ready_in, ready}
 
@@ -147,7 +147,7 @@ module _ {P : Type 0} where
 
   happens : (w : World P) (e : Event) (h : Happening) → w.cast.events < 100000 → happening w e ≡ Ok h → Happens w h
   happens w (Invoke core bytes) h few e =
-      let test = test_ok (nat_le 1 (length bytes.items) && nat_le (length bytes.items) 128) _ NotBuilt h e in
+      let test = test_ok (nat_le 1 (length bytes.items) && nat_le (length bytes.items) 128) _ BadCommand h e in
       let parts = parts_true (nat_le 1 (length bytes.items)) (nat_le (length bytes.items) 128) test.0 in
       asks w bytes (place_of w.cast.setup core.party core.twin) h few (leb-true 1 (length bytes.items) parts.0, leb-true (length bytes.items) 128 parts.1)
       (λ at is. place_there w.cast.setup core.party core.twin at is) test.1

@@ -19,7 +19,7 @@ use Rattle.ab_cast.specs.Cores.{Core, replica, client, command, message, time, c
 use Rattle.ab_cast.specs.Casts.{Cast, IsTaken, core_at, command_refusal, with_core, with_replica, with_client, next}
 use Rattle.ab_cast.proofs.PlaceLemmas.{owner_of_place}
 use Rattle.ab_world.specs.declared.fault.WorldFault.{WorldFault}
-use Rattle.ab_world.specs.declared.fault.WorldFault.TheVariants.{EventLimit, PacketLimit, NotBuilt, NoPacket, BadParty, Busy, OutOfMemory}
+use Rattle.ab_world.specs.declared.fault.WorldFault.TheVariants.{EventLimit, PacketLimit, BadCommand, NoPacket, BadParty, Busy, OutOfMemory}
 use Rattle.ab_world.specs.declared.handing.Handed.{Handed}
 use Rattle.ab_world.specs.declared.handing.Handed.TheVariants.{Missed, Heard}
 use Rattle.ab_world.specs.Worlds.{World}
@@ -87,7 +87,7 @@ module _ {P : Type 0} (proto : Proto P) (w : World P) where
   settles_is OutOfMemory v h is cause = tt
   settles_is PacketLimit v h is cause = passes_is h (subst (λ (x : World P). most_bytes < total x.packets) is cause)
   settles_is EventLimit v h is cause = absurd cause
-  settles_is NotBuilt v h is cause = absurd cause
+  settles_is BadCommand v h is cause = absurd cause
   settles_is NoPacket v h is cause = absurd cause
   settles_is BadParty v h is cause = absurd cause
   settles_is Busy v h is cause = absurd cause
@@ -104,7 +104,7 @@ module _ {P : Type 0} (proto : Proto P) (w : World P) where
   pub asks_at : (core : CoreName) (bytes : ArrayVec ℕ) → 1 ≤ length bytes.items → length bytes.items ≤ 128
       → happening w (Invoke core bytes) ≡ asked w bytes (place_of w.cast.setup core.party core.twin)
   asks_at core bytes some few =
-      (λ j. if le-leb 1 (length bytes.items) some j && le-leb (length bytes.items) 128 few j then asked w bytes (place_of w.cast.setup core.party core.twin) else Err NotBuilt)
+      (λ j. if le-leb 1 (length bytes.items) some j && le-leb (length bytes.items) 128 few j then asked w bytes (place_of w.cast.setup core.party core.twin) else Err BadCommand)
 
   pub asks_none : (core : CoreName) (bytes : ArrayVec ℕ) → 1 ≤ length bytes.items → length bytes.items ≤ 128
       → place_of w.cast.setup core.party core.twin ≡ None → happening w (Invoke core bytes) ≡ Err BadParty
@@ -159,7 +159,7 @@ module _ {P : Type 0} where
       leaves OutOfMemory cause end = end
       leaves PacketLimit cause end = end
       leaves EventLimit cause end = absurd cause
-      leaves NotBuilt cause end = absurd cause
+      leaves BadCommand cause end = absurd cause
       leaves NoPacket cause end = absurd cause
       leaves BadParty cause end = absurd cause
       leaves Busy cause end = absurd cause

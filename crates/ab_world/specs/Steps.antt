@@ -33,7 +33,7 @@ use Rattle.ab_cast.specs.Cores.{Core, Taken, command, message, time, taken_claim
 use Rattle.ab_cast.specs.Casts.{Cast, core_at, with_core, next, command_refusal}
 use Rattle.ab_premise.specs.Collisions.{looked, checked_items, first_items}
 use Rattle.ab_world.specs.declared.fault.WorldFault.{WorldFault}
-use Rattle.ab_world.specs.declared.fault.WorldFault.TheVariants.{EventLimit, PacketLimit, NotBuilt, NoPacket, BadParty, Busy, OutOfMemory}
+use Rattle.ab_world.specs.declared.fault.WorldFault.TheVariants.{EventLimit, PacketLimit, BadCommand, NoPacket, BadParty, Busy, OutOfMemory}
 use Rattle.ab_world.specs.Lines.{line_of, spent_lines, cause_of}
 use Rattle.ab_world.specs.Worlds.{World, opening_at}
 
@@ -88,7 +88,7 @@ abbrev pub happening : {P : Type 0} → World P → Event → Result Happening W
 happening w (Invoke core bytes) =
     if nat_le 1 (length bytes.items) && nat_le (length bytes.items) 128
     then asked w bytes (place_of w.cast.setup core.party core.twin)
-    else Err NotBuilt
+    else Err BadCommand
 happening w (Deliver packet core) = delivered w.cast.setup (nth w.packets packet) core
 happening w (Timeout core) = rung (place_of w.cast.setup core.party core.twin)
 happening w (Inject core bytes) = handed bytes (place_of w.cast.setup core.party core.twin)
@@ -224,7 +224,7 @@ abbrev pub CauseIn : {P : Type 0} → Proto P → WorldFault → World P → Res
 CauseIn proto OutOfMemory w h = MayWant h
 CauseIn proto EventLimit w h = stepped_by proto w h ≡ Err EventLimit
 CauseIn proto PacketLimit w h = stepped_by proto w h ≡ Err PacketLimit
-CauseIn proto NotBuilt w h = stepped_by proto w h ≡ Err NotBuilt
+CauseIn proto BadCommand w h = stepped_by proto w h ≡ Err BadCommand
 CauseIn proto NoPacket w h = stepped_by proto w h ≡ Err NoPacket
 CauseIn proto BadParty w h = stepped_by proto w h ≡ Err BadParty
 CauseIn proto Busy w h = stepped_by proto w h ≡ Err Busy
@@ -237,7 +237,7 @@ abbrev pub SettleCause : {P : Type 0} → WorldFault → World P → Type 0
 SettleCause OutOfMemory w = Unit {0}
 SettleCause PacketLimit w = most_bytes < total w.packets
 SettleCause EventLimit w = ⊥
-SettleCause NotBuilt w = ⊥
+SettleCause BadCommand w = ⊥
 SettleCause NoPacket w = ⊥
 SettleCause BadParty w = ⊥
 SettleCause Busy w = ⊥
@@ -257,7 +257,7 @@ abbrev pub Leaves : {P : Type 0} → WorldFault → World P → World P → Type
 Leaves OutOfMemory old new = HasEnded OutOfMemory old new
 Leaves EventLimit old new = HasEnded EventLimit old new
 Leaves PacketLimit old new = HasEnded PacketLimit old new
-Leaves NotBuilt old new = new ≡ old
+Leaves BadCommand old new = new ≡ old
 Leaves NoPacket old new = new ≡ old
 Leaves BadParty old new = new ≡ old
 Leaves Busy old new = new ≡ old

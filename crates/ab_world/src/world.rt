@@ -295,7 +295,7 @@ impl<S: Service, P: Protocol<S>> World<S, P> {
     {
         let bytes = command.as_slice();
         if bytes.is_empty() {
-            return Err(WorldFault::NotBuilt);
+            return Err(WorldFault::BadCommand);
         }
         let Some(place) = self.cast.setup().place(core.party, core.twin) else {
             return Err(WorldFault::BadParty);

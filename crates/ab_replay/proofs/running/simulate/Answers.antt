@@ -6,16 +6,14 @@ use Rattle.ab_replay.specs.Protocols.{any}
 use Rattle.ab_replay.specs.Replays.{run_in, proto_of, EventsCause, TextCause}
 use Rattle.ab_replay.proofs.RunLemmas.{if_err_then, sized_so, stops_text}
 use Rattle.ab_text.specs.Schedules.{script_of}
-use Rattle.ab_replay.proofs.TextLemmas.{form_serves}
+use Rattle.ab_replay.proofs.TextLemmas.{all_served}
 use Rattle.ab_replay.proofs.running.simulate.Goals as goal
 
 pub perform-requires-clause-served : goal.perform-requires-clause-served
-perform-requires-clause-served c =
-    let s = script_of c.in-Ok.schedule.head c.in-Ok.schedule.events in λ i one. form_serves s i (c.read_is_in_form.ensures c.args.text.now s c.in-Ok.ensures)
+perform-requires-clause-served c = λ i one. all_served c.in-Ok.schedule.head.cluster.plan i
 
 pub perform-requires-in-Kv-clause-served : goal.perform-requires-in-Kv-clause-served
-perform-requires-in-Kv-clause-served c =
-    let s = script_of c.in-Ok.schedule.head c.in-Ok.schedule.events in λ i one. form_serves s i (c.read_is_in_form.ensures c.args.text.now s c.in-Ok.ensures)
+perform-requires-in-Kv-clause-served c = λ i one. all_served c.in-Ok.schedule.head.cluster.plan i
 
 pub returns-in-Echo-clause-cause : goal.returns-in-Echo-clause-cause
 returns-in-Echo-clause-cause c =

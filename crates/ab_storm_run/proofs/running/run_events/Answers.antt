@@ -1,7 +1,7 @@
-use Rattle.std.proofs.Common.{◌≡◌, ◌+◌, ◌-◌, ◌<◌, arith, subst}
+use Rattle.std.proofs.Common.{◌≡◌, ◌+◌, ◌-◌, ◌<◌, ◌∙◌, arith, subst, sym}
 use Rattle.ab_world.specs.Runs.{outcome}
 use Rattle.ab_storm_run.specs.Runs.{drawn_events, EndCause}
-use Rattle.ab_storm_run.proofs.StormLemmas.{ends_run, goes_next, kept_err}
+use Rattle.ab_storm_run.proofs.StormLemmas.{ends_run, goes_next, kept_err, run_done}
 use Rattle.ab_storm_run.proofs.running.run_events.Goals as goal
 
 pub loop-done-preserved : goal.loop-done-preserved
@@ -14,6 +14,12 @@ loop-done-preserved g c =
     let on = goes_next proto c.args.events i s c.step.new.storm w c.step.new.world whole c.loop-done-test.true c.loop-done.invariant.goes (omega (arith, c.loop-done.invariant.counted, c.loop-done-test.true, c.requires.few))
     c.in_ok-step.ensures.next c.in_ok-step.ensures.ok c.loop-done.invariant.rest in
     record { rest = on.rest; counted = omega (arith, on.events, c.loop-done.invariant.counted); goes = on.goes }
+
+pub returns-clause-ok : goal.returns-clause-ok
+returns-clause-ok g c =
+    let i = c.loop-done.done in
+    let all : i ≡ c.args.events = omega (arith, c.loop-done-test.false, c.loop-done.auto.done-end) in
+    sym c.loop-done.invariant.rest ∙ run_done g.P.Protocol.proto c.args.events i c.loop-done.storm c.loop-done.world all
 
 pub returns-in_err-step-clause-cause : goal.returns-in_err-step-clause-cause
 returns-in_err-step-clause-cause g c =

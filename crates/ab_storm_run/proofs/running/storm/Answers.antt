@@ -6,7 +6,6 @@ use Rattle.ab_text.specs.declared.line.Premise.TheVariants.{Held}
 use Rattle.ab_cast.specs.Setups.{Setup}
 use Rattle.ab_world.specs.Runs.{outcome}
 use Rattle.ab_world.specs.Worlds.{start}
-use Rattle.ab_world.proofs.FollowLemmas.{world_follows}
 use Rattle.ab_abs.specs.Promises.{ServesAll}
 use Rattle.ab_storm_run.specs.Runs.{drawn_events, storm_of, storm_setup, events_in, IsClusterOf, EndCause, StormCause}
 use Rattle.ab_storm_run.proofs.StormLemmas.{all_drawn, begins_early, begins_going, ends_storm, kept_err, runs_storm}
@@ -26,13 +25,7 @@ run_events-requires-clause-begins g c =
     begins_early g.P.Protocol.proto c.cluster.result.now c.in_ok-setup.setup c.in_ok-world.world c.new-storm.result c.seed.result c.in_ok-setup.ensures c.in_ok-world.ensures c.new-storm.ensures
 
 pub summary-requires : goal.summary-requires
-summary-requires g c =
-    let proto = g.P.Protocol.proto in
-    let k = c.args.asked.now in
-    let cluster = c.cluster.result.now in
-    let end = c.run_events.new.world in
-    let runs = runs_storm proto cluster c.in_ok-setup.setup c.in_ok-world.world c.new-storm.result c.seed.result c.in_ok-setup.ensures c.in_ok-world.ensures c.new-storm.ensures k c.events.result (Ok end) c.seed.ensures c.events.ensures c.in_ok-run_events.ensures.ok in
-    (world_follows proto (storm_setup cluster) (events_in proto cluster k) end runs).stands.replicas
+summary-requires g c = c.in_ok-run_events.ensures.goes.replicas
 
 pub returns-clause-ok : goal.returns-clause-ok
 returns-clause-ok g c =

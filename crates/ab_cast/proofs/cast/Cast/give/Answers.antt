@@ -1,9 +1,9 @@
-use Rattle.std.proofs.Common.{◌≡◌, ◌<◌, ◌+◌, arith, sym, ap}
+use Rattle.std.proofs.Common.{◌≡◌, ◌<◌, ◌+◌, [], ◌∷◌, IsOkAnd, arith, sym, ap}
 use Rattle.ab_cast.specs.declared.place.Place.TheVariants as place
 use Rattle.ab_cast.specs.Cores.{client, replica}
 use Rattle.ab_cast.specs.Hearing.{taken_of}
 use Rattle.ab_cast.specs.Casts.{Cast, IsTaken}
-use Rattle.ab_cast.proofs.CastLemmas.{at_core, at_there, replica_core, client_core, replica_stays, replica_taken, replica_twin_stays, replica_twin_taken, twin_of, DoesAt, client_stays, client_taken, client_twin_stays, client_twin_taken, client_twin_within, spends_nothing}
+use Rattle.ab_cast.proofs.CastLemmas.{WhereCommits, no_replica_commits, client_commits, at_core, at_there, replica_core, client_core, replica_stays, replica_taken, replica_twin_stays, replica_twin_taken, twin_of, DoesAt, client_stays, client_taken, client_twin_stays, client_twin_taken, client_twin_within, spends_nothing}
 use Rattle.ab_cast.proofs.cast.Cast.give.Goals as goal
 
 pub invariant_of-self-in-Replica : goal.invariant_of-self-in-Replica
@@ -113,3 +113,55 @@ hear_client-requires-in-ClientTwin-clause-there g c =
     let there = at_there x c.args.self.now c.self.view_is c.args.place (place.ClientTwin c.in-ClientTwin.field-0 c.in-ClientTwin.at) c.in-ClientTwin.is c.requires.there.0 c.requires.there.1 in
     let within = client_twin_within g.P.Protocol.proto g.P.Protocol.serves x c.self.invariant c.in-ClientTwin.field-0 c.in-ClientTwin.at there in
     omega (arith, within, c.self.inside.client_twins.ok.0)
+
+pub returns-in_ok-effects-in-Replica-clause-at_once : goal.returns-in_ok-effects-in-Replica-clause-at_once
+returns-in_ok-effects-in-Replica-clause-at_once g c s seen =
+    let x : Cast g.row.P.Denot = record { setup = c.self.inside.setup; replicas = c.self.inside.replicas.items; clients = c.self.inside.clients.items; replica_twins = c.self.inside.replica_twins.items; client_twins = c.self.inside.client_twins.items; events = c.self.inside.events } in
+    at_core x c.args.self.now c.self.view_is c.args.place (place.Replica c.in-Replica.r) c.in-Replica.is (λ y q t. WhereCommits (taken_of c.args.given) seen (c.in_ok-effects-in-Replica.effects.marks.items ≡ seen ∷ []) t)
+    (no_replica_commits x.replicas c.in-Replica.r (taken_of c.args.given) seen (c.in_ok-effects-in-Replica.effects.marks.items ≡ seen ∷ [])) s
+
+pub returns-in_err-effects-in-Replica-clause-at_once : goal.returns-in_err-effects-in-Replica-clause-at_once
+returns-in_err-effects-in-Replica-clause-at_once g c s seen =
+    let x : Cast g.row.P.Denot = record { setup = c.self.inside.setup; replicas = c.self.inside.replicas.items; clients = c.self.inside.clients.items; replica_twins = c.self.inside.replica_twins.items; client_twins = c.self.inside.client_twins.items; events = c.self.inside.events } in
+    let T = IsOkAnd c.from_residual.result (λ e. e.marks.items ≡ seen ∷ []) in
+    at_core x c.args.self.now c.self.view_is c.args.place (place.Replica c.in-Replica.r) c.in-Replica.is (λ y q t. WhereCommits (taken_of c.args.given) seen T t)
+    (no_replica_commits x.replicas c.in-Replica.r (taken_of c.args.given) seen T) s
+
+pub returns-in_ok-effects-in-Client-clause-at_once : goal.returns-in_ok-effects-in-Client-clause-at_once
+returns-in_ok-effects-in-Client-clause-at_once g c s seen =
+    let x : Cast g.row.P.Denot = record { setup = c.self.inside.setup; replicas = c.self.inside.replicas.items; clients = c.self.inside.clients.items; replica_twins = c.self.inside.replica_twins.items; client_twins = c.self.inside.client_twins.items; events = c.self.inside.events } in
+    at_core x c.args.self.now c.self.view_is c.args.place (place.Client c.in-Client.c) c.in-Client.is (λ y q t. WhereCommits (taken_of c.args.given) seen (c.in_ok-effects-in-Client.effects.marks.items ≡ seen ∷ []) t)
+    (client_commits x.clients c.in-Client.c (taken_of c.args.given) seen (c.in_ok-effects-in-Client.effects.marks.items ≡ seen ∷ []) (λ t here commits. c.in_ok-effects-in-Client.ensures.at_once t seen here commits)) s
+
+pub returns-in_err-effects-in-Client-clause-at_once : goal.returns-in_err-effects-in-Client-clause-at_once
+returns-in_err-effects-in-Client-clause-at_once g c s seen =
+    let x : Cast g.row.P.Denot = record { setup = c.self.inside.setup; replicas = c.self.inside.replicas.items; clients = c.self.inside.clients.items; replica_twins = c.self.inside.replica_twins.items; client_twins = c.self.inside.client_twins.items; events = c.self.inside.events } in
+    let T = IsOkAnd c.from_residual-in_err-effects-in-Client.result (λ e. e.marks.items ≡ seen ∷ []) in
+    at_core x c.args.self.now c.self.view_is c.args.place (place.Client c.in-Client.c) c.in-Client.is (λ y q t. WhereCommits (taken_of c.args.given) seen T t)
+    (client_commits x.clients c.in-Client.c (taken_of c.args.given) seen T (λ t here commits. absurd (c.in_err-effects-in-Client.ensures.at_once t seen here commits))) s
+
+pub returns-in_ok-effects-in-ReplicaTwin-clause-at_once : goal.returns-in_ok-effects-in-ReplicaTwin-clause-at_once
+returns-in_ok-effects-in-ReplicaTwin-clause-at_once g c s seen =
+    let x : Cast g.row.P.Denot = record { setup = c.self.inside.setup; replicas = c.self.inside.replicas.items; clients = c.self.inside.clients.items; replica_twins = c.self.inside.replica_twins.items; client_twins = c.self.inside.client_twins.items; events = c.self.inside.events } in
+    at_core x c.args.self.now c.self.view_is c.args.place (place.ReplicaTwin c.in-ReplicaTwin.r c.in-ReplicaTwin.at) c.in-ReplicaTwin.is (λ y q t. WhereCommits (taken_of c.args.given) seen (c.in_ok-effects-in-ReplicaTwin.effects.marks.items ≡ seen ∷ []) t)
+    (no_replica_commits x.replica_twins c.in-ReplicaTwin.at (taken_of c.args.given) seen (c.in_ok-effects-in-ReplicaTwin.effects.marks.items ≡ seen ∷ [])) s
+
+pub returns-in_err-effects-in-ReplicaTwin-clause-at_once : goal.returns-in_err-effects-in-ReplicaTwin-clause-at_once
+returns-in_err-effects-in-ReplicaTwin-clause-at_once g c s seen =
+    let x : Cast g.row.P.Denot = record { setup = c.self.inside.setup; replicas = c.self.inside.replicas.items; clients = c.self.inside.clients.items; replica_twins = c.self.inside.replica_twins.items; client_twins = c.self.inside.client_twins.items; events = c.self.inside.events } in
+    let T = IsOkAnd c.from_residual-in_err-effects-in-ReplicaTwin.result (λ e. e.marks.items ≡ seen ∷ []) in
+    at_core x c.args.self.now c.self.view_is c.args.place (place.ReplicaTwin c.in-ReplicaTwin.r c.in-ReplicaTwin.at) c.in-ReplicaTwin.is (λ y q t. WhereCommits (taken_of c.args.given) seen T t)
+    (no_replica_commits x.replica_twins c.in-ReplicaTwin.at (taken_of c.args.given) seen T) s
+
+pub returns-in_ok-effects-in-ClientTwin-clause-at_once : goal.returns-in_ok-effects-in-ClientTwin-clause-at_once
+returns-in_ok-effects-in-ClientTwin-clause-at_once g c s seen =
+    let x : Cast g.row.P.Denot = record { setup = c.self.inside.setup; replicas = c.self.inside.replicas.items; clients = c.self.inside.clients.items; replica_twins = c.self.inside.replica_twins.items; client_twins = c.self.inside.client_twins.items; events = c.self.inside.events } in
+    at_core x c.args.self.now c.self.view_is c.args.place (place.ClientTwin c.in-ClientTwin.field-0 c.in-ClientTwin.at) c.in-ClientTwin.is (λ y q t. WhereCommits (taken_of c.args.given) seen (c.in_ok-effects-in-ClientTwin.effects.marks.items ≡ seen ∷ []) t)
+    (client_commits x.client_twins c.in-ClientTwin.at (taken_of c.args.given) seen (c.in_ok-effects-in-ClientTwin.effects.marks.items ≡ seen ∷ []) (λ t here commits. c.in_ok-effects-in-ClientTwin.ensures.at_once t seen here commits)) s
+
+pub returns-in_err-effects-in-ClientTwin-clause-at_once : goal.returns-in_err-effects-in-ClientTwin-clause-at_once
+returns-in_err-effects-in-ClientTwin-clause-at_once g c s seen =
+    let x : Cast g.row.P.Denot = record { setup = c.self.inside.setup; replicas = c.self.inside.replicas.items; clients = c.self.inside.clients.items; replica_twins = c.self.inside.replica_twins.items; client_twins = c.self.inside.client_twins.items; events = c.self.inside.events } in
+    let T = IsOkAnd c.from_residual-in_err-effects-in-ClientTwin.result (λ e. e.marks.items ≡ seen ∷ []) in
+    at_core x c.args.self.now c.self.view_is c.args.place (place.ClientTwin c.in-ClientTwin.field-0 c.in-ClientTwin.at) c.in-ClientTwin.is (λ y q t. WhereCommits (taken_of c.args.given) seen T t)
+    (client_commits x.client_twins c.in-ClientTwin.at (taken_of c.args.given) seen T (λ t here commits. absurd (c.in_err-effects-in-ClientTwin.ensures.at_once t seen here commits))) s

@@ -1,0 +1,180 @@
+//! A replica of PBFT.
+
+ghost use Rattle.std.specs.Prelude.{◌≡◌, ◌+◌, ◌<◌, IfOk, IsErrOf};
+ghost use Rattle.ab_msg.specs.Pens.{moved};
+ghost use Rattle.ab_slots.specs.Turns.{input_of};
+ghost use Rattle.ab_agreement.specs.Events.{next_of, post_of, signs_of};
+
+use crate::putting::put;
+use ab_abs::{Entry, StepFault};
+use ab_backup::Orderer;
+use ab_hist::History;
+use ab_msg::{Notary, Outs};
+use ab_num::{Cluster, OutOfMemory};
+use ab_reading::read;
+use ab_shelf::{Shelf, Signer};
+use ab_slots::{Input, Memory, Seat, Turn};
+use ab_wire::MsgRef;
+use std::alloc::Global;
+use std::marker::Model;
+
+/// Replicas agree on the order of requests by views, each with a primary that offers values for slots; 2f + 1 PREPAREs
+/// of a view prepare a value, and 2f + 1 COMMITs execute it. Replicas that wait too long change to the next view, which
+/// begins with what 2f + 1 of them had prepared (Castro and Liskov, OSDI 1999).
+#[derive(Drop)]
+pub struct Pbft {
+    cluster: Cluster,
+    seat: Seat,
+    memory: Memory,
+    shelf: Shelf,
+}
+
+impl Model for Pbft {
+    ghost use Rattle.ab_slots.specs.Turns.{memory_of, seat_of};
+    ghost use Rattle.ab_shelf.specs.Signing.{Signing};
+
+    ghost Value = { Signing };
+
+    ghost view = { λ q. record { cluster = q.cluster; order = record { seat = seat_of q.seat; memory = memory_of q.memory }; shelf = q.shelf } };
+}
+
+impl Pbft {
+    /// Who signs.
+    fn signer(&self) -> Signer {
+        Signer {
+            cluster: self.cluster,
+            instance: self.seat.instance,
+            me: self.seat.me,
+        }
+    }
+
+    /// Does what the rules say as something comes that is on this shelf, and posts what others hear of.
+    fn work<N: Notary>(
+        &self,
+        alloc: Global,
+        mut shelf: Shelf,
+        input: Input,
+        n: &mut N,
+    ) -> Result<(Pbft, Outs), StepFault>
+        ensures next { IfOk result (λ made. made.0 ≡ next_of (N.pen n.old) self.now shelf (input_of input)) }
+        ensures sends { IfOk result (λ made. made.1 ≡ (post_of (N.pen n.old) self.now shelf (input_of input)).sent) }
+        ensures pen { IfOk result (λ _. (N.pen n.new ≡ moved (N.pen n.old) (signs_of self.now (input_of input))) × (N.remains n.new + signs_of self.now (input_of input) ≡ N.remains n.old)) }
+        ensures spent { IsErrOf result StepFault.Spent → N.remains n.old < signs_of self.now (input_of input) }
+    {
+        let memory = self.memory.copy(alloc)?;
+        let seat = self.seat.copy(alloc)?;
+        let mut turn = Turn::new(alloc, memory);
+        turn.work(alloc, &seat, input)?;
+        let mut outs = Vec::new(alloc);
+        shelf.post_all(alloc, &self.signer(), &turn.deeds, n, &mut outs)?;
+        let next = Pbft {
+            cluster: self.cluster,
+            seat,
+            memory: turn.memory,
+            shelf,
+        };
+        Ok((next, Outs::of(outs)))
+    }
+}
+
+impl Orderer for Pbft {
+    ghost use Rattle.ab_pbft.specs.Rules.{Pbft as Rules, pbft};
+    ghost use Rattle.ab_pbft.specs.Traces.{IsPbftSound};
+    ghost use Rattle.ab_pbft.specs.Standing.{PbftStands};
+    ghost use Rattle.ab_shelf.specs.Signing.{signing};
+    ghost use Rattle.ab_agreement.specs.Events.{turns_of};
+
+    ghost View = { Rules };
+
+    ghost orders = { signing };
+
+    ghost rules = { pbft };
+
+    ghost sound = { IsPbftSound };
+
+    ghost stands = { PbftStands };
+
+    ghost counted = { turns_of };
+
+    fn start(alloc: Global, c: &Cluster, i: u32, me: u8, e: &Entry) -> Result<Self, OutOfMemory> {
+        let k = c.limit(i);
+        let base = e.base.copy(alloc)?;
+        let shelf = Shelf::new(alloc, k, &e.cert)?;
+        let seat = Seat {
+            k,
+            f: c.f,
+            instance: i,
+            me,
+            base,
+        };
+        Ok(Pbft {
+            cluster: *c,
+            seat,
+            memory: Memory::new(alloc),
+            shelf,
+        })
+    }
+
+    fn on<N: Notary>(
+        &self,
+        alloc: Global,
+        m: MsgRef<'_>,
+        n: &mut N,
+    ) -> Result<(Self, Outs), StepFault> {
+        let m = m.own(alloc)?;
+        let input = read(alloc, &self.cluster, self.seat.instance, &m)?;
+        let mut shelf = self.shelf.copy(alloc)?;
+        put(self.seat.f, &mut shelf, m, &input)?;
+        self.work(alloc, shelf, input, n)
+    }
+
+    fn timeout<N: Notary>(&self, alloc: Global, n: &mut N) -> Result<(Self, Outs), StepFault> {
+        let shelf = self.shelf.copy(alloc)?;
+        self.work(alloc, shelf, Input::Timeout, n)
+    }
+
+    fn copy(&self, alloc: Global) -> Result<Self, OutOfMemory> {
+        let seat = self.seat.copy(alloc)?;
+        let memory = self.memory.copy(alloc)?;
+        let shelf = self.shelf.copy(alloc)?;
+        Ok(Pbft {
+            cluster: self.cluster,
+            seat,
+            memory,
+            shelf,
+        })
+    }
+
+    fn base(&self) -> Option<&History> {
+        self.memory.executed().base()
+    }
+
+    fn first(&self) -> Option<&History> {
+        self.memory.accepted().base()
+    }
+
+    fn ordered(&self) -> &History {
+        self.memory.executed().list()
+    }
+
+    fn turns(&self) -> Option<u64> {
+        if self.memory.is_done(self.seat.k) {
+            return None;
+        }
+        let executed = self.memory.executed().len() as u64;
+        Some(u64::from(self.memory.view()) * 512 + executed)
+    }
+
+    ghost use Rattle.ab_pbft.proofs.LawfulOrderer.{pbft_lawful};
+    ghost use Rattle.ab_pbft.proofs.OrderlyOrderer.{pbft_orderly};
+    ghost use Rattle.ab_shelf.proofs.Obeying.{signing_obeys};
+    ghost use Rattle.ab_drafts.proofs.KeptBytes.{signing_keeps_bytes};
+
+    ghost obeys = { signing_obeys };
+
+    ghost orderly = { pbft_orderly };
+
+    ghost lawful = { pbft_lawful };
+
+    ghost bytes = { signing_keeps_bytes };
+}
