@@ -1,0 +1,93 @@
+//! Messages opened by a checker that answers the same to everything.
+
+use ab_check::Checker;
+use ab_keys::is_party;
+use ab_msg::Tag;
+use ab_num::{Cluster, Party, Plan};
+use ab_open::{OpenFault, claims, open};
+use std::alloc::Global;
+use std::test::Fail;
+
+/// A checker with one answer.
+#[derive(Clone, Copy)]
+struct Always(bool);
+
+impl Checker for Always {
+    ghost judge = { λ c maker text token. c.0 };
+
+    fn tag(&self, _maker: Party, _text: &[u8], _tag: Option<&Tag>) -> bool {
+        self.0
+    }
+
+    fn sig(&mut self, _alloc: Global, _maker: Party, _text: &[u8], _sig: &[u8]) -> bool {
+        self.0
+    }
+}
+
+/// A PANIC of client 0 in instance 1, with a tag of zeros.
+const PANIC: [u8; 41] = [
+    5, 5, 1, 0, 0, 0, 0, 0, 1, 0, 0, 0, 0, 0, 0, 0, 0, 0, 0, 0, 0, 0, 0, 0, 0, 0, 0, 0, 0, 0, 0, 0,
+    0, 0, 0, 0, 0, 0, 0, 0, 0,
+];
+
+/// A CHAIN of client 0's request 1 in instance 1, without reply and tags.
+const CHAIN: [u8; 54] = [
+    4, 0, 0, 0, 1, 0, 0, 0, 0, 0, 0, 0, 0, 0, 1, 0, 1, 97, 0, 1, 0, 0, 0, 0, 0, 0, 0, 0, 0, 0, 0,
+    0, 0, 0, 0, 0, 0, 0, 0, 0, 0, 0, 0, 0, 0, 0, 0, 0, 0, 0, 0, 0, 0, 0,
+];
+
+/// Why bytes don't open at a party of a cluster of four replicas and one client.
+fn fault(alloc: Global, me: Party, right: bool, bytes: &[u8]) -> Option<OpenFault> {
+    let k = Cluster::new(1, 1, Plan::Chain)?;
+    if !is_party(&k, me) {
+        return None;
+    }
+    match open(alloc, &k, me, &mut Always(right), bytes) {
+        Ok(_) => None,
+        Err(fault) => Some(fault),
+    }
+}
+
+#[test]
+fn a_panic_opens_at_replicas(rt: HostRuntime) {
+    assert_eq!(rt; fault(rt.alloc(), Party::Replica(3), true, &PANIC), None);
+    assert_eq!(rt;
+        fault(rt.alloc(), Party::Replica(3), false, &PANIC),
+        Some(OpenFault::BadTag(0))
+    );
+    assert_eq!(rt;
+        fault(rt.alloc(), Party::Client(0), false, &PANIC),
+        Some(OpenFault::NotMine)
+    );
+}
+
+#[test]
+fn a_chain_wants_a_reply_at_its_client(rt: HostRuntime) {
+    assert_eq!(rt; fault(rt.alloc(), Party::Replica(1), true, &CHAIN), None);
+    assert_eq!(rt;
+        fault(rt.alloc(), Party::Client(0), true, &CHAIN),
+        Some(OpenFault::BadTag(0))
+    );
+}
+
+#[test]
+fn a_chain_states_what_its_positions_check(rt: HostRuntime) -> Result<(), Fail> {
+    let alloc = rt.alloc();
+    let k = Cluster::new(1, 1, Plan::Chain).ok_or("a cluster")?;
+    let me = Party::Replica(1);
+    if !is_party(&k, me) {
+        return Ok(());
+    }
+    let checked = open(alloc, &k, me, &mut Always(true), &CHAIN)
+        .ok()
+        .ok_or("it opens")?;
+    let all = claims(alloc, &k, &checked)?;
+    assert_eq!(rt; all.as_slice().len(), 2);
+    let mut stated = checked.stated(&k);
+    let (first, asked) = stated.next().ok_or("the client's request")?;
+    assert!(rt; first == Party::Client(0) && asked.as_slice().len() == 21);
+    let (second, passed) = stated.next().ok_or("the tag of position 1")?;
+    assert!(rt; second == Party::Replica(0) && passed.as_slice().len() == 52);
+    assert!(rt; stated.next().is_none());
+    Ok(())
+}
