@@ -32,6 +32,12 @@ struct Told {
 
 const REPLAY: &[&str] = &["replay"];
 
+const NODE: &[&str] = &["node"];
+
+const NO_WORDS: &[&str] = &[];
+
+const TOO_MANY: &[&str] = &["replay", "x"];
+
 /// The head of a schedule of four replicas and two clients.
 const HEAD: &str = "abstract 1\nf 1\nplan quorum\nclients 2\nservice kv\nlms 5\nrun\n";
 
@@ -154,7 +160,7 @@ fn each_service_replies(rt: HostRuntime) -> Result<(), Fail> {
 }
 
 /// A refusal of words on an empty schedule.
-const fn usage(words: &'static [&'static str]) -> Case {
+fn usage(words: &'static [&'static str]) -> Case {
     Case {
         words,
         head: HEAD,
@@ -166,7 +172,7 @@ const fn usage(words: &'static [&'static str]) -> Case {
 }
 
 /// A refusal of lines.
-const fn refused(head: &'static str, lines: &'static str, err: &'static str) -> Case {
+fn refused(head: &'static str, lines: &'static str, err: &'static str) -> Case {
     Case {
         words: REPLAY,
         head,
@@ -179,7 +185,7 @@ const fn refused(head: &'static str, lines: &'static str, err: &'static str) -> 
 
 #[test]
 fn other_words_are_refused(rt: HostRuntime) -> Result<(), Fail> {
-    let cases = [usage(&[]), usage(&["replay", "x"]), usage(&["node"])];
+    let cases = [usage(NO_WORDS), usage(TOO_MANY), usage(NODE)];
     Ok(expect_each(&rt, rt.alloc(), &cases)?)
 }
 
@@ -336,7 +342,7 @@ const FAILING: [Failing; 4] = [
         err: "",
     },
     Failing {
-        words: &["node"],
+        words: NODE,
         takes: &[],
         puts: &[],
         says: &[1],
