@@ -3,10 +3,12 @@
 
 mod chain;
 mod receivers;
+mod repeats;
 mod sealed;
 mod sealing;
 mod tags;
 
+pub use repeats::is_sealed_alike;
 pub use sealed::{
     drafts_are_sealed_as_messages, is_for_all, one_seal_for_all, sealed_messages_are_right,
 };

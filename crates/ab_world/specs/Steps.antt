@@ -16,6 +16,7 @@ use Rattle.ab_msg.specs.declared.message.Msg.{Msg}
 use Rattle.ab_msg.specs.declared.message.Out.{Out}
 use Rattle.ab_carried.specs.Carried.{carried_histories, carried_requests}
 use Rattle.ab_msg.specs.Contents.{spell_content}
+use Rattle.ab_keys.specs.Rings.{Ring}
 use Rattle.ab_open.specs.declared.fault.OpenFault.{OpenFault}
 use Rattle.ab_seal.specs.Sealing.{sealed}
 use Rattle.ab_abs.specs.declared.seen.Seen.{Seen}
@@ -113,9 +114,13 @@ taken_from x p (ask bytes) = Ok (command bytes)
 taken_from x p (hand bytes) = messages (opening_at x p bytes)
 taken_from x p ring = Ok time
 
+-- messages with the tags of the ring's party
+abbrev pub packets_by : Ring → List Out → List Packet
+packets_by ring outs = map (λ o. record { to = o.to; bytes = sealed ring o }) outs
+
 -- what a party sends, with its tags
 abbrev pub posted : Setup → Party → List Out → List Packet
-posted x p outs = map (λ o. record { to = o.to; bytes = sealed (ring_at x p) o }) outs
+posted x p outs = packets_by (ring_at x p) outs
 
 -- of a faulty party there are no lines
 abbrev pub written : Setup → Party → List Line → List Line → List Line

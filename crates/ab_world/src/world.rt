@@ -131,6 +131,13 @@ impl<S: Service, P: Protocol<S>> World<S, P> {
         self.seen.as_slice()
     }
 
+    /// The packets that were sent, the oldest first.
+    pub fn sent(&self) -> &Packets
+        ensures { result.now ≡ self.now.packets }
+    {
+        &self.packets
+    }
+
     /// How many packets were sent.
     pub fn packets(&self) -> u64
         ensures { result ≡ length self.now.packets }

@@ -1,0 +1,105 @@
+#!/usr/bin/env python3
+"""Runs the built program again and again, and refuses its first allocation, then its second, and so on to the last.
+
+    bench/refuse_memory.py SCHEDULE.. [--every K]
+
+Each run has to end with status 9, the line `out of memory` and nothing or a front of its report, or as it ends with
+memory, where the allocation that was refused could be done without. Anything else is told, and the status is then 1.
+`--every K` refuses each K-th allocation alone. It needs a C compiler."""
+import os
+import subprocess
+import sys
+import tempfile
+
+HERE = os.path.dirname(os.path.abspath(__file__))
+PROGRAM = os.path.join(HERE, '..', 'crates', 'abstract_bft', 'out', 'abstract_bft')
+
+REFUSER = r'''
+#define _GNU_SOURCE
+#include <dlfcn.h>
+#include <errno.h>
+#include <stdlib.h>
+#include <stdio.h>
+#include <unistd.h>
+static long asked, refused;
+static int ready;
+static void begin(void) { const char *n = getenv("REFUSE"); refused = n ? atol(n) : 0; ready = 1; }
+static int refuse(void) { if (!ready) begin(); return ++asked == refused; }
+void *malloc(size_t n) {
+    static void *(*real)(size_t);
+    if (!real) real = dlsym(RTLD_NEXT, "malloc");
+    if (refuse()) { errno = ENOMEM; return NULL; }
+    return real(n);
+}
+void *realloc(void *p, size_t n) {
+    static void *(*real)(void *, size_t);
+    if (!real) real = dlsym(RTLD_NEXT, "realloc");
+    if (refuse()) { errno = ENOMEM; return NULL; }
+    return real(p, n);
+}
+void *aligned_alloc(size_t a, size_t n) {
+    static void *(*real)(size_t, size_t);
+    if (!real) real = dlsym(RTLD_NEXT, "aligned_alloc");
+    if (refuse()) { errno = ENOMEM; return NULL; }
+    return real(a, n);
+}
+int posix_memalign(void **p, size_t a, size_t n) {
+    static int (*real)(void **, size_t, size_t);
+    if (!real) real = dlsym(RTLD_NEXT, "posix_memalign");
+    if (refuse()) return ENOMEM;
+    return real(p, a, n);
+}
+__attribute__((destructor)) static void tell(void) {
+    const char *path = getenv("ASKED");
+    FILE *f;
+    refused = -1;
+    if (path && (f = fopen(path, "w"))) { fprintf(f, "%ld", asked); fclose(f); }
+}
+'''
+
+
+def built(folder):
+    source, library = os.path.join(folder, 'refuser.c'), os.path.join(folder, 'refuser.so')
+    with open(source, 'w') as f:
+        f.write(REFUSER)
+    subprocess.run(['cc', '-shared', '-fPIC', '-O1', '-o', library, source, '-ldl'], check=True)
+    return library
+
+
+def run(library, schedule, number, asked=None):
+    env = dict(os.environ, LD_PRELOAD=library, REFUSE=str(number))
+    if asked:
+        env['ASKED'] = asked
+    with open(schedule, 'rb') as f:
+        done = subprocess.run([PROGRAM, 'replay'], stdin=f, capture_output=True, env=env, timeout=600)
+    return done.returncode, done.stdout, done.stderr
+
+
+def main():
+    words, every = sys.argv[1:], 1
+    if '--every' in words:
+        at = words.index('--every')
+        every = int(words[at + 1])
+        del words[at:at + 2]
+    bad = 0
+    with tempfile.TemporaryDirectory() as folder:
+        library, asked = built(folder), os.path.join(folder, 'asked')
+        for schedule in words:
+            whole = run(library, schedule, 0, asked)
+            with open(asked) as f:
+                count = int(f.read())
+            spared = refused = 0
+            for number in range(1, count + 1, every):
+                got = run(library, schedule, number)
+                if got == whole:
+                    spared += 1
+                elif got[0] == 9 and got[2] == b'out of memory\n' and whole[1].startswith(got[1]):
+                    refused += 1
+                else:
+                    bad += 1
+                    print(f'{schedule}: allocation {number}: status {got[0]}, {len(got[1])} bytes, {got[2][:80]!r}')
+            print(f'{schedule}: {count} allocations; refused: {refused} runs ended with status 9, {spared} did without')
+    sys.exit(1 if bad else 0)
+
+
+main()

@@ -1,0 +1,6 @@
+//! What a party seals opens at its addressee.
+#![tactic(auto)]
+
+mod laws;
+
+pub use laws::sealed_messages_open;
