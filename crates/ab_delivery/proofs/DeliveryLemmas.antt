@@ -1,5 +1,5 @@
 -- A message opens where all that is looked at is right.
-use Rattle.std.proofs.Common.{◌≡◌, ℕ, suc, ◌+◌, Bool, true, false, cond, IsTrue, List, [], ◌∷◌, Result, Ok, Err, refl, sym, ap, ◌∙◌, All}
+use Rattle.std.proofs.Common.{◌≡◌, ℕ, suc, true, false, cond, IsTrue, List, [], ◌∷◌, Ok, Err, refl, sym, ap, ◌∙◌, All}
 use Rattle.std.specs.List.{list_all}
 use Rattle.std.proofs.lemmas.Bool.{and_parts}
 use Rattle.std.proofs.lemmas.List.Elements.{All-head, All-tail}
@@ -8,7 +8,6 @@ use Rattle.ab_msg.specs.declared.message.Msg.{Msg}
 use Rattle.ab_msg.specs.declared.message.Msg.TheVariants as msg
 use Rattle.ab_msg.specs.Carried.{goes_to, parties_of}
 use Rattle.ab_msg.specs.Messages.{IsMessage, spell_message}
-use Rattle.ab_read.specs.Messages.{message_of}
 use Rattle.ab_read.proofs.MessageLemmas.{message-law}
 use Rattle.ab_check.specs.Checks.{Check, Judge, checks, checked_from, checks_of, is_refused, is_right, outcome}
 use Rattle.ab_keys.specs.Keys.{is_party}
@@ -17,7 +16,7 @@ use Rattle.ab_open.specs.declared.fault.OpenFault.TheVariants as fault
 use Rattle.ab_open.specs.Opening.{takes, verdict, judged, opening}
 use Rattle.ab_seal.specs.Sealing.{tagged}
 
-IsRight : Judge → Check → Type 0
+abbrev IsRight : Judge → Check → Type 0
 IsRight judge k = IsTrue (is_right judge k)
 
 -- checks that are all right lead to the place behind them
