@@ -116,7 +116,7 @@ taken_from x p ring = Ok time
 
 -- messages with the tags of the ring's party
 abbrev pub packets_by : Ring → List Out → List Packet
-packets_by ring outs = map (λ o. record { to = o.to; bytes = sealed ring o }) outs
+packets_by keys outs = map (λ o. record { to = o.to; bytes = sealed keys o }) outs
 
 -- what a party sends, with its tags
 abbrev pub posted : Setup → Party → List Out → List Packet
