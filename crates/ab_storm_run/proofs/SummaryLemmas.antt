@@ -1,0 +1,21 @@
+-- The highest instance, replica by replica.
+use Rattle.std.proofs.Common.{◌≡◌, ℕ, ◌+◌, Option, None, Some, List, ◌∷◌, drop, length, refl, sym, ap, ◌∙◌, arith}
+use Rattle.std.specs.Prelude.{max, slice_get}
+use Rattle.std.specs.Option.{option_map}
+use Rattle.std.proofs.lemmas.List.{at_drop_more}
+use Rattle.std.proofs.lemmas.Option.{slice_get_within, get_or_from_slice_get}
+use Rattle.ab_replica.specs.Sites.{Site}
+use Rattle.ab_storm_run.specs.Summaries.{highest}
+
+max_onto : (a b c : ℕ) → max (max a b) c ≡ max a (max b c)
+max_onto a b c = omega arith
+
+pub top_next : {P : Type 0} (xs : List (Site P)) (r top instance : ℕ) (o : Option (Site P)) → slice_get xs r ≡ o → Some instance ≡ option_map (λ s. s.rep.at) o
+    → max (max top instance) (highest (drop (r + 1) xs)) ≡ max top (highest (drop r xs))
+top_next xs r top instance None at is = absurd (cc (is))
+top_next xs r top instance (Some s) at is =
+    let next : drop r xs ≡ s ∷ drop (r + 1) xs = at_drop_more (λ t. t) xs r s (slice_get_within xs r s at) ∙ ap (λ x. x ∷ drop (r + 1) xs) (get_or_from_slice_get xs r s s at) in
+    let same : instance ≡ s.rep.at = cc (is) in
+    max_onto top instance (highest (drop (r + 1) xs))
+    ∙ ap (λ n. max top (max n (highest (drop (r + 1) xs)))) same
+    ∙ ap (λ xs. max top (highest xs)) (sym next)
