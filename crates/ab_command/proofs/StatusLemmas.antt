@@ -12,7 +12,6 @@ use Rattle.ab_text.specs.Heads.{Script}
 use Rattle.ab_text.specs.Schedules.{ReadsText}
 use Rattle.ab_replay.specs.Protocols.{Any, any}
 use Rattle.ab_command.specs.declared.status.Bound.TheVariants.{Bytes, Events, Packets}
-use Rattle.ab_replay.specs.declared.refusal.Refusal.{Refusal}
 use Rattle.ab_command.specs.declared.status.Status.{Status}
 use Rattle.ab_command.specs.declared.status.Status.TheVariants.{Done, Broken, Usage, Refused, ReadFault, WriteFault, Limit, OutOfMemory}
 use Rattle.ab_command.specs.Texts.{code_of}
@@ -24,16 +23,14 @@ use Rattle.ab_words.specs.Language.{command_in}
 use Rattle.ab_command.specs.KeyCommands.{AsksKeys, AsksStorm, is_built, key_text}
 use Rattle.ab_io.specs.Causes.{Rose}
 use Rattle.ab_world.specs.declared.fault.WorldFault.{WorldFault}
-use Rattle.ab_world.specs.declared.fault.WorldFault.TheVariants.{BadParty, PacketLimit}
+use Rattle.ab_world.specs.declared.fault.WorldFault.TheVariants.{PacketLimit}
 use Rattle.ab_world.specs.Worlds.{World, premise_of}
 use Rattle.ab_replay.specs.Replays.{Performs, PerformsAs, IsRefused, RunsTo, proto_of, Runs}
 use Rattle.ab_replay.proofs.RunLemmas.{one_end}
 use Rattle.ab_kv.specs.KvMachines.{kv_machine}
 use Rattle.ab_replay.specs.declared.refusal.Refusal.{Refusal}
-use Rattle.ab_storm_run.specs.Runs.{Storms, StormsTo}
-use Rattle.ab_storm_run.specs.Summaries.{summary_of}
-use Rattle.ab_storm_run.proofs.StormLemmas.{one_end as one_storm_end}
-use Rattle.ab_command.specs.Statuses.{Call, IsReplay, StatusCause, Says, SaysNoMemoryOn, Settles, HasCauseOf, HasFront, HasReport, HasSummary, KeepsOut, StormStrays, kv, IsClear, IsClearForKeys, IsClearForStorm, premise_code}
+use Rattle.ab_storm_run.specs.Runs.{Storms}
+use Rattle.ab_command.specs.Statuses.{Call, IsReplay, StatusCause, Says, SaysNoMemoryOn, Settles, HasCauseOf, HasFront, HasReport, HasSummary, IsToldWhole, KeepsOut, Passes, kv, IsClear, IsClearForKeys, IsClearForStorm, premise_code}
 
 -- a run has one end
 said_at : {S : Type 0} (machine : Machine S) (s : Script) (report : List ℕ) (held : Bool) (end : World Any) → Performs machine s report held → RunsTo (any machine) s (Ok end)
@@ -104,8 +101,7 @@ module _ (one : (text : List ℕ) (r q : Result Script TextFault) → ReadsText 
   clear_status Broken (inl (words, report), kept) = inl (code_of_broken (premise_of clear.end) ((says_clear false report).1))
   clear_status Broken (inr (k, summary, asks, storms, written), kept) = absurd (not_replay c.words k clear.words asks)
   clear_status Usage (others, none, kept, said) = absurd (others clear.words)
-  clear_status (Refused r) (inl (words, (text, input, refused)), kept, said) = absurd (not_refused text r (same_text text input) refused)
-  clear_status (Refused r) (inr (k, asks, strays), kept, said) = absurd (not_replay c.words k clear.words asks)
+  clear_status (Refused r) (words, (text, input, refused), kept, said) = absurd (not_refused text r (same_text text input) refused)
   clear_status ReadFault (words, rose, kept, said) = absurd (clear.read rose)
   clear_status WriteFault (rose, front) = elim rose [
     | inl out ↦ absurd (clear.out out.0)
@@ -119,7 +115,7 @@ module _ (one : (text : List ℕ) (r q : Result Script TextFault) → ReadsText 
       omega (arith, many, ap (λ x. length x.events) same, clear.few))
   clear_status (Limit Packets) (inl (words, (text, input, many)), kept, said) =
       absurd (not_ended text many.schedule many.event PacketLimit (same_text text input) many.reads many.runs)
-  clear_status (Limit Packets) (inr (k, n, asks, passes), kept, said) = absurd (not_replay c.words k clear.words asks)
+  clear_status (Limit Packets) (inr (k, asks, passes), kept, said) = absurd (not_replay c.words k clear.words asks)
   clear_status OutOfMemory cause = inr refl
 
 -- where keys are asked for
@@ -134,8 +130,7 @@ module _ (c : Call) (k : KeysCommand) (clear : IsClearForKeys c k) where
   keys_status Broken (inl (words, report), kept) = absurd (not_both c.words k words clear.words)
   keys_status Broken (inr (s, summary, asks, storms, written), kept) = absurd (not_keys c.words k s clear.words asks)
   keys_status Usage (others, none, kept, said) = absurd (let e : true ≡ false = ap is_built (sym clear.words) ∙ none in cc)
-  keys_status (Refused r) (inl (words, input), kept, said) = absurd (not_both c.words k words clear.words)
-  keys_status (Refused r) (inr (s, asks, strays), kept, said) = absurd (not_keys c.words k s clear.words asks)
+  keys_status (Refused r) (words, input, kept, said) = absurd (not_both c.words k words clear.words)
   keys_status ReadFault (words, rose, kept, said) = absurd (not_both c.words k words clear.words)
   keys_status WriteFault (rose, front) = elim rose [
     | inl out ↦ absurd (clear.out out.0)
@@ -144,31 +139,32 @@ module _ (c : Call) (k : KeysCommand) (clear : IsClearForKeys c k) where
   keys_status (Limit Bytes) (words, long, kept, said) = absurd (not_both c.words k words clear.words)
   keys_status (Limit Events) (words, input, kept, said) = absurd (not_both c.words k words clear.words)
   keys_status (Limit Packets) (inl (words, input), kept, said) = absurd (not_both c.words k words clear.words)
-  keys_status (Limit Packets) (inr (s, n, asks, passes), kept, said) = absurd (not_keys c.words k s clear.words asks)
+  keys_status (Limit Packets) (inr (s, asks, passes), kept, said) = absurd (not_keys c.words k s clear.words asks)
   keys_status OutOfMemory cause = inr refl
 
 -- where a storm is asked for
 module _ (c : Call) (k : StormCommand) (clear : IsClearForStorm c k) where
-  -- the status tells what came of the storm: a summary with its premise line, the limit of bytes, or a packet to no party
-  data Told : ℕ → Type 0 where
-    summed : (held : Bool) (n : ℕ) → n ≡ (if held then 0 else 1) → (summary : List ℕ) → Storms kv_machine kv k summary held → Appends c.out_old c.out_new summary → Told n
-    passed : (n e : ℕ) → n ≡ 7 → StormsTo kv k (Err (e, PacketLimit)) → Told n
-    strayed : (n e : ℕ) → n ≡ 3 → StormsTo kv k (Err (e, BadParty)) → Told n
-    refused : (n : ℕ) → n ≡ 9 → Told n
+  abbrev Told : ℕ → Type 0
+  Told n = IsToldWhole n k c ⊎ ((Passes k × (n ≡ 7)) ⊎ (n ≡ 9))
 
-  summed_as : (held : Bool) (n : ℕ) → n ≡ (if held then 0 else 1) → HasSummary held c → Told n
-  summed_as held n is (j, summary, asks, storms, written) =
-      summed held n is summary (subst (λ (s : StormCommand). Storms kv_machine kv s summary held) (same_storm c.words j k asks clear.words) storms) written
+  told_as : (held : Bool) (n : ℕ) → n ≡ (if held then 0 else 1) → HasSummary held c → Told n
+  told_as held n is (j, summary, asks, storms, written) =
+      let ours : Storms kv_machine kv k summary held = subst (λ (s : StormCommand). Storms kv_machine kv s summary held) (same_storm c.words j k asks clear.words) storms in
+      inl (record {
+        end = ours.end;
+        runs = record { cluster = ours.cluster; sized = ours.sized; runs = ours.runs };
+        code = is ∙ held_code held (premise_of ours.end) ours.says;
+        whole = subst (λ (text : List ℕ). Appends c.out_old c.out_new text) ours.sums written;
+      })
 
   storm_status : (s : Status) → StatusCause s c → Told (code_of s)
   storm_status Done (inl (words, report), kept) = absurd (not_replay c.words k words clear.words)
   storm_status Done (inr (inl (j, asks, written)), kept) = absurd (not_keys c.words j k asks clear.words)
-  storm_status Done (inr (inr summary), kept) = summed_as true 0 refl summary
+  storm_status Done (inr (inr summary), kept) = told_as true 0 refl summary
   storm_status Broken (inl (words, report), kept) = absurd (not_replay c.words k words clear.words)
-  storm_status Broken (inr summary, kept) = summed_as false 1 refl summary
+  storm_status Broken (inr summary, kept) = told_as false 1 refl summary
   storm_status Usage (others, none, kept, said) = absurd (let e : true ≡ false = ap is_built (sym clear.words) ∙ none in cc)
-  storm_status (Refused r) (inl (words, input), kept, said) = absurd (not_replay c.words k words clear.words)
-  storm_status (Refused r) (inr (j, asks, cause, strays), kept, said) = strayed 3 r.line refl (subst (λ (s : StormCommand). StormsTo kv s (Err (r.line, BadParty))) (same_storm c.words j k asks clear.words) strays)
+  storm_status (Refused r) (words, input, kept, said) = absurd (not_replay c.words k words clear.words)
   storm_status ReadFault (words, rose, kept, said) = absurd (not_replay c.words k words clear.words)
   storm_status WriteFault (rose, front) = elim rose [
     | inl out ↦ absurd (clear.out out.0)
@@ -177,42 +173,8 @@ module _ (c : Call) (k : StormCommand) (clear : IsClearForStorm c k) where
   storm_status (Limit Bytes) (words, long, kept, said) = absurd (not_replay c.words k words clear.words)
   storm_status (Limit Events) (words, input, kept, said) = absurd (not_replay c.words k words clear.words)
   storm_status (Limit Packets) (inl (words, input), kept, said) = absurd (not_replay c.words k words clear.words)
-  storm_status (Limit Packets) (inr (j, e, asks, passes), kept, said) = passed 7 e refl (subst (λ (s : StormCommand). StormsTo kv s (Err (e, PacketLimit))) (same_storm c.words j k asks clear.words) passes)
-  storm_status OutOfMemory cause = refused 9 refl
-
-  abbrev Ends : Type 0
-  Ends = Result (World Any) (ℕ × WorldFault)
-
-  ran : (summary : List ℕ) (held : Bool) (storms : Storms kv_machine kv k summary held) → StormsTo kv k (Ok storms.end)
-  ran summary held storms = record { cluster = storms.cluster; sized = storms.sized; runs = storms.runs }
-
-  -- the summary is that of the end, and the number that of its premise line
-  told_end : (n : ℕ) (end : World Any) → StormsTo kv k (Ok end) → Told n → ((n ≡ premise_code (premise_of end)) × Appends c.out_old c.out_new (summary_of end)) ⊎ (n ≡ 9)
-  told_end n end runs (summed held m is summary storms written) =
-      let both : ◌≡◌ {A = Ends} (Ok storms.end) (Ok end) = one_storm_end kv k (Ok storms.end) (Ok end) (ran summary held storms) runs in
-      let same : storms.end ≡ end = cc (both) in
-      inl (is ∙ held_code held (premise_of end) (subst (λ (w : World Any). IsTrue held ↔ (premise_of w ≡ Held)) same storms.says), subst (λ (text : List ℕ). Appends c.out_old c.out_new text) (storms.sums ∙ ap summary_of same) written)
-  told_end n end runs (passed m e is passes) =
-      absurd (let both : ◌≡◌ {A = Ends} (Err (e, PacketLimit)) (Ok end) = one_storm_end kv k (Err (e, PacketLimit)) (Ok end) passes runs in cc (both))
-  told_end n end runs (strayed m e is strays) =
-      absurd (let both : ◌≡◌ {A = Ends} (Err (e, BadParty)) (Ok end) = one_storm_end kv k (Err (e, BadParty)) (Ok end) strays runs in cc (both))
-  told_end n end runs (refused m is) = inr is
-
-  told_limit : (n e : ℕ) → StormsTo kv k (Err (e, PacketLimit)) → Told n → (n ≡ 7) ⊎ (n ≡ 9)
-  told_limit n e runs (summed held m is summary storms written) =
-      absurd (let both : ◌≡◌ {A = Ends} (Ok storms.end) (Err (e, PacketLimit)) = one_storm_end kv k (Ok storms.end) (Err (e, PacketLimit)) (ran summary held storms) runs in cc (both))
-  told_limit n e runs (passed m d is passes) = inl is
-  told_limit n e runs (strayed m d is strays) =
-      absurd (let both : ◌≡◌ {A = Ends} (Err (d, BadParty)) (Err (e, PacketLimit)) = one_storm_end kv k (Err (d, BadParty)) (Err (e, PacketLimit)) strays runs in let same : BadParty ≡ PacketLimit = cc (both) in cc (same))
-  told_limit n e runs (refused m is) = inr is
-
-  told_stray : (n e : ℕ) → StormsTo kv k (Err (e, BadParty)) → Told n → (n ≡ 3) ⊎ (n ≡ 9)
-  told_stray n e runs (summed held m is summary storms written) =
-      absurd (let both : ◌≡◌ {A = Ends} (Ok storms.end) (Err (e, BadParty)) = one_storm_end kv k (Ok storms.end) (Err (e, BadParty)) (ran summary held storms) runs in cc (both))
-  told_stray n e runs (passed m d is passes) =
-      absurd (let both : ◌≡◌ {A = Ends} (Err (d, PacketLimit)) (Err (e, BadParty)) = one_storm_end kv k (Err (d, PacketLimit)) (Err (e, BadParty)) passes runs in let same : PacketLimit ≡ BadParty = cc (both) in cc (same))
-  told_stray n e runs (strayed m d is strays) = inl is
-  told_stray n e runs (refused m is) = inr is
+  storm_status (Limit Packets) (inr (j, asks, passes), kept, said) = inr (inl (subst (λ (s : StormCommand). Passes s) (same_storm c.words j k asks clear.words) passes, refl))
+  storm_status OutOfMemory cause = inr (inr refl)
 
 -- the number of a status that has its cause
 pub answers : ((text : List ℕ) (r q : Result Script TextFault) → ReadsText text r → ReadsText text q → r ≡ q)
@@ -229,18 +191,7 @@ answers one n c s code cause = record {
     | inl whole ↦ inl (code ∙ whole.0, whole.1)
     | inr nine ↦ inr (code ∙ nine)
   ];
-  storm = λ k end clear runs. elim (told_end c k clear (code_of s) end runs (storm_status c k clear s cause)) [
-    | inl whole ↦ inl (code ∙ whole.0, whole.1)
-    | inr nine ↦ inr (code ∙ nine)
-  ];
-  passes = λ k e clear runs. elim (told_limit c k clear (code_of s) e runs (storm_status c k clear s cause)) [
-    | inl seven ↦ inl (code ∙ seven)
-    | inr nine ↦ inr (code ∙ nine)
-  ];
-  strays = λ k e clear runs. elim (told_stray c k clear (code_of s) e runs (storm_status c k clear s cause)) [
-    | inl three ↦ inl (code ∙ three)
-    | inr nine ↦ inr (code ∙ nine)
-  ];
+  storm = λ k clear. subst (λ (m : ℕ). IsToldWhole m k c ⊎ ((Passes k × (m ≡ 7)) ⊎ (m ≡ 9))) (sym code) (storm_status c k clear s cause);
 }
 
 written_whole : (c : Call) (held : Bool) → IsReplay c.words → HasReport held c → Keeps c.err_old c.err_new → StatusCause (if held then Done else Broken) c
@@ -266,12 +217,8 @@ settled c r s (inr (inl (e, rose))) make front = subst (λ (x : Status). StatusC
 settled c r s (inr (inr (e, says))) make front = subst (λ (x : Status). StatusCause x c) (sym e) (front, says)
 
 -- a storm that passes the limit of bytes
-pub limit_settled : (c : Call) (k : StormCommand) (e : ℕ) (r : Status) → Settles r (Limit Packets) c.err_old c.err_new c.err_before c.err_now → AsksStorm c.words k → StormsTo kv k (Err (e, PacketLimit)) → KeepsOut c → StatusCause r c
-limit_settled c k e r how asks passes kept = settled c r (Limit Packets) how (λ said. (inr (k, e, asks, passes), kept, said)) (inl kept)
-
--- a storm that delivers a packet to no party
-pub stray_settled : (c : Call) (k : StormCommand) (refusal : Refusal) (r : Status) → Settles r (Refused refusal) c.err_old c.err_new c.err_before c.err_now → StormStrays refusal c → KeepsOut c → StatusCause r c
-stray_settled c k refusal r how strays kept = settled c r (Refused refusal) how (λ said. (inr strays, kept, said)) (inl kept)
+pub limit_settled : (c : Call) (k : StormCommand) (r : Status) → Settles r (Limit Packets) c.err_old c.err_new c.err_before c.err_now → AsksStorm c.words k → Passes k → KeepsOut c → StatusCause r c
+limit_settled c k r how asks passes kept = settled c r (Limit Packets) how (λ said. (inr (k, asks, passes), kept, said)) (inl kept)
 
 -- want of memory that was to be said
 pub memory_settled : (c : Call) (r : Status) → Settles r OutOfMemory c.err_old c.err_new c.err_before c.err_now → HasFront c → StatusCause r c

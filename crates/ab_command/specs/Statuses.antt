@@ -11,7 +11,7 @@ use Rattle.ab_text.specs.Heads.{Script}
 use Rattle.ab_text.specs.Schedules.{ReadsText}
 use Rattle.ab_text.specs.declared.line.Premise.{Premise}
 use Rattle.ab_text.specs.declared.line.Premise.TheVariants as premise
-use Rattle.ab_world.specs.declared.fault.WorldFault.TheVariants.{BadParty, PacketLimit}
+use Rattle.ab_world.specs.declared.fault.WorldFault.TheVariants.{PacketLimit}
 use Rattle.ab_world.specs.Worlds.{World, premise_of}
 use Rattle.ab_words.specs.Commands.{KeysCommand, StormCommand}
 use Rattle.ab_words.specs.Language.{command_in}
@@ -19,8 +19,6 @@ use Rattle.ab_words.specs.declared.command.Command.TheVariants.{Replay}
 use Rattle.ab_abs.specs.Ensembles.{Proto}
 use Rattle.ab_kv.specs.KvMachines.{kv_machine}
 use Rattle.ab_replay.specs.Protocols.{Any, any}
-use Rattle.ab_replay.specs.declared.refusal.Cause.TheVariants as refused
-use Rattle.ab_replay.specs.declared.refusal.Refusal.{Refusal}
 use Rattle.ab_command.specs.KeyCommands.{AsksKeys, AsksStorm, IsNoCommand, key_text}
 use Rattle.ab_replay.specs.Replays.{Replays, IsRefused, HasTooManyEvents, HasTooManyBytes, Runs}
 use Rattle.ab_storm_run.specs.Runs.{Storms, StormsTo}
@@ -89,13 +87,13 @@ HasSummary held c = (k : StormCommand) × (summary : List ℕ) × AsksStorm c.wo
 abbrev pub HasSummaryFront : Call → Type 0
 HasSummaryFront c = (k : StormCommand) × (summary : List ℕ) × (held : Bool) × AsksStorm c.words k × Storms kv_machine kv k summary held × AppendsFront c.out_old c.out_new summary
 
--- the packets of the storm that the words ask for would have more bytes than a world keeps
-abbrev pub StormPasses : Call → Type 0
-StormPasses c = (k : StormCommand) × (n : ℕ) × AsksStorm c.words k × StormsTo kv k (Err (n, PacketLimit))
+-- the packets of an event of this storm would have more bytes than a world keeps
+abbrev pub Passes : StormCommand → Type 0
+Passes k = (e : ℕ) × StormsTo kv k (Err (e, PacketLimit))
 
--- its event of the refusal's number delivers a packet that was sent to no party of the cluster
-abbrev pub StormStrays : Refusal → Call → Type 0
-StormStrays r c = (k : StormCommand) × AsksStorm c.words k × (r.cause ≡ refused.BadParty) × StormsTo kv k (Err (r.line, BadParty))
+-- and the words ask for it
+abbrev pub StormPasses : Call → Type 0
+StormPasses c = (k : StormCommand) × AsksStorm c.words k × Passes k
 
 -- out got a front of the report, of the key text or of the summary, or nothing
 abbrev pub HasFront : Call → Type 0
@@ -109,7 +107,7 @@ abbrev pub StatusCause : Status → Call → Type 0
 StatusCause Done c = ((IsReplay c.words × HasReport true c) ⊎ (HasKeys c ⊎ HasSummary true c)) × Keeps c.err_old c.err_new
 StatusCause Broken c = ((IsReplay c.words × HasReport false c) ⊎ HasSummary false c) × Keeps c.err_old c.err_new
 StatusCause Usage c = (IsReplay c.words → ⊥) × IsNoCommand c.words × KeepsOut c × Says Usage c
-StatusCause (Refused r) c = ((IsReplay c.words × HasInput (λ text. IsRefused text r) c) ⊎ StormStrays r c) × KeepsOut c × Says (Refused r) c
+StatusCause (Refused r) c = IsReplay c.words × HasInput (λ text. IsRefused text r) c × KeepsOut c × Says (Refused r) c
 StatusCause ReadFault c = IsReplay c.words × Rose c.read_before c.read_now × KeepsOut c × Says ReadFault c
 StatusCause WriteFault c = ((Rose c.out_before c.out_now × Says WriteFault c) ⊎ Rose c.err_before c.err_now) × HasFront c
 StatusCause (Limit Bytes) c = IsReplay c.words × IsTooLong c.left × KeepsOut c × Says (Limit Bytes) c
@@ -150,17 +148,21 @@ pub record IsClearForStorm (c : Call) (k : StormCommand) : Type 0 where
   pub out : Rose c.out_before c.out_now → ⊥
   pub err : Rose c.err_before c.err_now → ⊥
 
+-- out got the summary of this storm, and nothing else, and the number is that of its premise line
+pub record IsToldWhole (n : ℕ) (k : StormCommand) (c : Call) : Type 0 where
+  pub end : World Any
+  pub runs : StormsTo kv k (Ok end)
+  pub code : n ≡ premise_code (premise_of end)
+  pub whole : Appends c.out_old c.out_new (summary_of end)
+
 -- the number is that of a status that has its cause. Where nothing stands in the way, it is that of the premise line, or memory
--- was refused. Where keys are asked for, they are written whole, or memory was refused. Where a storm is asked for that ends, its
--- summary is written whole and the number is that of the premise line, or memory was refused; where it passes the limit of bytes,
--- the number is 7, and where it delivers a packet that was sent to no party it is 3, or memory was refused
+-- was refused. Where keys are asked for, they are written whole, or memory was refused. Where a storm is asked for, its summary is
+-- written whole and the number is that of the premise line, or its packets pass the limit of bytes and the number is 7, or memory was
+-- refused
 pub record HasCauseOf (n : ℕ) (c : Call) : Type 0 where
   pub status : Status
   pub code : n ≡ code_of status
   pub cause : StatusCause status c
   pub complete : (clear : IsClear c) → (n ≡ premise_code (premise_of clear.end)) ⊎ (n ≡ 9)
   pub keys : (k : KeysCommand) → IsClearForKeys c k → ((n ≡ 0) × Appends c.out_old c.out_new (key_text k)) ⊎ (n ≡ 9)
-  pub storm : (k : StormCommand) (end : World Any) → IsClearForStorm c k → StormsTo kv k (Ok end)
-      → ((n ≡ premise_code (premise_of end)) × Appends c.out_old c.out_new (summary_of end)) ⊎ (n ≡ 9)
-  pub passes : (k : StormCommand) (e : ℕ) → IsClearForStorm c k → StormsTo kv k (Err (e, PacketLimit)) → (n ≡ 7) ⊎ (n ≡ 9)
-  pub strays : (k : StormCommand) (e : ℕ) → IsClearForStorm c k → StormsTo kv k (Err (e, BadParty)) → (n ≡ 3) ⊎ (n ≡ 9)
+  pub storm : (k : StormCommand) → IsClearForStorm c k → IsToldWhole n k c ⊎ ((Passes k × (n ≡ 7)) ⊎ (n ≡ 9))

@@ -10,8 +10,9 @@ use crate::keys::key_text;
 use crate::status::{Bound, Status};
 use ab_io::{Clock, Link, Sink, Source};
 use ab_kv::Kv;
+use ab_receivers::packets_go_to_parties;
 use ab_replay::{
-    AnyProtocol, Cause, Refusal, ReplayFault, WriteFault, refusal_line, replay, write_all,
+    AnyProtocol, Refusal, ReplayFault, WriteFault, refusal_line, replay, write_all,
 };
 use ab_storm_run::{StormFault, storm};
 use ab_text::one_reading;
@@ -158,17 +159,11 @@ fn serve_storm<O: Sink, E: Sink>(
       err_now = E.faults err.new;
     }) }
 {
+    packets_go_to_parties::<Kv>();
     let stormed = match storm::<Kv, AnyProtocol<Kv>>(alloc, asked) {
         Ok(stormed) => stormed,
         Err(StormFault::TooManyPackets) => {
             return say(err, "limit packets\n", Status::Limit(Bound::Packets));
-        }
-        Err(StormFault::NoReceiver(event)) => {
-            let refusal = Refusal {
-                line: event,
-                cause: Cause::BadParty,
-            };
-            return say_refusal(alloc, err, refusal);
         }
         Err(StormFault::OutOfMemory) => return say_no_memory(err),
     };
@@ -222,8 +217,7 @@ fn serve<I: Source, O: Sink, E: Sink>(
 ///   written.
 /// - 1: the report or the summary was written, and its premise line says `broken`.
 /// - 2: the words are no command.
-/// - 3: a line is out of form or missing, or its event is refused; or the event of a storm with the
-///   line's number delivers a packet that was sent to no party of the cluster.
+/// - 3: a line is out of form or missing, or its event is refused.
 /// - 4: `input` failed.
 /// - 5: `out` or `err` failed.
 /// - 7: the input has more bytes or more events than are taken, or the packets of the run have more

@@ -1,10 +1,11 @@
--- What a storm draws happens, but for a packet that was sent to no party of the cluster.
-use Rattle.std.proofs.Common.{◌≡◌, ℕ, zero, suc, ◌+◌, ◌-◌, ◌*◌, ◌≤◌, ◌<◌, ◌==◌, Bool, true, false, Option, None, Some, List, [], ◌∷◌, Result, Ok, Err, get_or, length, refl, sym, ap, ◌∙◌, subst, inl, inr, arith}
-use Rattle.std.specs.Prelude.{◌⊎◌, ◌&&◌, nat_lt, nat_le, if◌then◌else◌, map, slice_get}
+-- What a storm draws happens, where packets go to parties of the cluster.
+use Rattle.std.proofs.Common.{◌≡◌, ℕ, zero, suc, ◌+◌, ◌-◌, ◌*◌, ◌≤◌, ◌<◌, ◌==◌, Bool, true, false, Option, None, Some, List, [], ◌∷◌, ◌++◌, Result, Ok, Err, get_or, length, refl, sym, ap, ◌∙◌, subst, arith}
+use Rattle.std.specs.Prelude.{◌&&◌, Contains, nat_lt, nat_le, if◌then◌else◌, map, slice_get}
 use Rattle.std.specs.List.{range_with_len}
 use Rattle.std.specs.Option.{option_map}
-use Rattle.std.proofs.lemmas.Bool.{cases_Bool, lt-ltb, le-leb}
+use Rattle.std.proofs.lemmas.Bool.{lt-ltb, le-leb}
 use Rattle.std.proofs.lemmas.List.{ext_get_or}
+use Rattle.std.proofs.lemmas.List.Elements.{Contains-get_or}
 use Rattle.std.proofs.lemmas.List.FromFn.{get_or-range_with_len, length-range_with_len, get_or-map-range_with_len, length-map-range_with_len}
 use Rattle.std.proofs.lemmas.Option.{slice_get-map, slice_get_within, get_or_from_slice_get}
 use Rattle.arrayvec.specs.ArrayVec.{ArrayVec}
@@ -26,13 +27,15 @@ use Rattle.ab_cast.specs.Setups.{Setup, own_place, numbered_place, place_of}
 use Rattle.ab_cast.specs.Cores.{client}
 use Rattle.ab_cast.specs.Casts.{is_free, first_seat, first_seats}
 use Rattle.ab_world.specs.declared.fault.WorldFault.{WorldFault}
-use Rattle.ab_world.specs.declared.fault.WorldFault.TheVariants.{BadParty, EventLimit, PacketLimit, BadCommand}
+use Rattle.ab_world.specs.declared.fault.WorldFault.TheVariants.{EventLimit, PacketLimit, BadCommand}
 use Rattle.ab_world.specs.Steps.{Happening, Given, ask, hand, ring, refuse_command, asked_at, asked, handed, rung, delivered, happening, ready_in, ready, after, within_limit, stepped_by, stepped}
+use Rattle.ab_world.specs.Runs.{outcome}
 use Rattle.ab_world.specs.Worlds.{World, start}
 use Rattle.ab_world.proofs.SeatLemmas.{length-first_seats, length-first_sites}
 use Rattle.ab_storm_run.specs.Standing.{Goes}
-use Rattle.ab_storm_run.specs.Runs.{idle_of, drawn_at, storm_of, storm_setup}
-use Rattle.ab_storm_run.proofs.Stepping.{given_keeps}
+use Rattle.ab_storm_run.specs.Runs.{SendsToParties, idle_of, drawn_at, storm_of, storm_setup}
+use Rattle.ab_storm_run.proofs.Leading.{leads_on}
+use Rattle.ab_storm_run.proofs.Stepping.{Keeps, given_keeps}
 
 -- ---- idle clients
 
@@ -64,29 +67,19 @@ pub record Gives (r : Result Happening WorldFault) : Type 0 where
   pub given : Given
   pub gives : r ≡ Ok (record { place = own_place party; given = given })
 
--- or a packet that was sent to no party of the cluster is delivered
-pub record IsStray {P : Type 0} (w : World P) (r : Result Happening WorldFault) : Type 0 where
-  pub number : ℕ
-  pub packet : Packet
-  pub sent : slice_get w.packets number ≡ Some packet
-  pub astray : is_party w.cast.setup.cluster.f w.cast.setup.cluster.clients packet.to ≡ false
-  pub refused : r ≡ Err BadParty
-
 own_there : (x : Setup) (p : Party) → is_party x.cluster.f x.cluster.clients p ≡ true → place_of x p None ≡ Some (own_place p)
 own_there x p is = ap (λ b. if b then numbered_place x p None else None) is
-
-none_there : (x : Setup) (p : Party) → is_party x.cluster.f x.cluster.clients p ≡ false → place_of x p None ≡ None
-none_there x p is = ap (λ b. if b then numbered_place x p None else None) is
 
 within_command : (n : ℕ) → 1 ≤ n → n ≤ 128 → (nat_le 1 n && nat_le n 128) ≡ true
 within_command n some few = λ j. le-leb 1 n some j && le-leb n 128 few j
 
-module _ {P : Type 0} (w : World P) (all : length w.cast.clients ≡ w.cast.setup.cluster.clients) where
+get_contains : {A : Type 0} (xs : List A) (n : ℕ) (x : A) → slice_get xs n ≡ Some x → Contains xs x
+get_contains xs n x e = subst (Contains xs) (get_or_from_slice_get xs n x x e) (Contains-get_or xs n x (slice_get_within xs n x e))
+
+module _ {P : Type 0} (w : World P) (all : length w.cast.clients ≡ w.cast.setup.cluster.clients)
+    (sent : (p : Packet) → Contains w.packets p → is_party w.cast.setup.cluster.f w.cast.setup.cluster.clients p.to ≡ true) where
   abbrev x : Setup
   x = w.cast.setup
-
-  abbrev Happens : Result Happening WorldFault → Type 0
-  Happens r = Gives r ⊎ IsStray w r
 
   seat_asked : (c : ℕ) (bytes : ArrayVec ℕ) (o : Option Seat) → is_free o ≡ true
       → asked_at {P = P} (own_place (Client c)) bytes (option_map client o) ≡ Ok (record { place = own_place (Client c); given = ask bytes })
@@ -118,14 +111,11 @@ module _ {P : Type 0} (w : World P) (all : length w.cast.clients ≡ w.cast.setu
   past_end (p ∷ ps) zero e lt = cc (e)
   past_end (p ∷ ps) (suc i) e lt = past_end ps i e (omega (arith, lt))
 
-  found_goes : (n : ℕ) (o : Option Packet) → slice_get w.packets n ≡ o → n < length w.packets → Happens (delivered x o None)
+  found_goes : (n : ℕ) (o : Option Packet) → slice_get w.packets n ≡ o → n < length w.packets → Gives (delivered x o None)
   found_goes n None at lt = absurd (past_end w.packets n at lt)
-  found_goes n (Some p) at lt = elim (cases_Bool (is_party x.cluster.f x.cluster.clients p.to)) [
-    | inl here ↦ inl (record { party = p.to; given = hand p.bytes; gives = ap (handed p.bytes) (own_there x p.to here) })
-    | inr none ↦ inr (record { number = n; packet = p; sent = at; astray = none; refused = ap (handed p.bytes) (none_there x p.to none) })
-  ]
+  found_goes n (Some p) at lt = record { party = p.to; given = hand p.bytes; gives = ap (handed p.bytes) (own_there x p.to (sent p (get_contains w.packets n p at))) }
 
-  delivers : (n : ℕ) (core : Option CoreName) → core ≡ None → 1 ≤ n → n ≤ length w.packets → Happens (delivered x (nth w.packets n) core)
+  delivers : (n : ℕ) (core : Option CoreName) → core ≡ None → 1 ≤ n → n ≤ length w.packets → Gives (delivered x (nth w.packets n) core)
   delivers zero core e some few = absurd (omega (arith, some))
   delivers (suc n) (Some core) e some few = absurd (cc (e))
   delivers (suc n) None e some few = found_goes n (slice_get w.packets n) refl (omega (arith, few))
@@ -138,10 +128,10 @@ module _ {P : Type 0} (w : World P) (all : length w.cast.clients ≡ w.cast.setu
   rings p (Some t) e is = absurd (cc (e))
   rings p None e is = record { party = p; given = ring; gives = ap rung (own_there x p (is_there p is)) }
 
-  happens : (e : Event) → CanHappen x.cluster (length w.packets) (idle_of w) e → Happens (happening w e)
-  happens (Invoke core bytes) can = inl (invoked core.party core.twin bytes can.0 can.1)
+  happens : (e : Event) → CanHappen x.cluster (length w.packets) (idle_of w) e → Gives (happening w e)
+  happens (Invoke core bytes) can = invoked core.party core.twin bytes can.0 can.1
   happens (Deliver packet core) can = delivers packet core can.0 can.1 can.2
-  happens (Timeout core) can = inl (rings core.party core.twin can.0 can.1)
+  happens (Timeout core) can = rings core.party core.twin can.0 can.1
   happens (Inject core bytes) can = absurd can
 
 -- ---- a storm keeps its cluster
@@ -187,8 +177,8 @@ module _ (packets : ℕ) (idle : List Bool) where
 -- ---- one event
 
 -- what is given by an event that is drawn
-draws : {P : Type 0} (s : Storm) (w : World P) → Goes s w → Gives (happening w (drawn_at s w).0) ⊎ IsStray w (happening w (drawn_at s w).0)
-draws s w goes = happens w goes.clients (drawn_at s w).0 (subst (λ (c : Cluster). CanHappen c (length w.packets) (idle_of w) (drawn_at s w).0) goes.cluster (next_can s (length w.packets) (idle_of w)))
+draws : {P : Type 0} (proto : Proto P) (s : Storm) (w : World P) → Goes proto s w → Gives (happening w (drawn_at s w).0)
+draws proto s w goes = happens w goes.clients (goes.sends goes.led.0 w goes.led.1) (drawn_at s w).0 (subst (λ (c : Cluster). CanHappen c (length w.packets) (idle_of w) (drawn_at s w).0) goes.cluster (next_can s (length w.packets) (idle_of w)))
 
 ready_now : {P : Type 0} (w : World P) (e : Event) → w.ended ≡ None → w.cast.events < 100000 → ready w e ≡ happening w e
 ready_now w e goes few = ap (ready_in w e) goes ∙ ap (λ b. if b then happening w e else Err EventLimit) (lt-ltb w.cast.events 100000 few)
@@ -203,61 +193,48 @@ module _ {P : Type 0} where
   limit_faults w f true e = absurd (cc (e))
   limit_faults w f false e = cc (e)
 
-  refused_only : (f g : WorldFault) → ◌≡◌ {A = Result (World P) WorldFault} (Err f) (Err g) → g ≡ f
-  refused_only f g e = cc (e)
-
-  refused_not_taken : (f : WorldFault) (v : World P) → ◌≡◌ {A = Result (World P) WorldFault} (Err f) (Ok v) → ⊥
-  refused_not_taken f v e = cc (e)
-
-module _ {P : Type 0} (proto : Proto P) (s : Storm) (w : World P) (goes : Goes s w) (few : w.cast.events < 100000) where
+module _ {P : Type 0} (proto : Proto P) (s : Storm) (w : World P) (goes : Goes proto s w) (few : w.cast.events < 100000) where
   abbrev event : Event
   event = (drawn_at s w).0
 
-  abbrev happened : Gives (happening w event) → Happening
-  happened h = record { place = own_place h.party; given = h.given }
+  drawn : Gives (happening w event)
+  drawn = draws proto s w goes
 
-  taken : (h : Gives (happening w event)) → stepped proto w event ≡ within_limit proto (after proto w (happened h))
-  taken h = ap (stepped_by proto w) (ready_now w event goes.ended few ∙ h.gives)
+  abbrev happened : Happening
+  happened = record { place = own_place drawn.party; given = drawn.given }
 
-  lost : IsStray w (happening w event) → stepped proto w event ≡ Err BadParty
-  lost is = ap (stepped_by proto w) (ready_now w event goes.ended few ∙ is.refused)
+  taken : stepped proto w event ≡ within_limit proto (after proto w happened)
+  taken = ap (stepped_by proto w) (ready_now w event goes.ended few ∙ drawn.gives)
 
-  -- an event that is drawn is refused for the limit of bytes, or delivers a packet that was sent to no party
-  pub refused_for : (f : WorldFault) → stepped proto w event ≡ Err f → (f ≡ PacketLimit) ⊎ ((f ≡ BadParty) × IsStray w (happening w event))
-  refused_for f e = elim (draws s w goes) [
-    | inl h ↦ inl (limit_faults (after proto w (happened h)) f _ (sym (taken h) ∙ e))
-    | inr is ↦ inr (refused_only BadParty f (sym (lost is) ∙ e), is)
-  ]
+  -- an event that is drawn is refused for the limit of bytes alone
+  pub refused_for : (f : WorldFault) → stepped proto w event ≡ Err f → f ≡ PacketLimit
+  refused_for f e = limit_faults (after proto w happened) f _ (sym taken ∙ e)
 
   -- what one event more leaves
   pub record GoesOver (v : World P) : Type 0 where
-    pub goes : Goes (drawn_at s w).1 v
+    pub goes : Goes proto (drawn_at s w).1 v
     pub setup : v.cast.setup ≡ w.cast.setup
     pub events : v.cast.events ≤ w.cast.events + 1
 
-  gives_on : (v : World P) → stepped proto w event ≡ Ok v → Gives (happening w event) → GoesOver v
-  gives_on v e h =
-      let keeps = given_keeps proto w h.party h.given in
-      let same : after proto w (happened h) ≡ v = limit_ends (after proto w (happened h)) v _ (sym (taken h) ∙ e) in
-      let over : GoesOver (after proto w (happened h)) = record {
+  -- the storm goes on over the world after it
+  pub goes_on : (v : World P) → stepped proto w event ≡ Ok v → GoesOver v
+  goes_on v e =
+      let keeps = subst (λ (u : World P). Keeps proto w u) (limit_ends (after proto w happened) v _ (sym taken ∙ e)) (given_keeps proto w drawn.party drawn.given) in
+      let more = goes.led.0 ++ event ∷ [] in
+      record {
         goes = record {
           cluster = next_same (length w.packets) (idle_of w) s ∙ goes.cluster ∙ sym (ap (λ (y : Setup). y.cluster) keeps.setup);
           replicas = keeps.replicas ∙ goes.replicas ∙ sym (ap (λ (y : Setup). 3 * y.cluster.f + 1) keeps.setup);
           clients = keeps.clients ∙ goes.clients ∙ sym (ap (λ (y : Setup). y.cluster.clients) keeps.setup);
           ended = keeps.ended ∙ goes.ended;
+          sends = subst (λ (y : Setup). SendsToParties proto y) (sym keeps.setup) goes.sends;
+          led = (more, subst (λ (y : Setup). outcome proto 1 (start proto y) more ≡ Ok v) (sym keeps.setup) (leads_on proto goes.led.0 1 (start proto w.cast.setup) w v event goes.led.1 e));
         };
         setup = keeps.setup;
         events = keeps.events;
-      } in
-      subst GoesOver same over
-
-  -- the storm goes on over the world after it
-  pub goes_on : (v : World P) → stepped proto w event ≡ Ok v → GoesOver v
-  goes_on v e = elim (draws s w goes) [
-    | inl h ↦ gives_on v e h
-    | inr is ↦ absurd (refused_not_taken BadParty v (sym (lost is) ∙ e))
-  ]
+      }
 
 -- a storm goes over its cluster before the first event
-pub storm_goes : {P : Type 0} (proto : Proto P) (c : Cluster) (seed : ℕ) → Goes (storm_of c seed) (start proto (storm_setup c))
-storm_goes proto c seed = record { cluster = refl; replicas = length-first_sites (storm_setup c) proto (3 * c.f + 1); clients = length-first_seats c c.clients; ended = refl }
+pub storm_goes : {P : Type 0} (proto : Proto P) (c : Cluster) (seed : ℕ) → SendsToParties proto (storm_setup c) → Goes proto (storm_of c seed) (start proto (storm_setup c))
+storm_goes proto c seed sends =
+    record { cluster = refl; replicas = length-first_sites (storm_setup c) proto (3 * c.f + 1); clients = length-first_seats c c.clients; ended = refl; sends = sends; led = ([], refl) }

@@ -1,9 +1,7 @@
 -- The run of a storm.
-use Rattle.std.proofs.Common.{◌≡◌, ℕ, zero, suc, ◌+◌, ◌-◌, ◌≤◌, ◌<◌, Bool, true, IsTrue, Option, None, Some, List, [], ◌∷◌, ◌++◌, false, Result, Ok, Err, length, refl, sym, ap, ◌∙◌, subst, inl, inr, arith}
+use Rattle.std.proofs.Common.{◌≡◌, ℕ, zero, suc, ◌+◌, ◌-◌, ◌≤◌, ◌<◌, Bool, true, IsTrue, Option, None, Some, List, [], ◌∷◌, Result, Ok, Err, length, refl, sym, ap, ◌∙◌, subst, arith}
 use Rattle.std.proofs.Math.Bridge.{le_prop}
-use Rattle.std.proofs.lemmas.List.Elements.{Contains-get_or}
-use Rattle.std.proofs.lemmas.Option.{slice_get_within, get_or_from_slice_get}
-use Rattle.std.specs.Prelude.{◌⊎◌, Contains, IfErr, IsSome, slice_get}
+use Rattle.std.specs.Prelude.{IfErr, IsSome}
 use Rattle.std.specs.Result.{IsErrAnd}
 use Rattle.ab_num.specs.Bounds.{IsInBounds}
 use Rattle.ab_num.specs.declared.cluster.Cluster.{Cluster}
@@ -15,15 +13,15 @@ use Rattle.ab_words.specs.Commands.{StormCommand}
 use Rattle.ab_storm.specs.Storms.{Storm, next_of}
 use Rattle.ab_world.specs.declared.fault.WorldFault.{WorldFault}
 use Rattle.ab_world.specs.declared.fault.WorldFault.TheVariants.{PacketLimit, EventLimit, BadCommand, NoPacket, BadParty, Busy, OutOfMemory as NoMemory}
-use Rattle.ab_keys.specs.Keys.{is_party}
-use Rattle.ab_world.specs.Steps.{Cause, Happening, happening, stepped}
+use Rattle.ab_world.specs.Steps.{Cause, stepped}
 use Rattle.ab_world.specs.Runs.{outcome, refused_or}
 use Rattle.ab_world.specs.Worlds.{World, start}
 use Rattle.ab_storm_run.specs.declared.running.StormFault.{StormFault}
-use Rattle.ab_storm_run.specs.declared.running.StormFault.TheVariants.{TooManyPackets, NoReceiver, OutOfMemory}
+use Rattle.ab_storm_run.specs.declared.running.StormFault.TheVariants.{TooManyPackets, OutOfMemory}
 use Rattle.ab_storm_run.specs.Standing.{Goes}
-use Rattle.ab_storm_run.specs.Runs.{end_of, idle_of, drawn_at, drawn_behind, drawn_events, storm_setup, storm_of, events_in, run_in, IsClusterOf, StormsTo, SendsToParties, StepCause, EndCause, StormCause}
-use Rattle.ab_storm_run.proofs.Drawing.{IsStray, refused_for, goes_on, storm_goes}
+use Rattle.ab_storm_run.specs.Runs.{end_of, idle_of, drawn_at, drawn_behind, drawn_events, storm_setup, storm_of, events_in, run_in, IsClusterOf, StormsTo, SendsToParties, SendsWithin, StepCause, EndCause, StormCause}
+use Rattle.ab_storm_run.proofs.Drawing.{refused_for, goes_on, storm_goes}
+use Rattle.ab_storm_run.proofs.Leading.{ok_same, err_ok}
 
 -- ---- clusters of one size
 
@@ -46,10 +44,7 @@ one_end proto k r q a b =
     ∙ ap (λ (c : Cluster). run_in proto c k) (one_cluster a.cluster b.cluster (a.sized.f ∙ sym b.sized.f) (a.sized.clients ∙ sym b.sized.clients) (a.sized.plan ∙ sym b.sized.plan))
     ∙ b.runs
 
--- ---- lists and results
-
-get_contains : {A : Type 0} (xs : List A) (n : ℕ) (x : A) → slice_get xs n ≡ Some x → Contains xs x
-get_contains xs n x e = subst (Contains xs) (get_or_from_slice_get xs n x x e) (Contains-get_or xs n x (slice_get_within xs n x e))
+-- ---- results
 
 -- an error that is handed on
 pub kept_err : {T E : Type 0} (r : Result T E) (x : E) (Q : E → Type 0) → IsErrAnd r (λ e. e ≡ x) → Q x → IfErr r Q
@@ -66,14 +61,8 @@ some_none : (f : StormFault) → ◌≡◌ {A = Option StormFault} (Some f) None
 some_none f is = cc (is)
 
 module _ {P : Type 0} (proto : Proto P) where
-  ok_same : (w v : World P) → ◌≡◌ {A = Result (World P) (ℕ × WorldFault)} (Ok w) (Ok v) → w ≡ v
-  ok_same w v is = cc (is)
-
   ok_err : (w : World P) (n : ℕ) (f : WorldFault) → ◌≡◌ {A = Result (World P) (ℕ × WorldFault)} (Ok w) (Err (n, f)) → ⊥
   ok_err w n f is = cc (is)
-
-  err_ok : (w : World P) (n : ℕ) (f : WorldFault) → ◌≡◌ {A = Result (World P) (ℕ × WorldFault)} (Err (n, f)) (Ok w) → ⊥
-  err_ok w n f is = cc (is)
 
   fault_same : (m n : ℕ) (f g : WorldFault) → ◌≡◌ {A = Result (World P) (ℕ × WorldFault)} (Err (m, f)) (Err (n, g)) → f ≡ g
   fault_same m n f g is = cc (is)
@@ -81,33 +70,30 @@ module _ {P : Type 0} (proto : Proto P) where
   -- ---- event by event
 
   -- a fault that comes of an event that was drawn ends the storm
-  refusal_ends : (s : Storm) (w : World P) (n : ℕ) (f : WorldFault) → Goes s w → w.cast.events < 100000 → stepped proto w (drawn_at s w).0 ≡ Err f → IsSome (end_of n f)
-  refusal_ends s w n f goes few is = elim (refused_for proto s w goes few f is) [
-    | inl limit ↦ subst (λ (g : WorldFault). IsSome (end_of n g)) (sym limit) tt
-    | inr stray ↦ subst (λ (g : WorldFault). IsSome (end_of n g)) (sym stray.0) tt
-  ]
+  refusal_ends : (s : Storm) (w : World P) (f : WorldFault) → Goes proto s w → w.cast.events < 100000 → stepped proto w (drawn_at s w).0 ≡ Err f → IsSome (end_of f)
+  refusal_ends s w f goes few is = subst (λ (g : WorldFault). IsSome (end_of g)) (sym (refused_for proto s w goes few f is)) tt
 
-  pub fault_ends : (s : Storm) (w : World P) (n : ℕ) (f : WorldFault) → Goes s w → w.cast.events < 100000 → Cause proto f w (drawn_at s w).0 → IsSome (end_of n f)
-  fault_ends s w n PacketLimit goes few cause = tt
-  fault_ends s w n BadParty goes few cause = tt
-  fault_ends s w n NoMemory goes few cause = tt
-  fault_ends s w n EventLimit goes few cause = refusal_ends s w n EventLimit goes few cause
-  fault_ends s w n BadCommand goes few cause = refusal_ends s w n BadCommand goes few cause
-  fault_ends s w n NoPacket goes few cause = refusal_ends s w n NoPacket goes few cause
-  fault_ends s w n Busy goes few cause = refusal_ends s w n Busy goes few cause
+  pub fault_ends : (s : Storm) (w : World P) (f : WorldFault) → Goes proto s w → w.cast.events < 100000 → Cause proto f w (drawn_at s w).0 → IsSome (end_of f)
+  fault_ends s w PacketLimit goes few cause = tt
+  fault_ends s w NoMemory goes few cause = tt
+  fault_ends s w EventLimit goes few cause = refusal_ends s w EventLimit goes few cause
+  fault_ends s w BadCommand goes few cause = refusal_ends s w BadCommand goes few cause
+  fault_ends s w NoPacket goes few cause = refusal_ends s w NoPacket goes few cause
+  fault_ends s w BadParty goes few cause = refusal_ends s w BadParty goes few cause
+  fault_ends s w Busy goes few cause = refusal_ends s w Busy goes few cause
 
   some_same : (e f : StormFault) → ◌≡◌ {A = Option StormFault} (Some e) (Some f) → f ≡ e
   some_same e f is = cc (is)
 
   -- and has its cause
-  pub end_caused : (w : World P) (event : Event) (n : ℕ) (f : WorldFault) (e : StormFault) → Some e ≡ end_of n f → Cause proto f w event → StepCause e n (stepped proto w event)
-  end_caused w event n PacketLimit e is cause = subst (λ (g : StormFault). StepCause g n (stepped proto w event)) (some_same e TooManyPackets is) cause
-  end_caused w event n BadParty e is cause = subst (λ (g : StormFault). StepCause g n (stepped proto w event)) (some_same e (NoReceiver n) is) (refl, cause)
-  end_caused w event n NoMemory e is cause = subst (λ (g : StormFault). StepCause g n (stepped proto w event)) (some_same e OutOfMemory is) tt
-  end_caused w event n EventLimit e is cause = absurd (some_none e is)
-  end_caused w event n BadCommand e is cause = absurd (some_none e is)
-  end_caused w event n NoPacket e is cause = absurd (some_none e is)
-  end_caused w event n Busy e is cause = absurd (some_none e is)
+  pub end_caused : (w : World P) (event : Event) (f : WorldFault) (e : StormFault) → Some e ≡ end_of f → Cause proto f w event → StepCause e (stepped proto w event)
+  end_caused w event PacketLimit e is cause = subst (λ (g : StormFault). StepCause g (stepped proto w event)) (some_same e TooManyPackets is) cause
+  end_caused w event NoMemory e is cause = subst (λ (g : StormFault). StepCause g (stepped proto w event)) (some_same e OutOfMemory is) tt
+  end_caused w event EventLimit e is cause = absurd (some_none e is)
+  end_caused w event BadCommand e is cause = absurd (some_none e is)
+  end_caused w event NoPacket e is cause = absurd (some_none e is)
+  end_caused w event BadParty e is cause = absurd (some_none e is)
+  end_caused w event Busy e is cause = absurd (some_none e is)
 
   -- no event is left
   pub run_done : (n i : ℕ) (s : Storm) (w : World P) → i ≡ n → outcome proto (i + 1) w (drawn_events proto (n - i) s w) ≡ Ok w
@@ -137,23 +123,22 @@ module _ {P : Type 0} (proto : Proto P) where
   pub record GoesOn (n i : ℕ) (t : Storm) (w v : World P) (whole : Result (World P) (ℕ × WorldFault)) : Type 0 where
     pub rest : outcome proto (i + 1 + 1) v (drawn_events proto (n - (i + 1)) t v) ≡ whole
     pub events : v.cast.events ≤ w.cast.events + 1
-    pub goes : Goes t v
+    pub goes : Goes proto t v
 
-  pub goes_next : (n i : ℕ) (s t : Storm) (w v : World P) (whole : Result (World P) (ℕ × WorldFault)) → i < n → Goes s w → w.cast.events < 100000 → t ≡ (drawn_at s w).1
+  pub goes_next : (n i : ℕ) (s t : Storm) (w v : World P) (whole : Result (World P) (ℕ × WorldFault)) → i < n → Goes proto s w → w.cast.events < 100000 → t ≡ (drawn_at s w).1
       → stepped proto w (drawn_at s w).0 ≡ Ok v → outcome proto (i + 1) w (drawn_events proto (n - i) s w) ≡ whole → GoesOn n i t w v whole
   goes_next n i s t w v whole lt goes few next takes so =
       let over = goes_on proto s w goes few v takes in
       record {
         rest = ap (λ (u : Storm). outcome proto (i + 1 + 1) v (drawn_events proto (n - (i + 1)) u v)) next ∙ sym (run_goes_on n i s w v lt takes) ∙ so;
         events = over.events;
-        goes = subst (λ (u : Storm). Goes u v) (sym next) over.goes;
+        goes = subst (λ (u : Storm). Goes proto u v) (sym next) over.goes;
       }
 
   -- what ends an event ends the run
-  pub ends_run : (e : StormFault) (n i : ℕ) (s : Storm) (w : World P) → i < n → StepCause e (i + 1) (stepped proto w (drawn_at s w).0)
+  pub ends_run : (e : StormFault) (n i : ℕ) (s : Storm) (w : World P) → i < n → StepCause e (stepped proto w (drawn_at s w).0)
       → EndCause e (outcome proto (i + 1) w (drawn_events proto (n - i) s w))
   ends_run TooManyPackets n i s w lt refused = (i + 1, run_ends n i s w PacketLimit lt refused)
-  ends_run (NoReceiver m) n i s w lt (at, refused) = run_ends n i s w BadParty lt refused ∙ ap (λ (e : ℕ). Err (e, BadParty)) (sym at)
   ends_run OutOfMemory n i s w lt cause = tt
 
   -- ---- whole runs
@@ -175,73 +160,24 @@ module _ {P : Type 0} (proto : Proto P) where
 
   -- ---- refusals
 
-  -- the world is where events lead from here
-  abbrev Leads : Setup → World P → Type 0
-  Leads x w = (es : List Event) × (outcome proto 1 (start proto x) es ≡ Ok w)
+  refused_by : (n i : ℕ) (s : Storm) (w : World P) → Goes proto s w → w.cast.events < 100000 → (e : ℕ) (f : WorldFault) (r : Result (World P) WorldFault) → stepped proto w (drawn_at s w).0 ≡ r
+      → ((v : World P) → stepped proto w (drawn_at s w).0 ≡ Ok v → outcome proto (i + 1) v (drawn_events proto n (drawn_at s w).1 v) ≡ Err (e, f) → f ≡ PacketLimit)
+      → Rest n i s w r ≡ Err (e, f) → f ≡ PacketLimit
+  refused_by n i s w goes few e f (Ok v) takes more stops = more v takes stops
+  refused_by n i s w goes few e f (Err g) takes more stops = sym (fault_same i e g f stops) ∙ refused_for proto s w goes few g takes
 
-  one_more : (n : ℕ) (w v : World P) (r : Result (World P) WorldFault) (es : List Event) (e : Event) → stepped proto w e ≡ Ok v
-      → ((t : World P) → outcome proto (n + 1) t es ≡ Ok w → outcome proto (n + 1) t (es ++ e ∷ []) ≡ Ok v)
-      → refused_or proto n r (λ t. outcome proto (n + 1) t es) ≡ Ok w → refused_or proto n r (λ t. outcome proto (n + 1) t (es ++ e ∷ [])) ≡ Ok v
-  one_more n w v (Ok t) es e takes more is = more t is
-  one_more n w v (Err f) es e takes more is = absurd (err_ok w n f is)
+  -- over a world with few events, each refusal is for the limit of bytes
+  drawn_refused : (n i : ℕ) (s : Storm) (w : World P) → Goes proto s w → w.cast.events + n ≤ 100000 → (e : ℕ) (f : WorldFault) → outcome proto i w (drawn_events proto n s w) ≡ Err (e, f) → f ≡ PacketLimit
+  drawn_refused zero i s w goes few e f is = absurd (ok_err w e f is)
+  drawn_refused (suc n) i s w goes few e f is =
+      let some : w.cast.events < 100000 = omega (arith, few) in
+      refused_by n i s w goes some e f (stepped proto w (drawn_at s w).0) refl
+      (λ v. λ takes rest. let over = goes_on proto s w goes some v takes in drawn_refused n (i + 1) (drawn_at s w).1 v over.goes (omega (arith, few, over.events)) e f rest)
+      is
 
-  leads_on : (es : List Event) (n : ℕ) (u w v : World P) (e : Event) → outcome proto n u es ≡ Ok w → stepped proto w e ≡ Ok v → outcome proto n u (es ++ e ∷ []) ≡ Ok v
-  leads_on [] n u w v e is takes =
-      ap (λ (t : World P). refused_or proto n (stepped proto t e) (λ z. Ok z)) (ok_same u w is) ∙ ap (λ (r : Result (World P) WorldFault). refused_or proto n r (λ z. Ok z)) takes
-  leads_on (d ∷ es) n u w v e is takes = one_more n w v (stepped proto u d) es e takes (λ t. λ so. leads_on es (n + 1) t w v e so takes) is
-
-  -- what the refusal of an event that is drawn is, wherever events lead
-  abbrev Refuses : Setup → (WorldFault → Type 0) → Type 0
-  Refuses x Is = (s : Storm) (w : World P) → Leads x w → Goes s w → w.cast.setup ≡ x → w.cast.events < 100000 → (f : WorldFault) → stepped proto w (drawn_at s w).0 ≡ Err f → Is f
-
-  module _ (x : Setup) (Is : WorldFault → Type 0) (refuses : Refuses x Is) where
-    refused_by : (n i : ℕ) (s : Storm) (w : World P) → Leads x w → Goes s w → w.cast.setup ≡ x → w.cast.events < 100000 → (e : ℕ) (f : WorldFault) (r : Result (World P) WorldFault) → stepped proto w (drawn_at s w).0 ≡ r
-        → ((v : World P) → stepped proto w (drawn_at s w).0 ≡ Ok v → outcome proto (i + 1) v (drawn_events proto n (drawn_at s w).1 v) ≡ Err (e, f) → Is f)
-        → Rest n i s w r ≡ Err (e, f) → Is f
-    refused_by n i s w leads goes set few e f (Ok v) takes more stops = more v takes stops
-    refused_by n i s w leads goes set few e f (Err g) takes more stops = subst Is (fault_same i e g f stops) (refuses s w leads goes set few g takes)
-
-    -- over a world with few events, so is each refusal
-    drawn_refused : (n i : ℕ) (s : Storm) (w : World P) → Leads x w → Goes s w → w.cast.setup ≡ x → w.cast.events + n ≤ 100000 → (e : ℕ) (f : WorldFault)
-        → outcome proto i w (drawn_events proto n s w) ≡ Err (e, f) → Is f
-    drawn_refused zero i s w leads goes set few e f is = absurd (ok_err w e f is)
-    drawn_refused (suc n) i s w leads goes set few e f is =
-        let some : w.cast.events < 100000 = omega (arith, few) in
-        refused_by n i s w leads goes set some e f (stepped proto w (drawn_at s w).0) refl
-        (λ v. λ takes rest.
-            let over = goes_on proto s w goes some v takes in
-            drawn_refused n (i + 1) (drawn_at s w).1 v (leads.0 ++ (drawn_at s w).0 ∷ [], leads_on leads.0 1 (start proto x) w v (drawn_at s w).0 leads.1 takes) over.goes (over.setup ∙ set) (omega (arith, few, over.events)) e f rest)
-        is
-
-  storm_refused : (Is : WorldFault → Type 0) (k : StormCommand) (n : ℕ) (f : WorldFault) → k.events ≤ 100000 → (to : StormsTo proto k (Err (n, f))) → Refuses (storm_setup to.cluster) Is → Is f
-  storm_refused Is k n f few to refuses =
-      drawn_refused (storm_setup to.cluster) Is refuses k.events 1 (storm_of to.cluster k.seed) (start proto (storm_setup to.cluster)) ([], refl) (storm_goes proto to.cluster k.seed) refl (omega (arith, few)) n f to.runs
-
-  -- a refusal is for the limit of bytes, or for a packet that was sent to no party
-  refused_so : (x : Setup) → Refuses x (λ f. (f ≡ PacketLimit) ⊎ (f ≡ BadParty))
-  refused_so x s w leads goes set few f is = elim (refused_for proto s w goes few f is) [
-    | inl limit ↦ inl limit
-    | inr stray ↦ inr stray.0
-  ]
-
-  pub refused_or_stray : (k : StormCommand) (n : ℕ) (f : WorldFault) → k.events ≤ 100000 → StormsTo proto k (Err (n, f)) → (f ≡ PacketLimit) ⊎ (f ≡ BadParty)
-  refused_or_stray k n f few to = storm_refused (λ f. (f ≡ PacketLimit) ⊎ (f ≡ BadParty)) k n f few to (refused_so (storm_setup to.cluster))
-
-  never_stray : (x : Setup) → SendsToParties proto x → (w : World P) → Leads x w → w.cast.setup ≡ x → (r : Result Happening WorldFault) → IsStray w r → ⊥
-  never_stray x sends w leads set r stray =
-      let here : is_party x.cluster.f x.cluster.clients stray.packet.to ≡ true = sends leads.0 w leads.1 stray.packet (get_contains w.packets stray.number stray.packet stray.sent) in
-      let none : is_party x.cluster.f x.cluster.clients stray.packet.to ≡ false = ap (λ (y : Setup). is_party y.cluster.f y.cluster.clients stray.packet.to) (sym set) ∙ stray.astray in
-      cc (here, none)
-
-  -- where packets go to parties, for the limit alone
-  refused_limit : (x : Setup) → SendsToParties proto x → Refuses x (λ f. f ≡ PacketLimit)
-  refused_limit x sends s w leads goes set few f is = elim (refused_for proto s w goes few f is) [
-    | inl limit ↦ limit
-    | inr stray ↦ absurd (never_stray x sends w leads set (happening w (drawn_at s w).0) stray.1)
-  ]
-
-  pub refused_for_limit : (k : StormCommand) (n : ℕ) (f : WorldFault) → k.events ≤ 100000 → ((c : Cluster) → IsClusterOf c k → SendsToParties proto (storm_setup c)) → StormsTo proto k (Err (n, f)) → f ≡ PacketLimit
-  refused_for_limit k n f few sends to = storm_refused (λ f. f ≡ PacketLimit) k n f few to (refused_limit (storm_setup to.cluster) (sends to.cluster to.sized))
+  pub refused_for_limit : (k : StormCommand) (n : ℕ) (f : WorldFault) → k.events ≤ 100000 → SendsWithin proto k → StormsTo proto k (Err (n, f)) → f ≡ PacketLimit
+  refused_for_limit k n f few sends to =
+      drawn_refused k.events 1 (storm_of to.cluster k.seed) (start proto (storm_setup to.cluster)) (storm_goes proto to.cluster k.seed (sends to.cluster to.sized)) (omega (arith, few)) n f to.runs
 
 -- ---- the storm that is asked for
 
@@ -250,8 +186,8 @@ module _ {P : Type 0} (proto : Proto P) (c : Cluster) (x : Setup) (w : World P) 
   starts_so : w ≡ start proto (storm_setup c)
   starts_so = starts ∙ ap (start proto) sets
 
-  pub begins_going : Goes s w
-  begins_going = subst (λ (v : World P). Goes s v) (sym starts_so) (subst (λ (u : Storm). Goes u (start proto (storm_setup c))) (sym from) (storm_goes proto c seed))
+  pub begins_going : SendsToParties proto (storm_setup c) → Goes proto s w
+  begins_going sends = subst (λ (v : World P). Goes proto s v) (sym starts_so) (subst (λ (u : Storm). Goes proto u (start proto (storm_setup c))) (sym from) (storm_goes proto c seed sends))
 
   pub begins_early : w.cast.events ≡ 0
   begins_early = ap (λ (v : World P). v.cast.events) starts_so
@@ -266,5 +202,4 @@ module _ {P : Type 0} (proto : Proto P) (c : Cluster) (x : Setup) (w : World P) 
 -- what ends its run ends the storm
 pub ends_storm : {P : Type 0} (proto : Proto P) (k : StormCommand) (c : Cluster) (e : StormFault) → IsClusterOf c k → EndCause e (run_in proto c k) → StormCause proto e k
 ends_storm proto k c TooManyPackets sized (n, runs) = (n, record { cluster = c; sized = sized; runs = runs })
-ends_storm proto k c (NoReceiver n) sized runs = record { cluster = c; sized = sized; runs = runs }
 ends_storm proto k c OutOfMemory sized cause = tt

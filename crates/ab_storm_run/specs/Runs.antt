@@ -106,32 +106,33 @@ abbrev pub SendsToParties : {P : Type 0} → Proto P → Setup → Type 0
 SendsToParties {P} proto x = (events : List Event) (w : World P) → outcome proto 1 (start proto x) events ≡ Ok w
     → (p : Packet) → Contains w.packets p → IsTrue (is_party x.cluster.f x.cluster.clients p.to)
 
+-- and so it is in the cluster that is asked for
+abbrev pub SendsWithin : {P : Type 0} → Proto P → StormCommand → Type 0
+SendsWithin proto k = (c : Cluster) → IsClusterOf c k → SendsToParties proto (storm_setup c)
+
 -- ---- faults
 
 -- what ends a storm at an event
-abbrev pub end_of : ℕ → WorldFault → Option StormFault
-end_of n world_fault.PacketLimit = Some storm_fault.TooManyPackets
-end_of n world_fault.BadParty = Some (storm_fault.NoReceiver n)
-end_of n world_fault.OutOfMemory = Some storm_fault.OutOfMemory
-end_of n world_fault.EventLimit = None
-end_of n world_fault.BadCommand = None
-end_of n world_fault.NoPacket = None
-end_of n world_fault.Busy = None
+abbrev pub end_of : WorldFault → Option StormFault
+end_of world_fault.PacketLimit = Some storm_fault.TooManyPackets
+end_of world_fault.OutOfMemory = Some storm_fault.OutOfMemory
+end_of world_fault.EventLimit = None
+end_of world_fault.BadCommand = None
+end_of world_fault.NoPacket = None
+end_of world_fault.BadParty = None
+end_of world_fault.Busy = None
 
--- when each fault of event n comes
-abbrev pub StepCause : {P : Type 0} → StormFault → ℕ → Result (World P) WorldFault → Type 0
-StepCause storm_fault.TooManyPackets n r = r ≡ Err world_fault.PacketLimit
-StepCause (storm_fault.NoReceiver e) n r = (e ≡ n) × (r ≡ Err world_fault.BadParty)
-StepCause storm_fault.OutOfMemory n r = ⊤
+-- when each fault of an event comes
+abbrev pub StepCause : {P : Type 0} → StormFault → Result (World P) WorldFault → Type 0
+StepCause storm_fault.TooManyPackets r = r ≡ Err world_fault.PacketLimit
+StepCause storm_fault.OutOfMemory r = ⊤
 
 -- when each fault of a run comes
 abbrev pub EndCause : {P : Type 0} → StormFault → Result (World P) (ℕ × WorldFault) → Type 0
 EndCause storm_fault.TooManyPackets r = (n : ℕ) × (r ≡ Err (n, world_fault.PacketLimit))
-EndCause (storm_fault.NoReceiver n) r = r ≡ Err (n, world_fault.BadParty)
 EndCause storm_fault.OutOfMemory r = ⊤
 
 -- when each fault of a storm comes
 abbrev pub StormCause : {P : Type 0} → Proto P → StormFault → StormCommand → Type 0
 StormCause proto storm_fault.TooManyPackets k = (n : ℕ) × StormsTo proto k (Err (n, world_fault.PacketLimit))
-StormCause proto (storm_fault.NoReceiver n) k = StormsTo proto k (Err (n, world_fault.BadParty))
 StormCause proto storm_fault.OutOfMemory k = ⊤

@@ -1,23 +1,19 @@
 //! What holds of every storm, whatever the protocol.
 
-ghost use Rattle.std.specs.Prelude.{◌≡◌, ◌⊎◌, ℕ, ◌≤◌, Err, Result};
-ghost use Rattle.ab_num.specs.declared.cluster.Cluster.{Cluster as TheCluster};
+ghost use Rattle.std.specs.Prelude.{◌≡◌, ℕ, ◌≤◌, Err, Result};
 ghost use Rattle.ab_words.specs.Commands.{StormCommand as Asked};
 ghost use Rattle.ab_world.specs.declared.fault.WorldFault.{WorldFault as TheFault};
-ghost use Rattle.ab_world.specs.declared.fault.WorldFault.TheVariants.{BadParty, PacketLimit};
+ghost use Rattle.ab_world.specs.declared.fault.WorldFault.TheVariants.{PacketLimit};
 ghost use Rattle.ab_world.specs.Worlds.{World as TheWorld};
-ghost use Rattle.ab_storm_run.specs.Runs.{IsClusterOf, SendsToParties, StormsTo, storm_setup};
+ghost use Rattle.ab_storm_run.specs.Runs.{SendsWithin, StormsTo};
 
 use ab_abs::Protocol;
 use ab_svc::Service;
 
-/// An event that is drawn is refused for the limit of the bytes of packets, or as the delivery of a packet that was sent to
-/// no party of the cluster. Where packets go to parties of the cluster alone, it is refused for the limit alone.
+/// Where packets go to parties of the cluster alone, an event that is drawn is refused for the limit of the bytes of packets,
+/// and for nothing else.
 pub fn storms_are_not_refused<S: Service, P: Protocol<S>>()
-    ensures causes { (k : Asked) (n : ℕ) (fault : TheFault) → k.events ≤ 100000
-        → StormsTo P.proto k (Err (n, fault)) → (fault ≡ PacketLimit) ⊎ (fault ≡ BadParty) }
-    ensures limit { (k : Asked) (n : ℕ) (fault : TheFault) → k.events ≤ 100000
-        → ((c : TheCluster) → IsClusterOf c k → SendsToParties P.proto (storm_setup c))
+    ensures { (k : Asked) (n : ℕ) (fault : TheFault) → k.events ≤ 100000 → SendsWithin P.proto k
         → StormsTo P.proto k (Err (n, fault)) → fault ≡ PacketLimit }
 {}
 

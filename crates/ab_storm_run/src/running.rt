@@ -5,7 +5,7 @@ ghost use Rattle.ab_num.specs.Places.{kind_of};
 ghost use Rattle.ab_world.specs.Runs.{outcome};
 ghost use Rattle.ab_world.specs.Steps.{stepped};
 ghost use Rattle.ab_storm_run.specs.Standing.{Goes};
-ghost use Rattle.ab_storm_run.specs.Runs.{idle_of, drawn_at, drawn_events, end_of, Storms, StepCause, EndCause, StormCause};
+ghost use Rattle.ab_storm_run.specs.Runs.{idle_of, drawn_at, drawn_events, end_of, SendsWithin, Storms, StepCause, EndCause, StormCause};
 
 use crate::summary::summary;
 use ab_abs::Protocol;
@@ -23,8 +23,6 @@ use std::alloc::Global;
 pub enum StormFault {
     /// The bytes of its packets would pass what a world keeps.
     TooManyPackets,
-    /// The packet that the event of this number delivers was sent to no party of the cluster.
-    NoReceiver(u32),
     OutOfMemory,
 }
 
@@ -53,37 +51,35 @@ fn idle_clients<S: Service, P: Protocol<S>>(world: &World<S, P>) -> [bool; 16]
     world.idle()
 }
 
-/// What ends a storm where the event of this number, which it drew, was not taken.
-fn ended_by(number: u32, fault: WorldFault) -> StormFault
-    requires { IsSome (end_of number fault) }
-    ensures { Some result ≡ end_of number fault }
+/// What ends a storm where an event that it drew was not taken.
+fn ended_by(fault: WorldFault) -> StormFault
+    requires { IsSome (end_of fault) }
+    ensures { Some result ≡ end_of fault }
 {
     match fault {
         WorldFault::PacketLimit => StormFault::TooManyPackets,
-        WorldFault::BadParty => StormFault::NoReceiver(number),
         WorldFault::OutOfMemory => StormFault::OutOfMemory,
         WorldFault::EventLimit | WorldFault::BadCommand => unreachable!(),
-        WorldFault::NoPacket | WorldFault::Busy => unreachable!(),
+        WorldFault::NoPacket | WorldFault::BadParty | WorldFault::Busy => unreachable!(),
     }
 }
 
-/// One event more, of this number, drawn where the world stands.
+/// One event more, drawn where the world stands.
 fn step<S: Service, P: Protocol<S>>(
     alloc: Global,
     storm: &mut Storm,
     world: &mut World<S, P>,
-    number: u32,
 ) -> Result<(), StormFault>
-    requires goes { Goes storm.old world.old }
+    requires goes { Goes P.proto storm.old world.old }
     requires few { world.old.cast.events < 100000 }
     ensures ok { OnOk result (stepped P.proto world.old (drawn_at storm.old world.old).0 ≡ Ok world.new) }
     ensures next { storm.new ≡ (drawn_at storm.old world.old).1 }
-    ensures cause { IfErr result (λ e. StepCause e number (stepped P.proto world.old (drawn_at storm.old world.old).0)) }
+    ensures cause { IfErr result (λ e. StepCause e (stepped P.proto world.old (drawn_at storm.old world.old).0)) }
 {
     let event = storm.next(world.packets(), &idle_clients(world));
     match world.step(alloc, &event) {
         Ok(()) => Ok(()),
-        Err(fault) => Err(ended_by(number, fault)),
+        Err(fault) => Err(ended_by(fault)),
     }
 }
 
@@ -95,14 +91,14 @@ fn run_events<S: Service, P: Protocol<S>>(
     events: u32,
 ) -> Result<(), StormFault>
     requires few { events ≤ 100000 }
-    requires goes { Goes storm.old world.old }
+    requires goes { Goes P.proto storm.old world.old }
     requires begins { world.old.cast.events ≡ 0 }
     ensures ok { OnOk result (outcome P.proto 1 world.old (drawn_events P.proto events storm.old world.old) ≡ Ok world.new) }
-    ensures goes { OnOk result (Goes storm.new world.new) }
+    ensures goes { OnOk result (Goes P.proto storm.new world.new) }
     ensures cause { IfErr result (λ e. EndCause e (outcome P.proto 1 world.old (drawn_events P.proto events storm.old world.old))) }
 {
-    for done in 0..events {
-        step(alloc, storm, world, done + 1)?;
+    for _done in 0..events {
+        step(alloc, storm, world)?;
     }
     Ok(())
 }
@@ -115,12 +111,13 @@ fn is_held(premise: &Premise) -> bool
 }
 
 /// Runs the storm that is asked for: in a cluster with the service S, trees of height 10 and no faulty party, whose replicas
-/// go by P, which serves each kind of the plan.
+/// go by P, which serves each kind of the plan and sends to parties of the cluster alone.
 pub fn storm<S: Service, P: Protocol<S>>(
     alloc: Global,
     asked: &StormCommand,
 ) -> Result<Stormed, StormFault>
     requires served { (i : ℕ) → 1 ≤ i → IsTrue (P.serves (kind_of asked.now.plan i)) }
+    requires sends { SendsWithin P.proto asked.now }
     requires few { asked.now.events ≤ 100000 }
     ensures ok { IfOk result (λ v. Storms S.machine P.proto asked.now v.summary.items v.held) }
     ensures cause { IfErr result (λ e. StormCause P.proto e asked.now) }

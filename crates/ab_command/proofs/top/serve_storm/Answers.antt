@@ -3,11 +3,15 @@ use Rattle.std.specs.Io.KnownBytes.{Appends, Keeps}
 use Rattle.ab_io.specs.Causes.{Rose}
 use Rattle.ab_replay.specs.Streams.{AppendsFront}
 use Rattle.ab_replay.proofs.TextLemmas.{all_served}
+use Rattle.ab_storm_run.specs.Runs.{storm_setup}
 use Rattle.ab_command.proofs.StatusLemmas.{memory_settled, settled, summary_written, write_settled}
 use Rattle.ab_command.proofs.top.serve_storm.Goals as goal
 
 pub storm-requires-clause-served : goal.storm-requires-clause-served
 storm-requires-clause-served g c = λ i one. all_served c.args.asked.now.plan i
+
+pub storm-requires-clause-sends : goal.storm-requires-clause-sends
+storm-requires-clause-sends g c = λ cluster sized. c.packets_go_to_parties.ensures (storm_setup cluster)
 
 pub returns-in-Ok-write_all : goal.returns-in-Ok-write_all
 returns-in-Ok-write_all g c =

@@ -11,7 +11,7 @@ ended_by-requires g c =
     let s = c.args.storm.now in
     let w = c.args.world.now in
     let so = drawn_so s c.next-event.new.self w c.next-event.result c.packets.result c.idle_clients.result c.packets.ensures c.idle_clients.ensures c.next-event.ensures in
-    fault_ends proto s w c.args.number c.in-Err.fault c.requires.goes c.requires.few (subst (λ (e : Event). Cause proto c.in-Err.fault w e) so.0 c.in-Err.ensures.cause)
+    fault_ends proto s w c.in-Err.fault c.requires.goes c.requires.few (subst (λ (e : Event). Cause proto c.in-Err.fault w e) so.0 c.in-Err.ensures.cause)
 
 pub returns-in-Ok-clause-ok : goal.returns-in-Ok-clause-ok
 returns-in-Ok-clause-ok g c =
@@ -30,4 +30,4 @@ returns-clause-cause g c =
     let s = c.args.storm.now in
     let w = c.args.world.now in
     let so = drawn_so s c.next-event.new.self w c.next-event.result c.packets.result c.idle_clients.result c.packets.ensures c.idle_clients.ensures c.next-event.ensures in
-    end_caused proto w (drawn_at s w).0 c.args.number c.in-Err.fault c.ended_by.result c.ended_by.ensures (subst (λ (e : Event). Cause proto c.in-Err.fault w e) so.0 c.in-Err.ensures.cause)
+    end_caused proto w (drawn_at s w).0 c.in-Err.fault c.ended_by.result c.ended_by.ensures (subst (λ (e : Event). Cause proto c.in-Err.fault w e) so.0 c.in-Err.ensures.cause)

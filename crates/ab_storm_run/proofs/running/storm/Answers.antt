@@ -18,7 +18,9 @@ new-world-requires g c =
 
 pub run_events-requires-clause-goes : goal.run_events-requires-clause-goes
 run_events-requires-clause-goes g c =
-    begins_going g.P.Protocol.proto c.cluster.result.now c.in_ok-setup.setup c.in_ok-world.world c.new-storm.result c.seed.result c.in_ok-setup.ensures c.in_ok-world.ensures c.new-storm.ensures
+    let cluster = c.cluster.result.now in
+    begins_going g.P.Protocol.proto cluster c.in_ok-setup.setup c.in_ok-world.world c.new-storm.result c.seed.result c.in_ok-setup.ensures c.in_ok-world.ensures c.new-storm.ensures
+    (c.requires.sends cluster (record { f = c.cluster.ensures.f; clients = c.cluster.ensures.clients; plan = c.cluster.ensures.plan }))
 
 pub run_events-requires-clause-begins : goal.run_events-requires-clause-begins
 run_events-requires-clause-begins g c =
