@@ -14,9 +14,10 @@ use Rattle.ab_choice.specs.Rules.{begins, goes_on, sends, stops, choice}
 use Rattle.ab_quorum.specs.Rules.{quorum, is_quorum}
 use Rattle.ab_zlight.specs.Rules.{Light, zlight, is_zlight}
 use Rattle.ab_chain.specs.Rules.{Link, chain, is_chain}
+use Rattle.ab_order.specs.Backups.{Backing}
 use Rattle.ab_order.specs.Protos.{backup}
 use Rattle.ab_pbft.specs.Rules.{pbft}
-use Rattle.ab_shelf.specs.Signing.{signing}
+use Rattle.ab_shelf.specs.Signing.{Signing, signing}
 use Rattle.ab_replay.specs.Protocols.{Any, any}
 use Rattle.ab_receivers.proofs.Backups.{BackupKnows, backup_within}
 use Rattle.ab_receivers.proofs.Naming.{Names}
@@ -58,10 +59,10 @@ module _ {P Q : Type 0} (p : Proto P) (q : Proto Q) (c : Cluster) (One : P → T
 -- ---- of all
 
 module _ {S : Type 0} (machine : Machine S) (c : Cluster) where
-  abbrev LinkKnows : Choice Link _ → Type 0
+  abbrev LinkKnows : Choice Link (Backing Signing) → Type 0
   LinkKnows = ChoiceKnows (chain machine) (backup signing pbft machine) c (λ q. q.f ≡ c.f) (BackupKnows machine c)
 
-  abbrev LightKnows : Choice Light _ → Type 0
+  abbrev LightKnows : Choice Light (Choice Link (Backing Signing)) → Type 0
   LightKnows = ChoiceKnows (zlight machine) (choice (chain machine) (backup signing pbft machine) is_chain) c (λ q. q.f ≡ c.f) LinkKnows
 
   abbrev pub AnyKnows : Any → Type 0

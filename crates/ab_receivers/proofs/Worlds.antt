@@ -139,9 +139,11 @@ module _ {P : Type 0} (proto : Proto P) (x : Setup) (Knows : P → Type 0) (stay
       let p = party_at at in
       let same = stands.setup in
       let later : CoreKnows (core_after w.cast.setup proto p s t) = subst (λ (y : Setup). CoreKnows (core_after y proto p s t)) (sym same) (core_knows p s t named knows) in
-      let outs : AllSent (posted w.cast.setup p (core_sends w.cast.setup proto p s t)) = subst (λ (y : Setup). AllSent (posted y p (core_sends y proto p s t))) (sym same) (posted_within p (core_sends x proto p s t) (core_within p s t named knows)) in
+      let within : AreWithin x.cluster (core_sends w.cast.setup proto p s t) = subst (λ (y : Setup). AreWithin x.cluster (core_sends y proto p s t)) (sym same) (core_within p s t named knows) in
+      let now : (with_core w.cast at (core_after w.cast.setup proto p s t)).setup ≡ x = put_setup w.cast at (core_after w.cast.setup proto p s t) ∙ same in
+      let outs = subst (λ (y : Setup). AllSent (posted y p (core_sends w.cast.setup proto p s t))) (sym now) (posted_within p (core_sends w.cast.setup proto p s t) within) in
       record {
-        setup = put_setup w.cast at (core_after w.cast.setup proto p s t) ∙ same;
+        setup = now;
         replicas = put_replicas w.cast at (core_after w.cast.setup proto p s t) stands.replicas later;
         twins = put_twins w.cast at (core_after w.cast.setup proto p s t) stands.twins later;
         packets = sent_on w.packets _ stands.packets outs;

@@ -193,18 +193,18 @@ module _ {P : Type 0} where
   limit_faults w f true e = absurd (cc (e))
   limit_faults w f false e = cc (e)
 
-module _ {P : Type 0} (proto : Proto P) (s : Storm) (w : World P) (goes : Goes proto s w) (few : w.cast.events < 100000) where
+module _ {P : Type 0} (proto : Proto P) (s : Storm) (w : World P) (here : Goes proto s w) (few : w.cast.events < 100000) where
   abbrev event : Event
   event = (drawn_at s w).0
 
-  drawn : Gives (happening w event)
-  drawn = draws proto s w goes
+  given_now : Gives (happening w event)
+  given_now = draws proto s w here
 
   abbrev happened : Happening
-  happened = record { place = own_place drawn.party; given = drawn.given }
+  happened = record { place = own_place given_now.party; given = given_now.given }
 
   taken : stepped proto w event ≡ within_limit proto (after proto w happened)
-  taken = ap (stepped_by proto w) (ready_now w event goes.ended few ∙ drawn.gives)
+  taken = ap (stepped_by proto w) (ready_now w event here.ended few ∙ given_now.gives)
 
   -- an event that is drawn is refused for the limit of bytes alone
   pub refused_for : (f : WorldFault) → stepped proto w event ≡ Err f → f ≡ PacketLimit
@@ -219,16 +219,16 @@ module _ {P : Type 0} (proto : Proto P) (s : Storm) (w : World P) (goes : Goes p
   -- the storm goes on over the world after it
   pub goes_on : (v : World P) → stepped proto w event ≡ Ok v → GoesOver v
   goes_on v e =
-      let keeps = subst (λ (u : World P). Keeps proto w u) (limit_ends (after proto w happened) v _ (sym taken ∙ e)) (given_keeps proto w drawn.party drawn.given) in
-      let more = goes.led.0 ++ event ∷ [] in
+      let keeps = subst (λ (u : World P). Keeps proto w u) (limit_ends (after proto w happened) v _ (sym taken ∙ e)) (given_keeps proto w given_now.party given_now.given) in
+      let more = here.led.0 ++ event ∷ [] in
       record {
         goes = record {
-          cluster = next_same (length w.packets) (idle_of w) s ∙ goes.cluster ∙ sym (ap (λ (y : Setup). y.cluster) keeps.setup);
-          replicas = keeps.replicas ∙ goes.replicas ∙ sym (ap (λ (y : Setup). 3 * y.cluster.f + 1) keeps.setup);
-          clients = keeps.clients ∙ goes.clients ∙ sym (ap (λ (y : Setup). y.cluster.clients) keeps.setup);
-          ended = keeps.ended ∙ goes.ended;
-          sends = subst (λ (y : Setup). SendsToParties proto y) (sym keeps.setup) goes.sends;
-          led = (more, subst (λ (y : Setup). outcome proto 1 (start proto y) more ≡ Ok v) (sym keeps.setup) (leads_on proto goes.led.0 1 (start proto w.cast.setup) w v event goes.led.1 e));
+          cluster = next_same (length w.packets) (idle_of w) s ∙ here.cluster ∙ sym (ap (λ (y : Setup). y.cluster) keeps.setup);
+          replicas = keeps.replicas ∙ here.replicas ∙ sym (ap (λ (y : Setup). 3 * y.cluster.f + 1) keeps.setup);
+          clients = keeps.clients ∙ here.clients ∙ sym (ap (λ (y : Setup). y.cluster.clients) keeps.setup);
+          ended = keeps.ended ∙ here.ended;
+          sends = subst (λ (y : Setup). SendsToParties proto y) (sym keeps.setup) here.sends;
+          led = (more, subst (λ (y : Setup). outcome proto 1 (start proto y) more ≡ Ok v) (sym keeps.setup) (leads_on proto here.led.0 1 (start proto w.cast.setup) w v event here.led.1 e));
         };
         setup = keeps.setup;
         events = keeps.events;

@@ -64,18 +64,22 @@ module _ {P : Type 0} (proto : Proto P) where
   ok_err : (w : World P) (n : ℕ) (f : WorldFault) → ◌≡◌ {A = Result (World P) (ℕ × WorldFault)} (Ok w) (Err (n, f)) → ⊥
   ok_err w n f is = cc (is)
 
+  abbrev fault_in : WorldFault → Result (World P) (ℕ × WorldFault) → WorldFault
+  fault_in f (Ok w) = f
+  fault_in f (Err e) = e.1
+
   fault_same : (m n : ℕ) (f g : WorldFault) → ◌≡◌ {A = Result (World P) (ℕ × WorldFault)} (Err (m, f)) (Err (n, g)) → f ≡ g
-  fault_same m n f g is = cc (is)
+  fault_same m n f g is = ap (fault_in f) is
 
   -- ---- event by event
 
   -- a fault that comes of an event that was drawn ends the storm
   refusal_ends : (s : Storm) (w : World P) (f : WorldFault) → Goes proto s w → w.cast.events < 100000 → stepped proto w (drawn_at s w).0 ≡ Err f → IsSome (end_of f)
-  refusal_ends s w f goes few is = subst (λ (g : WorldFault). IsSome (end_of g)) (sym (refused_for proto s w goes few f is)) tt
+  refusal_ends s w f goes few is = subst (λ (g : WorldFault). IsSome (end_of g)) (sym (refused_for proto s w goes few f is)) refl
 
   pub fault_ends : (s : Storm) (w : World P) (f : WorldFault) → Goes proto s w → w.cast.events < 100000 → Cause proto f w (drawn_at s w).0 → IsSome (end_of f)
-  fault_ends s w PacketLimit goes few cause = tt
-  fault_ends s w NoMemory goes few cause = tt
+  fault_ends s w PacketLimit goes few cause = refl
+  fault_ends s w NoMemory goes few cause = refl
   fault_ends s w EventLimit goes few cause = refusal_ends s w EventLimit goes few cause
   fault_ends s w BadCommand goes few cause = refusal_ends s w BadCommand goes few cause
   fault_ends s w NoPacket goes few cause = refusal_ends s w NoPacket goes few cause

@@ -1,5 +1,5 @@
 -- The highest instance, replica by replica.
-use Rattle.std.proofs.Common.{◌≡◌, ℕ, ◌+◌, Option, None, Some, List, ◌∷◌, drop, length, refl, sym, ap, ◌∙◌, arith}
+use Rattle.std.proofs.Common.{◌≡◌, ℕ, zero, suc, ◌+◌, ◌≤◌, Option, None, Some, List, [], ◌∷◌, drop, length, refl, sym, ap, ◌∙◌, arith}
 use Rattle.std.specs.Prelude.{max, slice_get}
 use Rattle.std.specs.Option.{option_map}
 use Rattle.std.proofs.lemmas.List.{at_drop_more}
@@ -19,3 +19,13 @@ top_next xs r top instance (Some s) at is =
     max_onto top instance (highest (drop (r + 1) xs))
     ∙ ap (λ n. max top (max n (highest (drop (r + 1) xs)))) same
     ∙ ap (λ xs. max top (highest xs)) (sym next)
+
+drop_past : {A : Type 0} (xs : List A) (n : ℕ) → length xs ≤ n → drop n xs ≡ []
+drop_past [] zero far = refl
+drop_past [] (suc n) far = refl
+drop_past (x ∷ xs) zero far = absurd (omega (arith, far))
+drop_past (x ∷ xs) (suc n) far = drop_past xs n (omega (arith, far))
+
+-- behind the last replica nothing is higher
+pub top_ends : {P : Type 0} (xs : List (Site P)) (r top : ℕ) → length xs ≤ r → max top (highest (drop r xs)) ≡ highest xs → top ≡ highest xs
+top_ends xs r top far is = sym (ap (λ l. max top (highest l)) (drop_past xs r far) ∙ omega arith) ∙ is

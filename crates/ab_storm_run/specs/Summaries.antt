@@ -29,15 +29,21 @@ highest (s ∷ rest) = max s.rep.at (highest rest)
 abbrev pub count_of : {P : Type 0} → World P → Counted → ℕ
 count_of w kind = count_by (is_of kind) w.lines
 
--- the numbers of a run, line by line
-abbrev pub numbers_text : ℕ → ℕ → ℕ → ℕ → ℕ → ℕ → ℕ → List ℕ
-numbers_text events packets commits certs inits spent top =
-    codes "events " then decimal events then codes "\npackets " then decimal packets then codes "\ncommits " then decimal commits
-    then codes "\ncerts " then decimal certs then codes "\ninits " then decimal inits then codes "\nspent " then decimal spent
-    then codes "\ntop " then decimal top then codes "\n"
+-- how many events and packets there were
+abbrev pub sizes_text : ℕ → ℕ → List ℕ
+sizes_text events packets = codes "events " then decimal events then codes "\npackets " then decimal packets then codes "\n"
 
--- the numbers and the premise line
+-- how many lines of each kind there are
+abbrev pub counts_text : ℕ → ℕ → ℕ → ℕ → List ℕ
+counts_text commits certs inits spent =
+    codes "commits " then decimal commits then codes "\ncerts " then decimal certs then codes "\ninits " then decimal inits then codes "\nspent " then decimal spent
+    then codes "\n"
+
+abbrev pub top_text : ℕ → List ℕ
+top_text top = codes "top " then decimal top then codes "\n"
+
+-- the numbers, line by line, and the premise line
 abbrev pub summary_of : {P : Type 0} → World P → List ℕ
 summary_of w =
-    numbers_text w.cast.events (length w.packets) (count_of w counted.Commits) (count_of w counted.Certs) (count_of w counted.Inits) (count_of w counted.Spent) (highest w.cast.replicas)
-    then premise_text (premise_of w)
+    sizes_text w.cast.events (length w.packets) then counts_text (count_of w counted.Commits) (count_of w counted.Certs) (count_of w counted.Inits) (count_of w counted.Spent)
+    then top_text (highest w.cast.replicas) then premise_text (premise_of w)

@@ -3,7 +3,7 @@
 ghost use Rattle.std.specs.Prelude.{◌≡◌, ◌<◌, ◌*◌, ◌+◌, ◌++◌, IfOk, Some, length, slice_get, string_bytes};
 ghost use Rattle.std.specs.List.{count_by};
 ghost use Rattle.std.specs.Option.{option_map};
-ghost use Rattle.ab_storm_run.specs.Summaries.{is_of, highest, count_of, numbers_text, summary_of};
+ghost use Rattle.ab_storm_run.specs.Summaries.{is_of, highest, sizes_text, counts_text, top_text, summary_of};
 
 use ab_abs::Protocol;
 use ab_num::OutOfMemory;
@@ -69,21 +69,36 @@ fn top<S: Service, P: Protocol<S>>(world: &World<S, P>) -> u32
     top
 }
 
-/// The lines of the numbers.
-fn numbers<S: Service, P: Protocol<S>>(alloc: Global, world: &World<S, P>) -> Result<String, AllocError>
-    requires { length world.now.cast.replicas ≡ 3 * world.now.cast.setup.cluster.f + 1 }
-    ensures { IfOk result (λ s. string_bytes s ≡ numbers_text world.now.cast.events (length world.now.packets) (count_of world.now Counted.Commits) (count_of world.now Counted.Certs) (count_of world.now Counted.Inits) (count_of world.now Counted.Spent) (highest world.now.cast.replicas)) }
+/// The lines of how many events and packets there were.
+fn sizes<S: Service, P: Protocol<S>>(alloc: Global, world: &World<S, P>) -> Result<String, AllocError>
+    ensures { IfOk result (λ s. string_bytes s ≡ sizes_text world.now.cast.events (length world.now.packets)) }
 {
     let events = world.events();
     let packets = world.packets();
-    let commits = Counted::Commits.count(world.seen());
-    let certs = Counted::Certs.count(world.seen());
-    let inits = Counted::Inits.count(world.seen());
-    let spent = Counted::Spent.count(world.seen());
+    format!(in alloc; "events {events}\npackets {packets}\n")
+}
+
+/// The lines of how many there are of each kind.
+fn counts(alloc: Global, lines: &[Line]) -> Result<String, AllocError>
+    ensures { IfOk result (λ s. string_bytes s ≡ counts_text (count_by (is_of Counted.Commits) lines.now) (count_by (is_of Counted.Certs) lines.now) (count_by (is_of Counted.Inits) lines.now) (count_by (is_of Counted.Spent) lines.now)) }
+{
+    let commits = Counted::Commits.count(lines);
+    let certs = Counted::Certs.count(lines);
+    let inits = Counted::Inits.count(lines);
+    let spent = Counted::Spent.count(lines);
+    format!(in alloc; "commits {commits}\ncerts {certs}\ninits {inits}\nspent {spent}\n")
+}
+
+/// The line of the highest instance in which a replica is.
+fn top_line<S: Service, P: Protocol<S>>(
+    alloc: Global,
+    world: &World<S, P>,
+) -> Result<String, AllocError>
+    requires { length world.now.cast.replicas ≡ 3 * world.now.cast.setup.cluster.f + 1 }
+    ensures { IfOk result (λ s. string_bytes s ≡ top_text (highest world.now.cast.replicas)) }
+{
     let top = top(world);
-    format!(in alloc;
-        "events {events}\npackets {packets}\ncommits {commits}\ncerts {certs}\ninits {inits}\nspent {spent}\ntop {top}\n"
-    )
+    format!(in alloc; "top {top}\n")
 }
 
 /// The summary of a run that the world is at the end of.
@@ -94,8 +109,12 @@ pub(crate) fn summary<S: Service, P: Protocol<S>>(
     requires { length world.now.cast.replicas ≡ 3 * world.now.cast.setup.cluster.f + 1 }
     ensures { IfOk result (λ v. v.items ≡ summary_of world.now) }
 {
-    let numbers = numbers(alloc, world)?;
-    let mut out = Vec::from_slice(alloc, numbers.as_bytes())?;
+    let sizes = sizes(alloc, world)?;
+    let counts = counts(alloc, world.seen())?;
+    let top = top_line(alloc, world)?;
+    let mut out = Vec::from_slice(alloc, sizes.as_bytes())?;
+    out.extend_from_slice(counts.as_bytes())?;
+    out.extend_from_slice(top.as_bytes())?;
     write_premise(alloc, &mut out, &world.premise())?;
     Ok(out)
 }
