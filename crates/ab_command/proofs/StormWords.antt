@@ -52,15 +52,29 @@ bounded_by low high n (Some k) e = within_bound low high k n (nat_le low k && na
 number_below : (name : List ℕ) (low high n : ℕ) (uses : List Use) → number_of name low high uses ≡ Some n → n ≤ high
 number_below name low high n uses e = let of = bound (value_of name uses) (number_in low high) n e in bounded_by low high n (number_text of.value) of.rest
 
+-- how a storm is read, option by option
+abbrev with_seed : List Use → Plan → ℕ → ℕ → ℕ → Option StormCommand
+with_seed uses plan f clients seed = number_of (codes "events") 0 100000 uses >>= λ events. only 5 uses (record { f = f; clients = clients; plan = plan; seed = seed; events = events })
+
+abbrev with_clients : List Use → Plan → ℕ → ℕ → Option StormCommand
+with_clients uses plan f clients = number_of (codes "seed") 0 (2 ^ 64 - 1) uses >>= λ seed. with_seed uses plan f clients seed
+
+abbrev with_faulty : List Use → Plan → ℕ → Option StormCommand
+with_faulty uses plan f = number_of (codes "clients") 1 16 uses >>= λ clients. with_clients uses plan f clients
+
+abbrev with_plan : List Use → Plan → Option StormCommand
+with_plan uses plan = number_of (codes "f") 1 2 uses >>= λ f. with_faulty uses plan f
+
 storm_few : (uses : List Use) (k : StormCommand) → storm_in uses ≡ Some k → k.events ≤ 100000
 unfolding storm_in
 storm_few uses k e =
-    let plan = bound _ _ k e in
-    let f = bound _ _ k plan.rest in
-    let clients = bound _ _ k f.rest in
-    let seed = bound _ _ k clients.rest in
-    let events = bound _ _ k seed.rest in
-    let same = only_is 5 uses _ k events.rest in
+    let plan = bound (value_of (codes "plan") uses >>= spelled_in plan_name plans) (with_plan uses) k e in
+    let f = bound (number_of (codes "f") 1 2 uses) (with_faulty uses plan.value) k plan.rest in
+    let clients = bound (number_of (codes "clients") 1 16 uses) (with_clients uses plan.value f.value) k f.rest in
+    let seed = bound (number_of (codes "seed") 0 (2 ^ 64 - 1) uses) (with_seed uses plan.value f.value clients.value) k clients.rest in
+    let asked : ℕ → StormCommand = λ n. record { f = f.value; clients = clients.value; plan = plan.value; seed = seed.value; events = n } in
+    let events = bound (number_of (codes "events") 0 100000 uses) (λ n. only 5 uses (asked n)) k seed.rest in
+    let same = only_is 5 uses (asked events.value) k events.rest in
     subst (λ (c : StormCommand). c.events ≤ 100000) same (number_below (codes "events") 0 100000 events.value uses events.is)
 
 not_storm : {A : Type 0} (o : Option A) (make : A → Command) (k : StormCommand) → ((a : A) → make a ≡ Storm k → ⊥) → (o >>= λ a. Some (make a)) ≡ Some (Storm k) → ⊥

@@ -11,9 +11,7 @@ use crate::status::{Bound, Status};
 use ab_io::{Clock, Link, Sink, Source};
 use ab_kv::Kv;
 use ab_receivers::packets_go_to_parties;
-use ab_replay::{
-    AnyProtocol, Refusal, ReplayFault, WriteFault, refusal_line, replay, write_all,
-};
+use ab_replay::{AnyProtocol, Refusal, ReplayFault, WriteFault, refusal_line, replay, write_all};
 use ab_storm_run::{StormFault, storm};
 use ab_text::one_reading;
 use ab_words::{Command, KeysCommand, StormCommand, command_in};

@@ -72,8 +72,8 @@ module _ (c : Cluster) (i n : ℕ) where
           let e : made ≡ change = same_Some made change is' in
           subst (λ (z : ChangeInput). IsChangeNamed n z) e
           (λ t s there.
-              let value : slice_get values t ≡ Some s.value = subst (λ (l : List Value). slice_get l t ≡ Some s.value) right.valued (nth_mapped (λ (z : ProvedSlot). z.value) all t s there) in
-              value_known n values each s.value (Contains-nth values t s.value value))
+          let value : slice_get values t ≡ Some s.value = subst (λ (l : List Value). slice_get l t ≡ Some s.value) right.valued (nth_mapped (λ (z : ProvedSlot). z.value) all t s there) in
+          value_known n values each s.value (Contains-nth values t s.value value))
   change_named _ values signed change each is = absurd (none-some change is)
 
   abbrev ProofNamed : Proof → Type 0

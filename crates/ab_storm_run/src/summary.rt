@@ -70,7 +70,10 @@ fn top<S: Service, P: Protocol<S>>(world: &World<S, P>) -> u32
 }
 
 /// The lines of how many events and packets there were.
-fn sizes<S: Service, P: Protocol<S>>(alloc: Global, world: &World<S, P>) -> Result<String, AllocError>
+fn sizes<S: Service, P: Protocol<S>>(
+    alloc: Global,
+    world: &World<S, P>,
+) -> Result<String, AllocError>
     ensures { IfOk result (λ s. string_bytes s ≡ sizes_text world.now.cast.events (length world.now.packets)) }
 {
     let events = world.events();

@@ -54,7 +54,17 @@ fn expect(rt: &impl Abort, alloc: Global, case: &Case) {
 
 const ONE_EVENT: Case = Case {
     words: &[
-        "storm", "--plan", "quorum", "--f", "1", "--clients", "1", "--seed", "0", "--events", "1",
+        "storm",
+        "--plan",
+        "quorum",
+        "--f",
+        "1",
+        "--clients",
+        "1",
+        "--seed",
+        "0",
+        "--events",
+        "1",
     ],
     status: 0,
     out: "events 1\npackets 0\ncommits 0\ncerts 0\ninits 0\nspent 0\ntop 1\npremise held\n",
@@ -69,7 +79,12 @@ fn one_event_of_a_storm(rt: HostRuntime) -> Result<(), Fail> {
 
 const QUORUM: Case = Case {
     words: &[
-        "storm", "--events=3000", "--plan=quorum", "--f=2", "--clients=5", "--seed=11",
+        "storm",
+        "--events=3000",
+        "--plan=quorum",
+        "--f=2",
+        "--clients=5",
+        "--seed=11",
     ],
     status: 0,
     out: "events 3000\npackets 2715\ncommits 18\ncerts 180\ninits 112\nspent 0\ntop 17\npremise held\n",
@@ -84,7 +99,16 @@ fn a_storm_of_seven_replicas(rt: HostRuntime) -> Result<(), Fail> {
 
 const BACKUP: Case = Case {
     words: &[
-        "storm", "--plan", "backup", "--f", "1", "--clients", "5", "--seed", "11", "--events",
+        "storm",
+        "--plan",
+        "backup",
+        "--f",
+        "1",
+        "--clients",
+        "5",
+        "--seed",
+        "11",
+        "--events",
         "3000",
     ],
     status: 0,
@@ -100,7 +124,16 @@ fn a_storm_of_backups(rt: HostRuntime) -> Result<(), Fail> {
 
 const TOO_MANY_EVENTS: Case = Case {
     words: &[
-        "storm", "--plan", "quorum", "--f", "1", "--clients", "1", "--seed", "0", "--events",
+        "storm",
+        "--plan",
+        "quorum",
+        "--f",
+        "1",
+        "--clients",
+        "1",
+        "--seed",
+        "0",
+        "--events",
         "100001",
     ],
     status: 2,
@@ -123,10 +156,7 @@ fn told_by(alloc: Global, words: &[&str], out: &mut MemSink, err: &mut MemSink) 
 }
 
 fn failing(alloc: Global, call: u64) -> Result<MemSink, AllocError> {
-    Ok(MemSink::new(
-        alloc,
-        Vec::from_slice(alloc, [call].as_slice())?,
-    ))
+    Ok(MemSink::new(alloc, Vec::from_slice(alloc, [call].as_slice())?))
 }
 
 #[test]

@@ -1,4 +1,4 @@
-use Rattle.std.proofs.Common.{◌≡◌, ◌∙◌, List, ℕ, subst, inr, rules}
+use Rattle.std.proofs.Common.{◌≡◌, ◌∙◌, List, ℕ, subst, inl, inr, rules}
 use Rattle.std.specs.Io.KnownBytes.{Appends, Keeps}
 use Rattle.ab_io.specs.Causes.{Rose}
 use Rattle.ab_command.specs.KeyCommands.{key_text}

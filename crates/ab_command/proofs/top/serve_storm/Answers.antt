@@ -30,4 +30,4 @@ returns-in-Err-Failed g c =
     let stormed = c.in-Ok.stormed in
     let front = subst (λ (bytes : List ℕ). AppendsFront old new bytes) c.as_slice.ensures.value c.in-Err-Failed.ensures.front in
     let rose : Rose (g.O.Sink.faults c.args.out.now) (g.O.Sink.faults c.write_all.new.sink) = rw c.in-Err-Failed.field-0-is at c.in-Err-Failed.ensures.cause in
-    record { cause = λ words left read_before read_now asks. write_settled _ c.say.result c.say.ensures.status rose (inr (inr (inr (c.args.asked.now, stormed.summary.items, stormed.held, asks, c.in-Ok.ensures.ok, front)))) }
+    record { cause = λ words left read_before read_now asks. write_settled _ c.say-in-Err-Failed.result c.say-in-Err-Failed.ensures.status rose (inr (inr (inr (c.args.asked.now, stormed.summary.items, stormed.held, asks, c.in-Ok.ensures.ok, front)))) }
