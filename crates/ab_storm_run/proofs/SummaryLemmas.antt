@@ -1,5 +1,5 @@
 -- The highest instance, replica by replica.
-use Rattle.std.proofs.Common.{◌≡◌, ℕ, zero, suc, ◌+◌, ◌≤◌, Option, None, Some, List, [], ◌∷◌, drop, length, refl, sym, ap, ◌∙◌, arith}
+use Rattle.std.proofs.Common.{◌≡◌, ℕ, zero, suc, ◌+◌, ◌<◌, ◌≤◌, Option, None, Some, List, [], ◌∷◌, drop, length, refl, sym, ap, ◌∙◌, arith}
 use Rattle.std.specs.Prelude.{max, slice_get}
 use Rattle.std.specs.Option.{option_map}
 use Rattle.std.proofs.lemmas.List.{at_drop_more}
@@ -29,3 +29,9 @@ drop_past (x ∷ xs) (suc n) far = drop_past xs n (omega (arith, far))
 -- behind the last replica nothing is higher
 pub top_ends : {P : Type 0} (xs : List (Site P)) (r top : ℕ) → length xs ≤ r → max top (highest (drop r xs)) ≡ highest xs → top ≡ highest xs
 top_ends xs r top far is = sym (ap (λ l. max top (highest l)) (drop_past xs r far) ∙ omega arith) ∙ is
+
+-- each replica is there
+pub there : {A : Type 0} (f : A → ℕ) (xs : List A) (r : ℕ) → r < length xs → None ≡ option_map f (slice_get xs r) → ⊥
+there f [] r lt e = omega (arith, lt)
+there f (x ∷ xs) zero lt e = cc (e)
+there f (x ∷ xs) (suc r) lt e = there f xs r (omega (arith, lt)) e

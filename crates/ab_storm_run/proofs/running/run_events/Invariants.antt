@@ -4,9 +4,9 @@ use Rattle.ab_storm_run.specs.Runs.{drawn_events}
 use Rattle.ab_storm_run.specs.Standing.{Goes}
 use Rattle.ab_storm_run.proofs.running.run_events.Given as goal
 
-abbrev pub invariant-loop-_done : goal.invariant-loop-_done
-invariant-loop-_done g l = record {
-  rest : outcome g.P.Protocol.proto (l._done + 1) l.world (drawn_events g.P.Protocol.proto (l.events - l._done) l.storm l.world) ≡ outcome g.P.Protocol.proto 1 l.initial.world (drawn_events g.P.Protocol.proto l.events l.initial.storm l.initial.world);
-  counted : l.world.cast.events ≤ l._done;
+abbrev pub invariant-loop-done : goal.invariant-loop-done
+invariant-loop-done g l = record {
+  rest : outcome g.P.Protocol.proto (l.done + 1) l.world (drawn_events g.P.Protocol.proto (l.events - l.done) l.storm l.world) ≡ outcome g.P.Protocol.proto 1 l.initial.world (drawn_events g.P.Protocol.proto l.events l.initial.storm l.initial.world);
+  counted : l.world.cast.events ≤ l.done;
   goes : Goes g.P.Protocol.proto l.storm l.world;
 }

@@ -20,6 +20,10 @@ returns-in-Ok-clause-ok g c =
     let so = drawn_so s c.next-event.new.self w c.next-event.result c.packets.result c.idle_clients.result c.packets.ensures c.idle_clients.ensures c.next-event.ensures in
     subst (λ (e : Event). stepped g.P.Protocol.proto w e ≡ Ok c.step.new.self) so.0 c.in-Ok.ensures.ok
 
+pub returns-in-Ok-clause-next : goal.returns-in-Ok-clause-next
+returns-in-Ok-clause-next g c =
+    (drawn_so c.args.storm.now c.next-event.new.self c.args.world.now c.next-event.result c.packets.result c.idle_clients.result c.packets.ensures c.idle_clients.ensures c.next-event.ensures).1
+
 pub returns-clause-next : goal.returns-clause-next
 returns-clause-next g c =
     (drawn_so c.args.storm.now c.next-event.new.self c.args.world.now c.next-event.result c.packets.result c.idle_clients.result c.packets.ensures c.idle_clients.ensures c.next-event.ensures).1

@@ -8,4 +8,4 @@ pub loop-r-preserved : goal.loop-r-preserved
 loop-r-preserved g c =
     let xs = c.args.world.now.cast.replicas in
     let r = c.loop-r.r in
-    ap (λ t. max t (highest (drop (r + 1) xs))) c.max.ensures ∙ top_next xs r c.loop-r.top c.instance_of.result (slice_get xs r) refl c.instance_of.ensures ∙ c.loop-r.invariant
+    ap (λ t. max t (highest (drop (r + 1) xs))) c.max-top.ensures ∙ top_next xs r c.loop-r.top c.instance_of.result (slice_get xs r) refl c.instance_of.ensures ∙ c.loop-r.invariant
