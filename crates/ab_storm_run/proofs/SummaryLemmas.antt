@@ -1,0 +1,37 @@
+-- The highest instance, replica by replica.
+use Rattle.std.proofs.Common.{◌≡◌, ℕ, zero, suc, ◌+◌, ◌<◌, ◌≤◌, Option, None, Some, List, [], ◌∷◌, drop, length, refl, sym, ap, ◌∙◌, arith}
+use Rattle.std.specs.Prelude.{max, slice_get}
+use Rattle.std.specs.Option.{option_map}
+use Rattle.std.proofs.lemmas.List.{at_drop_more}
+use Rattle.std.proofs.lemmas.Option.{slice_get_within, get_or_from_slice_get}
+use Rattle.ab_replica.specs.Sites.{Site}
+use Rattle.ab_storm_run.specs.Summaries.{highest}
+
+max_onto : (a b c : ℕ) → max (max a b) c ≡ max a (max b c)
+max_onto a b c = omega arith
+
+pub top_next : {P : Type 0} (xs : List (Site P)) (r top instance : ℕ) (o : Option (Site P)) → slice_get xs r ≡ o → Some instance ≡ option_map (λ s. s.rep.at) o
+    → max (max top instance) (highest (drop (r + 1) xs)) ≡ max top (highest (drop r xs))
+top_next xs r top instance None at is = absurd (cc (is))
+top_next xs r top instance (Some s) at is =
+    let next : drop r xs ≡ s ∷ drop (r + 1) xs = at_drop_more (λ t. t) xs r s (slice_get_within xs r s at) ∙ ap (λ x. x ∷ drop (r + 1) xs) (get_or_from_slice_get xs r s s at) in
+    let same : instance ≡ s.rep.at = cc (is) in
+    max_onto top instance (highest (drop (r + 1) xs))
+    ∙ ap (λ n. max top (max n (highest (drop (r + 1) xs)))) same
+    ∙ ap (λ xs. max top (highest xs)) (sym next)
+
+drop_past : {A : Type 0} (xs : List A) (n : ℕ) → length xs ≤ n → drop n xs ≡ []
+drop_past [] zero far = refl
+drop_past [] (suc n) far = refl
+drop_past (x ∷ xs) zero far = absurd (omega (arith, far))
+drop_past (x ∷ xs) (suc n) far = drop_past xs n (omega (arith, far))
+
+-- behind the last replica nothing is higher
+pub top_ends : {P : Type 0} (xs : List (Site P)) (r top : ℕ) → length xs ≤ r → max top (highest (drop r xs)) ≡ highest xs → top ≡ highest xs
+top_ends xs r top far is = sym (ap (λ l. max top (highest l)) (drop_past xs r far) ∙ omega arith) ∙ is
+
+-- each replica is there
+pub there : {A : Type 0} (f : A → ℕ) (xs : List A) (r : ℕ) → r < length xs → None ≡ option_map f (slice_get xs r) → ⊥
+there f [] r lt e = omega (arith, lt)
+there f (x ∷ xs) zero lt e = cc (e)
+there f (x ∷ xs) (suc r) lt e = there f xs r (omega (arith, lt)) e
