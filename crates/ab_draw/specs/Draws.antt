@@ -62,10 +62,14 @@ pub record IsPictureOf (proto : Proto Any) (s : Script) (p : Picture) : Type 0 w
   pub runs : run_in proto cluster s ≡ Ok end
   pub front : IsFrontOf proto cluster s p
 
+-- all events of a schedule run, and this is the SVG of a picture of its run
+pub record DrawsRun (proto : Proto Any) (s : Script) (svg : List ℕ) : Type 0 where
+  pub picture : Picture
+  pub pictures : IsPictureOf proto s picture
+  pub tells : Tells picture.marks.items svg
+
 -- the text is a schedule that runs, and this is the SVG of a picture of its run
 pub record Draws (text svg : List ℕ) : Type 0 where
   pub schedule : Script
-  pub picture : Picture
   pub reads : ReadsText text (Ok schedule)
-  pub pictures : IsPictureOf (proto_of schedule.service) schedule picture
-  pub tells : Tells picture.marks.items svg
+  pub draws : DrawsRun (proto_of schedule.service) schedule svg

@@ -8,7 +8,7 @@ ghost use Rattle.ab_replay.specs.Protocols.{Any, any, is_served};
 ghost use Rattle.ab_replay.specs.Replays.{run_in, EventsCause, TextCause, ReplayCause};
 ghost use Rattle.ab_replay.specs.Streams.{IsInput};
 ghost use Rattle.ab_world.specs.Worlds.{World};
-ghost use Rattle.ab_draw.specs.Draws.{most_drawn, IsFrontOf, IsPictureOf, Draws};
+ghost use Rattle.ab_draw.specs.Draws.{most_drawn, IsFrontOf, DrawsRun, Draws};
 
 use crate::walking::{parcels, walk};
 use ab_cast::Setup;
@@ -49,6 +49,7 @@ fn front_picture<S: Service>(
     requires few { length schedule.now.events < 100001 }
     requires short { line < 2 ^ 31 }
     ensures ok { IfOk result (λ p. IsFrontOf (any S.machine) schedule.now.head.cluster (script_of schedule.now.head schedule.now.events) p) }
+    ensures few { IfOk result (λ p. length p.moments.items ≤ most_drawn) }
     ensures cause { IfErr result (λ e. EventsCause e line (run_in (any S.machine) schedule.now.head.cluster (script_of schedule.now.head schedule.now.events))) }
 {
     let head = &schedule.head;
@@ -82,32 +83,25 @@ fn check<S: Service>(alloc: Global, schedule: &Schedule, line: u32) -> Result<()
     run_events(alloc, &mut world, schedule.events.as_slice(), line)
 }
 
-/// The picture of a schedule's run, with a service: of its first events, where all events run.
+/// The text of the picture of a schedule's run, with a service: of its first events, where all events run.
 fn perform<S: Service>(
     alloc: Global,
     schedule: &Schedule,
     line: u32,
-) -> Result<Picture, ReplayFault>
+) -> Result<Vec<u8>, ReplayFault>
     requires served { ServesAll is_served schedule.now.head.cluster }
     requires parties { All (λ e. IsTrue (is_party schedule.now.head.cluster.f schedule.now.head.cluster.clients e.0)) schedule.now.head.faulty }
     requires few { length schedule.now.events < 100001 }
     requires short { line < 2 ^ 31 }
-    ensures ok { IfOk result (λ p. IsPictureOf (any S.machine) (script_of schedule.now.head schedule.now.events) p) }
+    ensures ok { IfOk result (λ v. DrawsRun (any S.machine) (script_of schedule.now.head schedule.now.events) v.items) }
     ensures cause { IfErr result (λ e. EventsCause e line (run_in (any S.machine) schedule.now.head.cluster (script_of schedule.now.head schedule.now.events))) }
 {
     let picture = front_picture::<S>(alloc, schedule, line)?;
-    if schedule.events.as_slice().len() > MOST_DRAWN {
+    let all = schedule.events.as_slice().len();
+    if all > MOST_DRAWN {
         check::<S>(alloc, schedule, line)?;
     }
-    Ok(picture)
-}
-
-/// The picture of the run of the schedule that was read.
-fn picture(alloc: Global, schedule: &Schedule, line: u32) -> Result<Picture, ReplayFault> {
-    match schedule.head.service {
-        ServiceName::Echo => perform::<Echo>(alloc, schedule, line),
-        ServiceName::Kv => perform::<Kv>(alloc, schedule, line),
-    }
+    Ok(svg(alloc, &picture, all as u32)?)
 }
 
 /// The text of the picture of the run that a text spells.
@@ -120,15 +114,16 @@ fn draw_text(alloc: Global, text: &[u8]) -> Result<Vec<u8>, ReplayFault>
         Ok(schedule) => schedule,
         Err(fault) => return Err(fault_of(refusal_of_text(fault))),
     };
-    let all = schedule.events.as_slice().len();
-    if all > MOST_EVENTS {
+    if schedule.events.as_slice().len() > MOST_EVENTS {
         return Err(ReplayFault::TooManyEvents);
     }
     // What was read is in form: faulty parties are of the cluster.
     read_is_in_form();
     let line = 7 + schedule.head.faulty.as_slice().len() as u32;
-    let picture = picture(alloc, &schedule, line)?;
-    Ok(svg(alloc, &picture, all as u32)?)
+    match schedule.head.service {
+        ServiceName::Echo => perform::<Echo>(alloc, &schedule, line),
+        ServiceName::Kv => perform::<Kv>(alloc, &schedule, line),
+    }
 }
 
 /// The text of the picture of the run that an input spells.

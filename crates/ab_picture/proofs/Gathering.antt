@@ -2,6 +2,7 @@
 use Rattle.std.proofs.Common.{◌≡◌, ℕ, zero, suc, ◌+◌, List, [], ◌∷◌, ◌++◌, Option, None, Some, map, flat_map, refl, sym, ap, ◌∙◌, append_assoc, arith}
 use Rattle.std.specs.List.{cons_option, enumerate_from, filter_map, range_with_len}
 use Rattle.std.proofs.lemmas.Grind.{flat_map-append}
+use Rattle.std.proofs.lemmas.List.FromFn.{map-range_with_len_more}
 
 -- ---- numbers
 
@@ -56,3 +57,12 @@ gathered_value f xs rest n x whole old now front was is =
     ∙ append_assoc old (f (n, x) ∷ []) more
     ∙ ap (λ t. old ++ map f (enumerate_from n t)) (sym front)
     ∙ was
+
+-- what is made of the n numbers from a on, and then of j
+pub mapped_number : {X : Type 0} (f : ℕ → X) (before old now : List X) (a n j : ℕ) → a + n ≡ j
+    → old ≡ before ++ map f (range_with_len a n) → now ≡ old ++ f j ∷ [] → now ≡ before ++ map f (range_with_len a (n + 1))
+mapped_number f before old now a n j h was is =
+    is
+    ∙ ap (λ t. t ++ f j ∷ []) was
+    ∙ append_assoc before (map f (range_with_len a n)) (f j ∷ [])
+    ∙ ap (λ t. before ++ t) (sym (map-range_with_len_more f a n j h))

@@ -131,7 +131,8 @@ fn keep<T: Drop>(all: &mut Vec<T>, value: Option<T>) -> Result<(), OutOfMemory>
 /// The events of a run, one after another.
 fn moments(alloc: Global, told: &Told) -> Result<Vec<Moment>, OutOfMemory>
     requires { length told.now.events.now < 2 ^ 31 }
-    ensures { IfOk result (λ v. v.items ≡ moments_of told.now.events.now told.now.counts.now told.now.parcels.now) }
+    ensures moments { IfOk result (λ v. v.items ≡ moments_of told.now.events.now told.now.counts.now told.now.parcels.now) }
+    ensures count { IfOk result (λ v. length v.items ≡ length told.now.events.now) }
 {
     let mut moments = Vec::new(alloc);
     let events = told.events;
@@ -223,7 +224,8 @@ pub fn compose(
     requires events { length told.now.events.now < 2 ^ 31 }
     requires counts { length told.now.counts.now < 2 ^ 31 }
     requires parcels { length told.now.parcels.now < 2 ^ 63 }
-    ensures { IfOk result (λ p. IsPicture cluster.now faulty.now (tale_of told.now) p) }
+    ensures picture { IfOk result (λ p. IsPicture cluster.now faulty.now (tale_of told.now) p) }
+    ensures count { IfOk result (λ p. length p.moments.items ≡ length told.now.events.now) }
 {
     Ok(Picture {
         cluster: *cluster,

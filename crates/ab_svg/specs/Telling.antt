@@ -17,17 +17,23 @@ opening_of x y = codes "<text class=\"told\" x=\"" then decimal x then codes "\"
 abbrev pub told_line : ℕ → Mark → List ℕ
 told_line x m = opening_of x (y_of m.event + 4) ++ (escaped (label_of m) ++ codes "</text>\n")
 
--- the text tells of this mark
-pub record TellsOne (m : Mark) (text : List ℕ) : Type 0 where
+-- a text grew by the line of this mark
+pub record AddsOne (m : Mark) (old new : List ℕ) : Type 0 where
   pub x : ℕ
-  pub is : text ≡ told_line x m
+  pub is : new ≡ old ++ told_line x m
 
--- the text tells of these marks, one after another, and of nothing else
+-- the text has the lines of these marks, one after another, and nothing else
 pub data TellsAll : List Mark → List ℕ → Type 0 where
   told_none : TellsAll [] []
-  told_more : {ms : List Mark} {m : Mark} {text more : List ℕ} → TellsAll ms text → TellsOne m more → TellsAll (ms ++ m ∷ []) (text ++ more)
+  told_more : (ms : List Mark) (m : Mark) (text : List ℕ) (x : ℕ) → TellsAll ms text → TellsAll (ms ++ m ∷ []) (text ++ told_line x m)
 
--- the SVG of a picture tells of these marks behind all that is drawn, and then ends
+-- a text grew by the lines of these marks
+pub record AddsAll (ms : List Mark) (old new : List ℕ) : Type 0 where
+  pub told : List ℕ
+  pub tells : TellsAll ms told
+  pub is : new ≡ old ++ told
+
+-- the SVG of a picture has the lines of its marks behind all that is drawn, and then ends
 pub record Tells (marks : List Mark) (svg : List ℕ) : Type 0 where
   pub drawn : List ℕ
   pub told : List ℕ

@@ -11,7 +11,7 @@ use ab_text::Core;
 const LEFT: u64 = 150;
 
 /// From one lifeline to the next.
-const STEP: u64 = 92;
+const STEP: u64 = 112;
 
 /// The row before the first event.
 const TOP: u64 = 226;

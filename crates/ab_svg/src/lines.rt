@@ -1,7 +1,7 @@
 //! What is told beside the lifelines.
 
-ghost use Rattle.std.specs.Prelude.{◌≡◌, ◌++◌, ◌^◌, ◌<◌, IfOk, List, ℕ, string_bytes};
-ghost use Rattle.ab_svg.specs.Telling.{opening_of, TellsOne, TellsAll};
+ghost use Rattle.std.specs.Prelude.{◌≡◌, IfOk, string_bytes};
+ghost use Rattle.ab_svg.specs.Telling.{opening_of, AddsAll, AddsOne};
 
 use crate::escaping::add_escaped;
 use crate::labels::label_of;
@@ -50,7 +50,7 @@ fn add_told(
     margin: u64,
     mark: &Mark,
 ) -> Result<Pen, OutOfMemory>
-    ensures { IfOk result (λ _. (more : List ℕ) × TellsOne mark.now more × (out.new.items ≡ out.old.items ++ more)) }
+    ensures { IfOk result (λ _. AddsOne mark.now out.old.items out.new.items) }
 {
     let x = if pen.event == mark.event {
         pen.x
@@ -78,7 +78,7 @@ pub(crate) fn add_all_told(
     margin: u64,
     marks: &[Mark],
 ) -> Result<u64, OutOfMemory>
-    ensures { IfOk result (λ _. (told : List ℕ) × TellsAll marks.now told × (out.new.items ≡ out.old.items ++ told)) }
+    ensures { IfOk result (λ _. AddsAll marks.now out.old.items out.new.items) }
 {
     let mut pen = Pen::new(margin);
     for mark in marks {

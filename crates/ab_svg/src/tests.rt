@@ -87,13 +87,13 @@ fn parts_are_drawn(rt: HostRuntime) -> Result<(), Fail> {
     );
     assert_eq!(rt;
         text.as_str()
-            .contains("<path class=\"arrow\" d=\"M150 250Q196 274 242 274\"/>"),
+            .contains("<path class=\"arrow\" d=\"M150 250Q206 274 262 274\"/>"),
         true
     );
     assert_eq!(rt; text.as_str().contains(">REQ 1</text>"), true);
     assert_eq!(rt;
         text.as_str()
-            .contains("<text class=\"head red\" x=\"426\" y=\"202\">r3</text>"),
+            .contains("<text class=\"head red\" x=\"598\" y=\"202\">r3</text>"),
         true
     );
     assert_eq!(rt; text.as_str().contains("are drawn"), false);
