@@ -2,6 +2,7 @@
 use Rattle.std.proofs.Common.{◌≡◌, ℕ, zero, suc, ◌+◌, List, [], ◌∷◌, ◌++◌, Option, None, Some, map, flat_map, refl, sym, ap, ◌∙◌, append_assoc, arith}
 use Rattle.std.specs.List.{cons_option, enumerate_from, filter_map, range_with_len}
 use Rattle.std.proofs.lemmas.Grind.{flat_map-append}
+use Rattle.std.proofs.lemmas.List.{append-nil}
 use Rattle.std.proofs.lemmas.List.FromFn.{map-range_with_len_more}
 
 -- ---- numbers
@@ -21,14 +22,8 @@ gathered_number f before old now j was is =
     is
     ∙ ap (λ t. t ++ f j) was
     ∙ append_assoc before (flat_map f (range_with_len 0 j)) (f j)
-    ∙ ap (λ t. before ++ t) (one (f j) (flat_map f (range_with_len 0 j)) ∙ sym (flat_map-append f (range_with_len 0 j) (j ∷ [])) ∙ ap (flat_map f) (sym (range_more 0 j j e)))
-  where
-    nothing : (xs : List X) → xs ≡ xs ++ []
-    nothing [] = refl
-    nothing (x ∷ xs) = ap (λ t. x ∷ t) (nothing xs)
-
-    one : (xs ys : List X) → ys ++ xs ≡ ys ++ (xs ++ [])
-    one xs ys = ap (λ t. ys ++ t) (nothing xs)
+    ∙ ap (λ t. before ++ (flat_map f (range_with_len 0 j) ++ t)) (sym (append-nil (f j)))
+    ∙ ap (λ t. before ++ t) (sym (flat_map-append f (range_with_len 0 j) (j ∷ [])) ∙ ap (flat_map f) (sym (range_more 0 j j e)))
 
 -- ---- elements
 

@@ -53,9 +53,13 @@ is_delivery k (Invoke core command) = false
 is_delivery k (Timeout core) = false
 is_delivery k (Inject core bytes) = false
 
--- the arrow of the event of this number, if it delivers a packet
+-- the arrow of packet k to the event of this number
+abbrev pub arrow_to : List ℕ → List Parcel → ℕ → ℕ → Arrow
+arrow_to counts parcels e k = record { packet = k; code = code_at parcels k; from = sender_of counts k; to = e }
+
+-- the arrow of an event, if it delivers a packet
 abbrev pub arrow_of : List ℕ → List Parcel → ℕ → Event → Option Arrow
-arrow_of counts parcels e (Deliver k core) = Some (record { packet = k; code = code_at parcels k; from = sender_of counts k; to = e })
+arrow_of counts parcels e (Deliver k core) = Some (arrow_to counts parcels e k)
 arrow_of counts parcels e (Invoke core command) = None
 arrow_of counts parcels e (Timeout core) = None
 arrow_of counts parcels e (Inject core bytes) = None
@@ -64,9 +68,16 @@ arrow_of counts parcels e (Inject core bytes) = None
 abbrev pub arrows_of : List Event → List ℕ → List Parcel → List Arrow
 arrows_of events counts parcels = filter_map (λ x. arrow_of counts parcels x.0 x.1) (enumerate_from 1 events)
 
--- the stub of packet k, if no event delivers it
+abbrev pub is_delivered : List Event → ℕ → Bool
+is_delivered events k = list_any (is_delivery k) events
+
+-- the stub of packet k
+abbrev pub stub_at : List ℕ → ℕ → Parcel → Stub
+stub_at counts k p = record { packet = k; code = p.code; from = sender_of counts k; to = p.to }
+
+-- it is there if no event delivers the packet
 abbrev pub stub_of : List Event → List ℕ → ℕ → Parcel → Option Stub
-stub_of events counts k p = if list_any (is_delivery k) events then None else Some (record { packet = k; code = p.code; from = sender_of counts k; to = p.to })
+stub_of events counts k p = if is_delivered events k then None else Some (stub_at counts k p)
 
 -- a stub for each packet that is never delivered
 abbrev pub stubs_of : List Event → List ℕ → List Parcel → List Stub

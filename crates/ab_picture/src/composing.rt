@@ -3,7 +3,7 @@
 ghost use Rattle.std.specs.Prelude.{◌≡◌, ◌^◌, ◌<◌, [], ◌++◌, IfOk, OnOk, length};
 ghost use Rattle.std.specs.List.{cons_option};
 ghost use Rattle.std.specs.Option.{option_map};
-ghost use Rattle.ab_picture.specs.Pictures.{parcel_at, code_at, sender_of, is_delivery, arrow_of, arrows_of, stub_of, stubs_of, core_of, cue_of, count_at, has_panic, moment_of, moments_of};
+ghost use Rattle.ab_picture.specs.Pictures.{parcel_at, code_at, sender_of, is_delivered, is_delivery, arrow_of, arrow_to, arrows_of, stub_at, stub_of, stubs_of, core_of, cue_of, count_at, has_panic, moment_of, moments_of};
 ghost use Rattle.ab_picture.specs.Composed.{IsPicture, tale_of};
 
 use crate::lanes::lanes;
@@ -142,19 +142,29 @@ fn moments(alloc: Global, told: &Told) -> Result<Vec<Moment>, OutOfMemory>
     Ok(moments)
 }
 
+/// The arrow of a packet to the event of this number.
+fn arrow_to(told: &Told, number: u32, packet: u64) -> Arrow
+    requires { length told.now.counts.now < 2 ^ 31 }
+    ensures { result ≡ arrow_to told.now.counts.now told.now.parcels.now number packet }
+{
+    Arrow {
+        packet,
+        code: code_at(told.parcels, packet),
+        from: sender_of(told.counts, packet),
+        to: number,
+    }
+}
+
 /// The arrow of the event of this number, if it delivers a packet.
 fn arrow_of(told: &Told, number: u32, event: &Event) -> Option<Arrow>
     requires { length told.now.counts.now < 2 ^ 31 }
     ensures { result ≡ arrow_of told.now.counts.now told.now.parcels.now number event.now }
 {
     match event {
-        Event::Deliver { packet, .. } => Some(Arrow {
-            packet: *packet,
-            code: code_at(told.parcels, *packet),
-            from: sender_of(told.counts, *packet),
-            to: number,
-        }),
-        _ => None,
+        Event::Deliver { packet, .. } => Some(arrow_to(told, number, *packet)),
+        Event::Invoke { .. } => None,
+        Event::Timeout { .. } => None,
+        Event::Inject { .. } => None,
     }
 }
 
@@ -183,20 +193,36 @@ fn is_delivery(event: &Event, number: u64) -> bool
     }
 }
 
+/// Whether an event delivers the packet of this number.
+fn is_delivered(events: &[Event], number: u64) -> bool
+    ensures { result ≡ is_delivered events.now number }
+{
+    events.iter().any(|event| is_delivery(event, number))
+}
+
+/// The stub of the packet of this number.
+fn stub_at(counts: &[u64], number: u64, parcel: &Parcel) -> Stub
+    requires { length counts.now < 2 ^ 31 }
+    ensures { result ≡ stub_at counts.now number parcel.now }
+{
+    Stub {
+        packet: number,
+        code: parcel.code,
+        from: sender_of(counts, number),
+        to: parcel.to,
+    }
+}
+
 /// The stub of the packet of this number, if no event delivers it.
 fn stub_of(told: &Told, number: u64, parcel: &Parcel) -> Option<Stub>
     requires { length told.now.counts.now < 2 ^ 31 }
     ensures { result ≡ stub_of told.now.events.now told.now.counts.now number parcel.now }
 {
-    if told.events.iter().any(|event| is_delivery(event, number)) {
-        return None;
+    if is_delivered(told.events, number) {
+        None
+    } else {
+        Some(stub_at(told.counts, number, parcel))
     }
-    Some(Stub {
-        packet: number,
-        code: parcel.code,
-        from: sender_of(told.counts, number),
-        to: parcel.to,
-    })
 }
 
 /// A stub for each packet that no event delivers, in the order of the packets.
