@@ -6,7 +6,6 @@ use Rattle.ab_num.specs.declared.cluster.Cluster.{Cluster}
 use Rattle.ab_num.specs.declared.party.Party.{Party}
 use Rattle.ab_num.specs.declared.party.Party.TheVariants.{Replica, Client}
 use Rattle.ab_num.specs.Parties.{party_eq}
-use Rattle.ab_text.specs.declared.event.Core.{Core}
 use Rattle.ab_picture.specs.declared.picture.Lane.{Lane}
 
 -- how many cores a faulty party has

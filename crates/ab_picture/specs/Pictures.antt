@@ -1,16 +1,13 @@
 -- What a picture shows of a run.
-use Rattle.std.specs.Prelude.{◌≡◌, ℕ, zero, suc, ◌+◌, ◌-◌, ◌==◌, nat_lt, Bool, true, false, if◌then◌else◌, List, [], ◌∷◌, Option, None, Some, map, take, drop, count_by, slice_get, unwrap_or}
+use Rattle.std.specs.Prelude.{ℕ, zero, suc, ◌+◌, ◌-◌, ◌==◌, nat_lt, Bool, false, if◌then◌else◌, List, Option, None, Some, map, take, drop, count_by, slice_get, unwrap_or}
 use Rattle.std.specs.List.{list_any, filter_map, enumerate_from}
 use Rattle.std.specs.Option.{option_map}
-use Rattle.ab_num.specs.declared.party.Party.{Party}
 use Rattle.ab_num.specs.declared.party.Party.TheVariants.{Replica, Client}
-use Rattle.ab_num.specs.declared.cluster.Cluster.{Cluster}
 use Rattle.ab_text.specs.declared.event.Core.{Core}
 use Rattle.ab_text.specs.declared.event.Event.{Event}
 use Rattle.ab_text.specs.declared.event.Event.TheVariants.{Invoke, Deliver, Timeout, Inject}
 use Rattle.ab_text.specs.declared.line.Line.{Line}
 use Rattle.ab_text.specs.declared.line.Line.TheVariants as line
-use Rattle.ab_text.specs.declared.line.Premise.{Premise}
 use Rattle.ab_picture.specs.declared.picture.Arrow.{Arrow}
 use Rattle.ab_picture.specs.declared.picture.Cue.{Cue}
 use Rattle.ab_picture.specs.declared.picture.Cue.TheVariants.{Invoked, Delivered, TimedOut, Injected}

@@ -1,4 +1,4 @@
-use Rattle.std.proofs.Common.{◌≡◌, ◌+◌, ◌∷◌, ◌++◌, [], ℕ, arith, length, length-append, sym, ap, ◌∙◌, drop}
+use Rattle.std.proofs.Common.{◌≡◌, ◌+◌, ◌∷◌, ◌++◌, [], arith, length, length-append, sym, ap, ◌∙◌, drop}
 use Rattle.std.proofs.lemmas.List.{at_drop_more}
 use Rattle.ab_picture.specs.Pictures.{moment_of, moments_of}
 use Rattle.ab_picture.proofs.Gathering.{gathered_value}

@@ -1,4 +1,4 @@
-use Rattle.std.proofs.Common.{◌≡◌, ◌+◌, ◌++◌, [], ap, ◌∙◌, drop}
+use Rattle.std.proofs.Common.{◌+◌, ◌++◌, [], ap, ◌∙◌, drop}
 use Rattle.std.specs.List.{cons_option}
 use Rattle.std.proofs.lemmas.List.{at_drop_more}
 use Rattle.ab_num.specs.declared.party.Party.TheVariants.{Replica}
