@@ -74,6 +74,13 @@ impl Packets {
         self.sent.len() as u64
     }
 
+    /// All of them, the oldest first.
+    pub fn as_slice(&self) -> &[Packet]
+        ensures { result.now ≡ self.now }
+    {
+        self.sent.as_slice()
+    }
+
     /// The packet of this number, counted from 1.
     pub fn get(&self, number: u64) -> Option<&Packet>
         ensures { option_map (λ p. p.now) result ≡ nth self.now number }

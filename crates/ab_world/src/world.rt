@@ -23,7 +23,7 @@ use ab_cast::{Cast, CommandFault, Place, Setup, places_have_cores};
 use ab_hist::History;
 use ab_links::Digests;
 use ab_num::{OutOfMemory, Party};
-use ab_post::{Packets, Statements};
+use ab_post::{Packet, Packets, Statements};
 use ab_premise::{Collision, Forgery, first_collision, first_forgery, premise};
 use ab_replica::Effects;
 use ab_run::Noted;
@@ -132,10 +132,10 @@ impl<S: Service, P: Protocol<S>> World<S, P> {
     }
 
     /// The packets that were sent, the oldest first.
-    pub fn sent(&self) -> &Packets
+    pub fn sent(&self) -> &[Packet]
         ensures { result.now ≡ self.now.packets }
     {
-        &self.packets
+        self.packets.as_slice()
     }
 
     /// How many packets were sent.

@@ -1,0 +1,14 @@
+//! What a picture of a run shows, as plain data: where each event was, an arrow for each delivery, a stub for
+//! each packet that was never delivered, and a mark for each line of the report.
+#![tactic(auto)]
+
+mod composing;
+mod lanes;
+mod marks;
+mod picture;
+
+pub use composing::compose;
+pub use picture::{Arrow, Cue, Lane, Mark, Moment, Parcel, Picture, Sign, Stub, Told};
+
+#[cfg(test)]
+mod tests;

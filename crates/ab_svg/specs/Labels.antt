@@ -1,0 +1,36 @@
+-- What is written of marks.
+use Rattle.std.specs.Prelude.{ℕ, List, [], ◌++◌, codes, decimal}
+use Rattle.ab_num.specs.declared.party.Party.{Party}
+use Rattle.ab_text.specs.declared.line.Cause.{Cause}
+use Rattle.ab_text.specs.declared.line.Cause.TheVariants.{Bad, Kind, Tag}
+use Rattle.ab_text.specs.Cores.{party_text}
+use Rattle.ab_text.specs.Reports.{◌then◌}
+use Rattle.ab_picture.specs.declared.picture.Mark.{Mark}
+use Rattle.ab_picture.specs.declared.picture.Sign.{Sign}
+use Rattle.ab_picture.specs.declared.picture.Sign.TheVariants.{Invoked, Committed, Certified, Entered, Refused, Spent}
+
+abbrev pub cause_words : Cause → List ℕ
+cause_words Bad = codes "no message"
+cause_words Kind = codes "not for it"
+cause_words Tag = codes "wrong tag"
+
+-- what is written of a party up to the reply, if there is one
+abbrev pub front_of : Party → Sign → List ℕ
+front_of p (Invoked i stamp) = party_text p then codes " invokes " then decimal stamp then codes " in instance " then decimal i
+front_of p (Committed i n reply) = party_text p then codes " commits number " then decimal n then codes " in instance " then decimal i then codes ": "
+front_of p (Certified i) = party_text p then codes " takes a certificate of instance " then decimal i
+front_of p (Entered i) = party_text p then codes " enters instance " then decimal i
+front_of p (Refused cause) = party_text p then codes " refuses bytes: " then cause_words cause
+front_of p Spent = party_text p then codes " has too few signatures left"
+
+abbrev pub reply_of : Sign → List ℕ
+reply_of (Invoked i stamp) = []
+reply_of (Committed i n reply) = reply.items
+reply_of (Certified i) = []
+reply_of (Entered i) = []
+reply_of (Refused cause) = []
+reply_of Spent = []
+
+-- what is written of a mark
+abbrev pub label_of : Mark → List ℕ
+label_of m = front_of m.party m.sign ++ reply_of m.sign

@@ -1,0 +1,20 @@
+//! Names of messages.
+
+/// The name of the message with this code.
+pub(crate) fn message_name(code: u8) -> &'static str {
+    match code {
+        1 => "REQ",
+        2 => "ORDER",
+        3 => "RESP",
+        4 => "CHAIN",
+        5 => "PANIC",
+        6 => "ABORT",
+        7 => "INIT",
+        8 => "PRE-PREPARE",
+        9 => "PREPARE",
+        10 => "COMMIT",
+        11 => "VIEW-CHANGE",
+        12 => "NEW-VIEW",
+        _ => "?",
+    }
+}
