@@ -1,7 +1,9 @@
 -- The highest instance, replica by replica.
-use Rattle.std.proofs.Common.{◌≡◌, ℕ, zero, suc, ◌+◌, ◌<◌, ◌≤◌, Option, None, Some, List, [], ◌∷◌, drop, length, refl, sym, ap, ◌∙◌, arith}
-use Rattle.std.specs.Prelude.{max, slice_get}
+use Rattle.std.proofs.Common.{◌≡◌, ℕ, zero, suc, ◌+◌, ◌<◌, ◌≤◌, ◌==◌, Bool, true, false, cond, Less, Equal, Greater, is_lt, nat_cmp, Option, None, Some, List, [], ◌∷◌, drop, length, refl, sym, ap, ◌∙◌, arith}
+use Rattle.std.specs.Ordering.{ord_max}
+use Rattle.std.specs.Prelude.{max, nat_lt, slice_get}
 use Rattle.std.specs.Option.{option_map}
+use Rattle.std.proofs.lemmas.Bool.Decides.{nat_tests}
 use Rattle.std.proofs.lemmas.List.{at_drop_more}
 use Rattle.std.proofs.lemmas.Option.{slice_get_within, get_or_from_slice_get}
 use Rattle.ab_replica.specs.Sites.{Site}
@@ -35,3 +37,18 @@ pub there : {A : Type 0} (f : A → ℕ) (xs : List A) (r : ℕ) → r < length 
 there f [] r lt e = omega (arith, lt)
 there f (x ∷ xs) zero lt e = cc (e)
 there f (x ∷ xs) (suc r) lt e = there f xs r (omega (arith, lt)) e
+
+-- the larger of two numbers, as code takes it
+larger_by : (a b : ℕ) (lower same : Bool) → (lower ≡ true → b < a) → (lower ≡ false → a ≤ b) → cond (is_lt (cond lower Less (cond same Equal Greater))) a b ≡ max a b
+larger_by a b true same below above = let lt : b < a = below refl in omega (arith, lt)
+larger_by a b false true below above = let le : a ≤ b = above refl in omega (arith, le)
+larger_by a b false false below above = let le : a ≤ b = above refl in omega (arith, le)
+
+below_of : (a b : ℕ) → nat_lt b a ≡ true → b < a
+below_of a b h = grind (arith, nat_tests)
+
+above_of : (a b : ℕ) → nat_lt b a ≡ false → a ≤ b
+above_of a b h = grind (arith, nat_tests)
+
+pub larger : (a b : ℕ) → ord_max nat_cmp a b ≡ max a b
+larger a b = larger_by a b (nat_lt b a) (b == a) (below_of a b) (above_of a b)

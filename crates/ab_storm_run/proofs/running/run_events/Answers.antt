@@ -7,7 +7,7 @@ use Rattle.ab_storm_run.proofs.running.run_events.Goals as goal
 pub loop-done-preserved : goal.loop-done-preserved
 loop-done-preserved g c =
     let proto = g.P.Protocol.proto in
-    let i = c.loop-done.done in
+    let i = c.loop-done._done in
     let s = c.loop-done.storm in
     let w = c.loop-done.world in
     let whole = outcome proto 1 c.args.world.now (drawn_events proto c.args.events c.args.storm.now c.args.world.now) in
@@ -17,17 +17,17 @@ loop-done-preserved g c =
 
 pub returns-clause-ok : goal.returns-clause-ok
 returns-clause-ok g c =
-    let i = c.loop-done.done in
-    let all : i ≡ c.args.events = omega (arith, c.loop-done-test.false, c.loop-done.auto.done-end) in
+    let i = c.loop-done._done in
+    let all : i ≡ c.args.events = omega (arith, c.loop-done-test.false, c.loop-done.auto._done-end) in
     sym c.loop-done.invariant.rest ∙ run_done g.P.Protocol.proto c.args.events i c.loop-done.storm c.loop-done.world all
 
 pub returns-in_err-step-clause-cause : goal.returns-in_err-step-clause-cause
 returns-in_err-step-clause-cause g c =
     let proto = g.P.Protocol.proto in
-    let i = c.loop-done.done in
+    let i = c.loop-done._done in
     let s = c.loop-done.storm in
     let w = c.loop-done.world in
     let fault = c.in_err-step.field-0.0 in
     let whole = outcome proto 1 c.args.world.now (drawn_events proto c.args.events c.args.storm.now c.args.world.now) in
-    kept_err c.from_residual-in_err-step.result fault (λ e. EndCause e whole) c.from_residual-in_err-step.ensures.1
+    kept_err c.from_residual.result fault (λ e. EndCause e whole) c.from_residual.ensures.1
     (subst (EndCause fault) c.loop-done.invariant.rest (ends_run proto fault c.args.events i s w c.loop-done-test.true c.in_err-step.ensures.cause))

@@ -6,7 +6,7 @@ use Rattle.ab_storm_run.proofs.running.run_events.Given as goal
 
 abbrev pub invariant-loop-done : goal.invariant-loop-done
 invariant-loop-done g l = record {
-  rest : outcome g.P.Protocol.proto (l.done + 1) l.world (drawn_events g.P.Protocol.proto (l.events - l.done) l.storm l.world) ≡ outcome g.P.Protocol.proto 1 l.initial.world (drawn_events g.P.Protocol.proto l.events l.initial.storm l.initial.world);
-  counted : l.world.cast.events ≤ l.done;
+  rest : outcome g.P.Protocol.proto (l._done + 1) l.world (drawn_events g.P.Protocol.proto (l.events - l._done) l.storm l.world) ≡ outcome g.P.Protocol.proto 1 l.initial.world (drawn_events g.P.Protocol.proto l.events l.initial.storm l.initial.world);
+  counted : l.world.cast.events ≤ l._done;
   goes : Goes g.P.Protocol.proto l.storm l.world;
 }

@@ -11,11 +11,6 @@ use Rattle.ab_storm_run.specs.Runs.{drawn_events, storm_of, storm_setup, events_
 use Rattle.ab_storm_run.proofs.StormLemmas.{all_drawn, begins_early, begins_going, ends_storm, kept_err, runs_storm}
 use Rattle.ab_storm_run.proofs.running.storm.Goals as goal
 
-pub new-world-requires : goal.new-world-requires
-new-world-requires g c =
-    let plans : c.args.asked.now.plan ≡ c.in_ok-setup.setup.cluster.plan = sym (ap (λ (y : Setup). y.cluster.plan) c.in_ok-setup.ensures ∙ c.cluster-cluster.ensures.plan) in
-    λ i one. subst (λ (p : Plan). IsTrue (g.P.Protocol.serves (kind_of p i))) plans (c.requires.served i one)
-
 pub run_events-requires-clause-goes : goal.run_events-requires-clause-goes
 run_events-requires-clause-goes g c =
     let cluster = c.cluster-cluster.result.now in
