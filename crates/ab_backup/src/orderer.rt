@@ -83,7 +83,7 @@ pub trait Orderer: Sized + Drop {
     fn ordered(&self) -> &History
         ensures { result.now ≡ rules.ordered (orders.view self.now) };
 
-    /// None where nothing waits to be ordered; else it changes whenever something is executed or a view is left.
+    /// None where nothing is left to order; else it changes whenever a slot is executed or a view is left.
     fn turns(&self) -> Option<u64>
         ensures { result ≡ counted self.now };
 
