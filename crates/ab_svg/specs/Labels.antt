@@ -28,7 +28,7 @@ abbrev pub entered_text : Party → ℕ → List ℕ
 entered_text p i = party_text p then codes " enters instance " then decimal i
 
 abbrev pub refused_text : Party → Cause → List ℕ
-refused_text p cause = party_text p then codes " refuses bytes: " then cause_words cause
+refused_text p cause = party_text p then codes " refuses bytes (" then cause_words cause then codes ")"
 
 abbrev pub spent_text : Party → List ℕ
 spent_text p = party_text p then codes " has too few signatures left"

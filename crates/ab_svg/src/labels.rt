@@ -61,7 +61,7 @@ fn refused_string(alloc: Global, party: Party, cause: Cause) -> Result<String, A
 {
     let party = party_string(alloc, party)?;
     let cause = cause_words(cause);
-    format!(in alloc; "{party} refuses bytes: {cause}")
+    format!(in alloc; "{party} refuses bytes ({cause})")
 }
 
 fn spent_string(alloc: Global, party: Party) -> Result<String, AllocError>
