@@ -27,8 +27,11 @@ certified_text p i = party_text p then codes " takes a certificate of instance "
 abbrev pub entered_text : Party → ℕ → List ℕ
 entered_text p i = party_text p then codes " enters instance " then decimal i
 
+abbrev pub refusing_text : Party → List ℕ
+refusing_text p = party_text p then codes " refuses bytes: "
+
 abbrev pub refused_text : Party → Cause → List ℕ
-refused_text p cause = party_text p then codes " refuses bytes (" then cause_words cause then codes ")"
+refused_text p cause = refusing_text p ++ cause_words cause
 
 abbrev pub spent_text : Party → List ℕ
 spent_text p = party_text p then codes " has too few signatures left"

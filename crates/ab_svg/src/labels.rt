@@ -1,7 +1,7 @@
 //! What is written of marks.
 
 ghost use Rattle.std.specs.Prelude.{◌≡◌, IfOk, string_bytes};
-ghost use Rattle.ab_svg.specs.Labels.{cause_words, certified_text, committed_text, entered_text, front_of, invoked_text, label_of, refused_text, reply_of, spent_text};
+ghost use Rattle.ab_svg.specs.Labels.{cause_words, certified_text, committed_text, entered_text, front_of, invoked_text, label_of, refused_text, refusing_text, reply_of, spent_text};
 
 use ab_num::{OutOfMemory, Party};
 use ab_picture::{Mark, Sign};
@@ -56,12 +56,19 @@ fn entered_string(alloc: Global, party: Party, instance: u32) -> Result<String, 
     format!(in alloc; "{party} enters instance {instance}")
 }
 
+fn refusing_string(alloc: Global, party: Party) -> Result<String, AllocError>
+    ensures { IfOk result (λ s. string_bytes s ≡ refusing_text party) }
+{
+    let party = party_string(alloc, party)?;
+    format!(in alloc; "{party} refuses bytes: ")
+}
+
 fn refused_string(alloc: Global, party: Party, cause: Cause) -> Result<String, AllocError>
     ensures { IfOk result (λ s. string_bytes s ≡ refused_text party cause) }
 {
-    let party = party_string(alloc, party)?;
-    let cause = cause_words(cause);
-    format!(in alloc; "{party} refuses bytes ({cause})")
+    let mut text = refusing_string(alloc, party)?;
+    text.push_str(cause_words(cause))?;
+    Ok(text)
 }
 
 fn spent_string(alloc: Global, party: Party) -> Result<String, AllocError>
