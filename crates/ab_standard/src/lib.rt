@@ -2,8 +2,8 @@
 //! and its words.
 #![tactic(auto)]
 
+mod arguments;
 mod standard;
-mod words;
 
+pub use arguments::words;
 pub use standard::{StdSink, StdSource};
-pub use words::words;

@@ -14,14 +14,36 @@ cause_words Bad = codes "no message"
 cause_words Kind = codes "not for it"
 cause_words Tag = codes "wrong tag"
 
+abbrev pub invoked_text : Party → ℕ → ℕ → List ℕ
+invoked_text p i stamp = party_text p then codes " invokes " then decimal stamp then codes " in instance " then decimal i
+
+-- up to the reply
+abbrev pub committed_text : Party → ℕ → ℕ → List ℕ
+committed_text p i n = party_text p then codes " commits number " then decimal n then codes " in instance " then decimal i then codes ": "
+
+abbrev pub certified_text : Party → ℕ → List ℕ
+certified_text p i = party_text p then codes " takes a certificate of instance " then decimal i
+
+abbrev pub entered_text : Party → ℕ → List ℕ
+entered_text p i = party_text p then codes " enters instance " then decimal i
+
+abbrev pub refusing_text : Party → List ℕ
+refusing_text p = party_text p then codes " refuses bytes: "
+
+abbrev pub refused_text : Party → Cause → List ℕ
+refused_text p cause = refusing_text p ++ cause_words cause
+
+abbrev pub spent_text : Party → List ℕ
+spent_text p = party_text p then codes " has too few signatures left"
+
 -- what is written of a party up to the reply, if there is one
 abbrev pub front_of : Party → Sign → List ℕ
-front_of p (Invoked i stamp) = party_text p then codes " invokes " then decimal stamp then codes " in instance " then decimal i
-front_of p (Committed i n reply) = party_text p then codes " commits number " then decimal n then codes " in instance " then decimal i then codes ": "
-front_of p (Certified i) = party_text p then codes " takes a certificate of instance " then decimal i
-front_of p (Entered i) = party_text p then codes " enters instance " then decimal i
-front_of p (Refused cause) = party_text p then codes " refuses bytes: " then cause_words cause
-front_of p Spent = party_text p then codes " has too few signatures left"
+front_of p (Invoked i stamp) = invoked_text p i stamp
+front_of p (Committed i n reply) = committed_text p i n
+front_of p (Certified i) = certified_text p i
+front_of p (Entered i) = entered_text p i
+front_of p (Refused cause) = refused_text p cause
+front_of p Spent = spent_text p
 
 abbrev pub reply_of : Sign → List ℕ
 reply_of (Invoked i stamp) = []

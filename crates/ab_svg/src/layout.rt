@@ -36,7 +36,7 @@ fn number_of(core: &Core) -> u8 {
 
 /// Where the lifeline in this place is.
 pub(crate) fn x_at(place: usize) -> u64
-    ensures { result < 2 ^ 20 }
+    ensures { result < 2 ^ 17 }
 {
     LEFT + STEP * place.min(MOST_LANES) as u64
 }

@@ -6,5 +6,5 @@ loop-mark-init c = none_added c.args.out.now.items
 
 pub loop-mark-preserved : goal.loop-mark-preserved
 loop-mark-preserved c =
-    one_added c.args.marks.now c.loop-mark.mark-index c.mark-item.result c.args.out.now.items c.loop-mark.out.items c.add_told-pen.new.out.items
-    c.loop-mark-test.true c.mark-item.is c.loop-mark.invariant c.in_ok-add_told.ensures
+    one_added c.args.marks.now c.loop-mark.mark-index c.mark-item.result c.args.out.now.items c.loop-mark.out.items c.add_told.new.out.items
+    c.loop-mark-test.true c.mark-item.is c.loop-mark.invariant c.in_ok-pen.ensures
