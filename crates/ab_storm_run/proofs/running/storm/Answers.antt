@@ -7,6 +7,7 @@ use Rattle.ab_cast.specs.Setups.{Setup}
 use Rattle.ab_world.specs.Runs.{outcome}
 use Rattle.ab_world.specs.Worlds.{start}
 use Rattle.ab_abs.specs.Promises.{ServesAll}
+use Rattle.ab_storm_run.specs.declared.running.StormFault.TheVariants.{OutOfMemory}
 use Rattle.ab_storm_run.specs.Runs.{drawn_events, storm_of, storm_setup, events_in, IsClusterOf, EndCause, StormCause}
 use Rattle.ab_storm_run.proofs.StormLemmas.{all_drawn, begins_early, begins_going, ends_storm, kept_err, runs_storm}
 use Rattle.ab_storm_run.proofs.running.storm.Goals as goal
@@ -60,3 +61,7 @@ returns-in_err-run_events-clause-cause g c =
     let fault = c.in_err-run_events.field-0.0 in
     kept_err c.from_residual-in_err-run_events.result fault (λ e. StormCause proto e k) c.from_residual-in_err-run_events.ensures.1
     (ends_storm proto k cluster fault sized (subst (EndCause fault) (sym runs) c.in_err-run_events.ensures.cause))
+
+pub returns-in_err-summary-clause-cause : goal.returns-in_err-summary-clause-cause
+returns-in_err-summary-clause-cause g c =
+    kept_err c.from_residual-in_err-summary.result OutOfMemory (λ e. StormCause g.P.Protocol.proto e c.args.asked.now) c.from_residual-in_err-summary.ensures.1 tt
