@@ -5,7 +5,7 @@ use Rattle.std.proofs.lemmas.List.{append-nil, take_more}
 use Rattle.ab_picture.specs.declared.picture.Mark.{Mark}
 use Rattle.ab_svg.specs.Escaping.{escaped}
 use Rattle.ab_svg.specs.Labels.{label_of}
-use Rattle.ab_svg.specs.Telling.{AddsAll, AddsOne, Tells, TellsAll, opening_of, told_line, told_more, told_none, y_of}
+use Rattle.ab_svg.specs.Telling.{AddsAll, AddsOne, Tells, opening_of, told_line, told_more, told_none, y_of}
 
 pub none_added : (text : List ℕ) → AddsAll [] text text
 none_added text = record { told = []; tells = told_none; is = sym (append-nil text) }

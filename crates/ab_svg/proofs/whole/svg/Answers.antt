@@ -1,7 +1,7 @@
 use Rattle.std.specs.Prelude.{codes}
 use Rattle.std.proofs.Common.{◌++◌, List, ap, ◌∙◌, subst}
 use Rattle.ab_picture.specs.declared.picture.Mark.{Mark}
-use Rattle.ab_svg.specs.Telling.{AddsAll, Tells}
+use Rattle.ab_svg.specs.Telling.{AddsAll}
 use Rattle.ab_svg.proofs.Told.{tells_whole}
 use Rattle.ab_svg.proofs.whole.svg.Goals as goal
 
