@@ -7,7 +7,7 @@ use ab_replay::Refusal;
 
 /// Which of its limits an input passes.
 #[derive(Clone, Copy, Debug, PartialEq, Eq)]
-pub enum Bound {
+pub(crate) enum Bound {
     Bytes,
     Events,
     Packets,
@@ -15,7 +15,7 @@ pub enum Bound {
 
 /// How a call of the program ended.
 #[derive(Clone, Copy, Debug, PartialEq, Eq)]
-pub enum Status {
+pub(crate) enum Status {
     /// A run was told, and its premises held; or keys were.
     Done,
     /// A run was told, and a premise was broken.
@@ -30,7 +30,7 @@ pub enum Status {
 
 impl Status {
     /// The number that the program ends with.
-    pub fn code(self) -> u8
+    pub(crate) fn code(self) -> u8
         ensures { result ≡ code_of self }
     {
         match self {

@@ -34,7 +34,7 @@ pub type AnyProtocol<S> = Choice<Quorum<S>, Choice<ZLight<S>, Choice<Chain<S>, B
 pub type AnyWorld<S> = World<S, AnyProtocol<S>>;
 
 /// How many events a schedule may have.
-pub const MOST_EVENTS: usize = 100_000;
+const MOST_EVENTS: usize = 100_000;
 
 /// Why a replay has no report.
 #[derive(Clone, Copy, Debug, PartialEq, Eq)]
@@ -60,7 +60,7 @@ impl From<OutOfMemory> for ReplayFault {
 }
 
 /// The refusal of a text that is no schedule. None where memory was refused.
-pub fn refusal_of_text(fault: TextFault) -> Option<Refusal>
+fn refusal_of_text(fault: TextFault) -> Option<Refusal>
     ensures { result ≡ text_refusal fault }
 {
     match fault {
@@ -77,7 +77,7 @@ pub fn refusal_of_text(fault: TextFault) -> Option<Refusal>
 }
 
 /// The refusal of the event in this line. None where the world had ended.
-pub fn refusal_of_step(line: u32, fault: WorldFault) -> Option<Refusal>
+fn refusal_of_step(line: u32, fault: WorldFault) -> Option<Refusal>
     ensures { result ≡ step_refusal line fault }
 {
     let cause = match fault {
@@ -93,7 +93,7 @@ pub fn refusal_of_step(line: u32, fault: WorldFault) -> Option<Refusal>
 }
 
 /// A refusal as a fault. Where nothing was refused, memory was.
-pub fn fault_of(refusal: Option<Refusal>) -> ReplayFault
+fn fault_of(refusal: Option<Refusal>) -> ReplayFault
     ensures { result ≡ fault_from refusal }
 {
     match refusal {
@@ -103,7 +103,7 @@ pub fn fault_of(refusal: Option<Refusal>) -> ReplayFault
 }
 
 /// Steps through the events, the first of which stands in the line after this one.
-pub fn run_events<S: Service>(
+fn run_events<S: Service>(
     alloc: Global,
     world: &mut AnyWorld<S>,
     events: &[Event],

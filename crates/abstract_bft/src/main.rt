@@ -6,12 +6,24 @@
 //! of standard output or standard error, 7 past a limit, and 9 where memory was refused.
 #![tactic(auto)]
 
+mod standard;
+
 use ab_command::{refuse_memory, run};
 use ab_io::{MemClock, MemLink};
-use ab_standard::{StdSink, StdSource, words};
+use standard::{StdSink, StdSource};
 use std::alloc::{AllocError, Global};
+use std::env::{self, Env};
 use std::io;
 use std::process::ExitCode;
+
+/// The words after the program's name.
+fn words(rt: &(impl Env + AllocGlobal)) -> io::Result<Vec<String>> {
+    let mut all = Vec::new(rt.alloc());
+    for word in env::args(rt)?.skip(1) {
+        all.push(word)?;
+    }
+    Ok(all)
+}
 
 /// The words as texts.
 fn texts<'a>(alloc: Global, words: &'a [String]) -> Result<Vec<&'a str>, AllocError> {
