@@ -1,0 +1,5 @@
+-- The lemmas that this crate's answers cite.
+pub mod SealLemmas
+pub mod MemberLemmas
+pub mod LocalLemmas
+pub mod JointLemmas
