@@ -6,9 +6,8 @@ use Rattle.std.specs.Option.{option_map}
 use Rattle.std.proofs.lemmas.Bool.{and_parts, leb-true, ltb-true}
 use Rattle.std.proofs.lemmas.List.Elements.{All-nil}
 use Rattle.arrayvec.specs.ArrayVec.{ArrayVec}
-use Rattle.std.proofs.Math.ListN.{get_or-set_same, length-set}
+use Rattle.std.proofs.lemmas.List.{get_or-set_same, length-map, length-set}
 use Rattle.std.proofs.lemmas.Option.{slice_get-get_or}
-use Rattle.std.proofs.lemmas.List.{length-map}
 use Rattle.ab_form.specs.Formats.{IsBytes}
 use Rattle.ab_num.specs.declared.cluster.Cluster.{Cluster}
 use Rattle.ab_num.specs.declared.memory.OutOfMemory.{OutOfMemory}
@@ -66,7 +65,7 @@ sig_fits Ten sig long = let e : length sig ≡ 2508 = long in rw e refl
 own_there : (k : PartyKeys) (r : ℕ) (s : Secret) → k.me ≡ Replica r → k.secret ≡ Some s → r < length k.publics → slice_get (credentials_in k).keys r ≡ Some (own_key k.lms s)
 own_there k r s me secret lt =
     let publics : List SignKey = map key.Public k.publics in
-    let lt' : r < length publics = subst (λ n. r < n) (sym (length-map key.Public k.publics)) lt in
+    let lt' : r < length publics = subst (λ n. r < n) (sym (length-map k.publics key.Public)) lt in
     let keys : List SignKey = slice_set publics r (own_key k.lms s) in
     let in_keys : r < length keys = subst (λ n. r < n) (sym (length-set publics r (own_key k.lms s))) lt' in
     ap (λ p. slice_get (with_own p (option_map (own_key k.lms) k.secret) publics) r) me
