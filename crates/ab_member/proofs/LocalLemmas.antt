@@ -1,10 +1,7 @@
 -- One party over its events.
 use Rattle.std.proofs.Common.{◌≡◌, ℕ, List, [], ◌∷◌, ◌++◌, map, reverse, Option, None, Some, refl, sym, ap, ◌∙◌, append_assoc, append-nil}
-use Rattle.std.specs.List.{cons_option, filter}
-use Rattle.std.proofs.lemmas.List.{map-append}
-use Rattle.std.proofs.lemmas.List.Elements.{filter-append}
-use Rattle.std.proofs.lemmas.Grind.{reverse_onto}
-use Rattle.ab_keys.specs.Keys.{is_party}
+use Rattle.std.specs.List.{cons_option}
+use Rattle.std.proofs.lemmas.Grind.{flat_map-append, reverse_onto}
 use Rattle.ab_keys.specs.Rings.{Ring}
 use Rattle.ab_msg.specs.declared.message.Out.{Out}
 use Rattle.ab_msg.specs.Pens.{Pen}
@@ -20,15 +17,13 @@ use Rattle.ab_client.specs.Clients.{alone}
 use Rattle.ab_replica.specs.Sites.{IsSetupOf, Site, setup_of}
 use Rattle.ab_loop.specs.Cores.{Event}
 use Rattle.ab_loop.specs.Folds.{core_after, sends_in}
-use Rattle.ab_member.specs.Credentials.{addressed, sealed_all, sealed_by}
+use Rattle.ab_member.specs.Credentials.{sealed_all, sealed_for}
 use Rattle.ab_member.specs.Replicas.{ReplicaMember, call_of, own_setup, replica_after, replica_may_take, replica_rules, replica_step, replica_takes}
 use Rattle.ab_member.specs.Clients.{ClientMember, client_after, client_may_take, client_rules, client_step, client_takes, cue_of}
 use Rattle.ab_member.specs.Locality.{IsLocalClient, IsLocalReplica, StartsIn, asked_locally, calls_in, cues_in, sent_locally}
 
 sealed_append : (ring : Ring) (a b : List Out) → sealed_all ring (a ++ b) ≡ sealed_all ring a ++ sealed_all ring b
-sealed_append ring a b =
-    ap (map (sealed_by ring)) (filter-append (λ (o : Out). is_party ring.f ring.clients o.to) a b)
-    ∙ map-append (sealed_by ring) (addressed ring a) (addressed ring b)
+sealed_append ring a b = flat_map-append (sealed_for ring) a b
 
 -- one more at the end of what was reversed
 turned : {X : Type 0} (x : X) (xs before : List X) → reverse (x ∷ xs) ++ before ≡ reverse xs ++ (x ∷ before)

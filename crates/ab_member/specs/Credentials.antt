@@ -1,6 +1,6 @@
 -- What a party of a cluster opens and seals by.
-use Rattle.std.specs.Prelude.{◌≡◌, ℕ, nat_lt, if◌then◌else◌, List, map, Option, None, Some, slice_set, IsTrue}
-use Rattle.std.specs.List.{filter, list_all}
+use Rattle.std.specs.Prelude.{◌≡◌, ℕ, nat_lt, if◌then◌else◌, List, [], ◌∷◌, map, Option, None, Some, slice_set, IsTrue}
+use Rattle.std.specs.List.{flat_map, list_all}
 use Rattle.std.specs.Option.{option_map}
 use Rattle.std.specs.Result.{result_ok}
 use Rattle.ab_num.specs.declared.cluster.Cluster.{Cluster}
@@ -60,9 +60,9 @@ opened c bytes = if list_all (λ b. nat_lt b 256) bytes then result_ok (opening 
 abbrev pub sealed_by : Ring → Out → Sealed
 sealed_by ring o = record { to = o.to; bytes = sealed ring o }
 
--- those that go to parties of the cluster
-abbrev pub addressed : Ring → List Out → List Out
-addressed ring outs = filter (λ o. is_party ring.f ring.clients o.to) outs
+-- to a party of the cluster; to no other is anything sent
+abbrev pub sealed_for : Ring → Out → List Sealed
+sealed_for ring o = if is_party ring.f ring.clients o.to then sealed_by ring o ∷ [] else []
 
 abbrev pub sealed_all : Ring → List Out → List Sealed
-sealed_all ring outs = map (sealed_by ring) (addressed ring outs)
+sealed_all ring outs = flat_map (sealed_for ring) outs

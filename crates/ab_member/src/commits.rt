@@ -29,8 +29,9 @@ pub(crate) fn commit_in(seen: &[Seen]) -> Option<Commit>
     ensures { result ≡ commit_in seen.now }
 {
     for s in seen {
-        if let Some(commit) = commit_of(s) {
-            return Some(commit);
+        match commit_of(s) {
+            Some(commit) => return Some(commit),
+            None => {}
         }
     }
     None

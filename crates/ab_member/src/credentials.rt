@@ -1,6 +1,6 @@
 //! What a party of a cluster opens and seals by.
 
-ghost use Rattle.std.specs.Prelude.{◌≡◌, ◌<◌, ◌+◌, ◌*◌, All, IfOk, IsTrue, MatchOption, None, Some, map};
+ghost use Rattle.std.specs.Prelude.{◌≡◌, ◌<◌, ◌+◌, ◌*◌, ◌++◌, All, IfOk, OnOk, IsTrue, MatchOption, None, Some, map};
 ghost use Rattle.std.specs.Option.{option_map};
 ghost use Rattle.ab_keys.specs.Keys.{is_party};
 ghost use Rattle.ab_key_text.specs.Keys.{IsWhole};
@@ -9,7 +9,7 @@ ghost use Rattle.ab_sign.specs.declared.key.SignKey.TheVariants.{Public};
 ghost use Rattle.ab_wire.specs.Views.{IsReceived, message};
 ghost use Rattle.ab_run.specs.Forms.{IsDraftOf};
 ghost use Rattle.ab_loop.specs.Cores.{IsSendable};
-ghost use Rattle.ab_member.specs.Credentials.{IsPartyRing, credentials_in, opened, own_key, sealed_all, sealed_by, with_own};
+ghost use Rattle.ab_member.specs.Credentials.{IsPartyRing, credentials_in, opened, own_key, sealed_all, sealed_by, sealed_for, with_own};
 
 use ab_key_text::{PartyKeys, Secret};
 use ab_keys::{KeyRing, is_party};
@@ -130,7 +130,22 @@ impl Credentials {
         Ok(Sealed::new(out.to, bytes))
     }
 
-    /// Those of these messages that go to parties of the cluster, each with the tags of its maker.
+    /// Adds a message, with the tags of its maker, if it goes to a party of the cluster.
+    fn add(&self, alloc: Global, messages: &mut Vec<Sealed>, out: &Out) -> Result<(), OutOfMemory>
+        requires ring { IsPartyRing self.now.ring }
+        requires draft { IsDraftOf self.now.ring.f self.now.ring.me out.now }
+        requires sendable { All IsSendable messages.old.items }
+        ensures sealed { OnOk result (messages.new.items ≡ messages.old.items ++ sealed_for self.now.ring out.now) }
+        ensures sendable { OnOk result (All IsSendable messages.new.items) }
+    {
+        if is_party(self.ring.cluster(), out.to) {
+            let message = self.seal(alloc, out)?;
+            messages.push(message)?;
+        }
+        Ok(())
+    }
+
+    /// These messages to parties of the cluster, each with the tags of its maker.
     pub(crate) fn seal_all(&self, alloc: Global, outs: &[Out]) -> Result<Vec<Sealed>, OutOfMemory>
         requires ring { IsPartyRing self.now.ring }
         requires drafts { All (IsDraftOf self.now.ring.f self.now.ring.me) outs.now }
@@ -139,9 +154,7 @@ impl Credentials {
     {
         let mut messages = Vec::with_capacity(alloc, outs.len())?;
         for out in outs {
-            if is_party(self.ring.cluster(), out.to) {
-                messages.push(self.seal(alloc, out)?)?;
-            }
+            self.add(alloc, &mut messages, out)?;
         }
         Ok(messages)
     }
