@@ -16,6 +16,7 @@ use Rattle.ab_num.specs.declared.party.Party.TheVariants.{Replica, Client}
 use Rattle.ab_num.specs.declared.plan.Height.{Height}
 use Rattle.ab_num.specs.declared.plan.Height.TheVariants.{Five, Ten}
 use Rattle.ab_num.specs.declared.plan.Kind.{Kind}
+use Rattle.ab_num.specs.Bounds.{IsInBounds}
 use Rattle.ab_lms.specs.Nodes.{levels}
 use Rattle.ab_lms.proofs.Signed.{length-lms_signature}
 use Rattle.ab_keys.specs.Keys.{is_party}
@@ -37,11 +38,11 @@ use Rattle.ab_abs.specs.Promises.{ServesAll}
 use Rattle.ab_abs.proofs.Certified.{all_of}
 use Rattle.ab_run.specs.Forms.{IsDraftOf, IsWrittenRep, IsWrittenSetup}
 use Rattle.ab_run.specs.Replicas.{due, is_spent}
-use Rattle.ab_run.specs.Runs.{first_rep}
+use Rattle.ab_run.specs.Runs.{first_cli}
 use Rattle.ab_run.specs.Local.{after_turns, rep_sends}
 use Rattle.ab_run.proofs.Written.{call_goes, first_written}
 use Rattle.ab_replica.specs.declared.effects.Effects.{Effects}
-use Rattle.ab_replica.specs.Sites.{IsPenAfter, IsPenOf, IsSetupOf, Site}
+use Rattle.ab_replica.specs.Sites.{IsPenAfter, IsPenOf, IsSetupOf, Site, first_site}
 use Rattle.ab_replica.specs.Doings.{Hears, entries_in}
 use Rattle.ab_member.specs.declared.given.Given.{Given}
 use Rattle.ab_member.specs.declared.given.Given.TheVariants as given
@@ -53,7 +54,7 @@ use Rattle.ab_run.specs.declared.phase.Phase.TheVariants.{Idle, Waiting, Panicki
 use Rattle.ab_run.specs.Clients.{Cli, Move, asking}
 use Rattle.ab_run.specs.Local.{Cue, after_moves, marks_in_moves, sent_in_moves}
 use Rattle.ab_client.specs.Clients.{Seat, after, alone, marks, sends, told}
-use Rattle.ab_member.specs.Clients.{ClientMember, Does, Heard, IsClientMember, client_after, is_command}
+use Rattle.ab_member.specs.Clients.{ClientMember, Does, Heard, IsClientMember, client_after, first_client, is_command}
 
 -- ---- keys
 
@@ -213,3 +214,41 @@ command_fits s command is =
     let a = and_parts (nat_lt s.stamp (2 ^ 63)) (nat_le 1 (length command) && nat_le (length command) 128) is in
     let b = and_parts (nat_le 1 (length command)) (nat_le (length command) 128) a.1 in
     (ltb-true s.stamp (2 ^ 63) a.0, leb-true 1 (length command) b.0, leb-true (length command) 128 b.1)
+
+-- ---- before the first event
+
+ring_of_party : (k : PartyKeys) (c : Cluster) → IsClusterOf c k → IsTrue (is_party k.f k.clients k.me) → IsPartyRing (credentials_in k).ring
+ring_of_party k c of party = record {
+  bounds = subst (λ f. IsInBounds f k.clients) of.f (subst (λ n. IsInBounds c.f n) of.clients c.in_bounds);
+  party = party;
+}
+
+module _ {P : Type 0} (proto : Proto P) (serves : Kind → Bool) (form : KeepsForm proto serves) where
+  pub first_replica_is : (k : PartyKeys) (c : Cluster) (r : ℕ) → IsClusterOf c k → IsWhole k → k.me ≡ Replica r → IsTrue (is_party k.f k.clients k.me) → ServesAll serves c
+      → IsReplicaMember proto serves (first_replica proto c k r)
+  first_replica_is k c r of whole me party served =
+      let m : ReplicaMember P = first_replica proto c k r in
+      let signs : (s : Content) (n : ℕ) → IsSig (signature_of m.credentials.keys r n (spell_content s)) = whole_signs k r whole me party in
+      let setup : IsWrittenSetup (own_setup m) serves = record { serves_all = served; signs = λ q s n lt. signs s n } in
+      let lt : r < 3 * k.f + 1 = ltb-true r (3 * k.f + 1) (subst (λ p. IsTrue (is_party k.f k.clients p)) me party) in
+      record {
+        ring = ring_of_party k c of party;
+        own = me;
+        f = sym of.f;
+        signatures = refl;
+        signs = signs;
+        used = omega arith;
+        serves_all = served;
+        written = first_written (own_setup m) proto form setup r (subst (λ f. r < 3 * f + 1) (sym of.f) lt);
+      }
+
+  -- what was made so is it
+  pub replica_made : (k : PartyKeys) (c : Cluster) (r signatures : ℕ) (site : Site P) (credentials : Credentials) → credentials ≡ credentials_in k → signatures ≡ leaves_of credentials.keys r → site ≡ first_site proto c r signatures
+      → ◌≡◌ {A = ReplicaMember P} (record { site = site; credentials = credentials }) (first_replica proto c k r)
+  replica_made k c r signatures site credentials keys many is =
+      let same : site ≡ first_site proto c r (leaves_of (credentials_in k).keys r) = is ∙ ap (first_site proto c r) (many ∙ ap (λ x. leaves_of x.keys r) keys) in
+      λ j. record { site = same j; credentials = keys j }
+
+pub client_made : (k : PartyKeys) (c : Cluster) (n : ℕ) (seat : Seat) (credentials : Credentials) → credentials ≡ credentials_in k → seat ≡ record { me = n; cluster = c; cli = first_cli }
+    → ◌≡◌ {A = ClientMember} (record { seat = seat; credentials = credentials }) (first_client c k n)
+client_made k c n seat credentials keys is = λ j. record { seat = is j; credentials = keys j }
