@@ -5,3 +5,4 @@ pub mod WritingLemmas
 pub mod SpelledLemmas
 pub mod RoundLemmas
 pub mod FeedLemmas
+pub mod WholeLemmas

@@ -60,3 +60,8 @@ pub record IsPartyKeys (k : PartyKeys) : Type 0 where
   pub keys : AllByRecursion (λ x. IsBytes 32 x.to × IsBytes 32 x.from) k.peers
   pub public_of_each : length k.publics ≡ 3 * k.f + 1
   pub publics : AllByRecursion (IsBytes 56) k.publics
+
+-- a replica has its secret, and there is a public key of each replica
+pub record IsWhole (k : PartyKeys) : Type 0 where
+  pub secret : (r : ℕ) → k.me ≡ Replica r → (s : Secret) × (k.secret ≡ Some s)
+  pub public_of_each : length k.publics ≡ 3 * k.f + 1

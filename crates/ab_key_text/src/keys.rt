@@ -1,6 +1,7 @@
 //! What one party of a cluster keeps.
 
 ghost use Rattle.std.specs.Prelude.{◌≡◌, IfOk, IsTrue};
+ghost use Rattle.std.specs.Option.{option_copied};
 ghost use Rattle.ab_keys.specs.Keys.{is_party};
 ghost use Rattle.ab_key_text.specs.Keys.{ring_in};
 
@@ -76,6 +77,20 @@ impl PartyKeys {
         ensures party { IsTrue (is_party self.now.f self.now.clients result) }
     {
         self.me
+    }
+
+    /// A replica's own secret.
+    pub fn secret(&self) -> Option<&Secret>
+        ensures { option_copied result ≡ self.now.secret }
+    {
+        self.secret.as_ref()
+    }
+
+    /// The public keys of the replicas, from replica 0 on.
+    pub fn publics(&self) -> &[[u8; 56]]
+        ensures { result.now ≡ self.now.publics }
+    {
+        self.publics.as_slice()
     }
 
     /// The key ring.

@@ -6,7 +6,7 @@ use std::marker::Model;
 
 /// The name of a signer's tree, and the seed of its private values.
 #[derive(Drop)]
-pub(crate) struct Secret {
+pub struct Secret {
     id: [u8; 16],
     seed: [u8; 32],
 }
@@ -28,14 +28,14 @@ impl Secret {
     }
 
     /// The name of the tree.
-    pub(crate) fn id(&self) -> [u8; 16]
+    pub fn id(&self) -> [u8; 16]
         ensures { result ≡ self.now.id }
     {
         self.id
     }
 
     /// The seed of the private values.
-    pub(crate) fn seed(&self) -> [u8; 32]
+    pub fn seed(&self) -> [u8; 32]
         ensures { result ≡ self.now.seed }
     {
         self.seed

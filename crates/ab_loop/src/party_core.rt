@@ -76,20 +76,21 @@ pub struct Reaction {
 
 /// One party's state, as functions of what comes to it.
 pub trait PartyCore: Sized + Drop {
-    ghost use Rattle.std.specs.Prelude.{◌≡◌, All, IfOk, OnErr};
+    ghost use Rattle.std.specs.Prelude.{◌≡◌, ◌⊎◌, All, IfOk, OnErr};
     ghost use Rattle.ab_loop.specs.Cores.{Rules, IsSendable, event_of};
 
     /// What each event leaves, sends and shows.
     ghost rules: { Rules Self };
 
-    /// Handles an event. After an `Err` it is as before.
+    /// Handles an event. After an `Err` it is as before, or where the event leads it: then what it
+    /// sends is lost, as a datagram may be.
     fn step(&mut self, alloc: Global, input: &Input<'_>) -> Result<Reaction, OutOfMemory>
         ensures after { IfOk result (λ e. self.new ≡ (rules.step self.old (event_of input.now)).after) }
         ensures sends { IfOk result (λ e. e.sends.items ≡ (rules.step self.old (event_of input.now)).sends) }
         ensures commit { IfOk result (λ e. e.commit ≡ (rules.step self.old (event_of input.now)).commit) }
         ensures spent { IfOk result (λ e. e.spent ≡ (rules.step self.old (event_of input.now)).spent) }
         ensures sendable { IfOk result (λ e. All IsSendable e.sends.items) }
-        ensures err { OnErr result (self.new ≡ self.old) };
+        ensures err { OnErr result ((self.new ≡ self.old) ⊎ (self.new ≡ (rules.step self.old (event_of input.now)).after)) };
 
     /// None where its timer is off; else the timer runs anew whenever the number changes.
     fn timer(&self) -> Option<u64>

@@ -1,0 +1,88 @@
+-- What is read of a node's text is whole, and so is what a seed gives.
+use Rattle.std.proofs.Common.{◌≡◌, ℕ, ◌+◌, ◌*◌, List, [], ◌∷◌, ◌++◌, map, Bool, true, false, Option, None, Some, Result, Ok, Err, codes, length, refl, sym, ap, ◌∙◌, subst, arith, if◌then◌else◌, length-append}
+use Rattle.std.specs.List.{range_with_len}
+use Rattle.std.specs.Str.{bytes_eq}
+use Rattle.std.proofs.lemmas.List.FromFn.{length-map-range_with_len}
+use Rattle.ab_num.specs.declared.party.Party.{Party}
+use Rattle.ab_num.specs.declared.party.Party.TheVariants.{Replica, Client}
+use Rattle.ab_keys.specs.Rings.{Peer}
+use Rattle.ab_key_text.specs.declared.fault.NodeFault.{NodeFault}
+use Rattle.ab_key_text.specs.declared.fault.NodeFault.TheVariants.{BadLine, NoEnd}
+use Rattle.ab_num.specs.declared.plan.Plan.{Plan}
+use Rattle.ab_num.specs.declared.plan.ServiceName.{ServiceName}
+use Rattle.ab_num.specs.declared.plan.Height.{Height}
+use Rattle.ab_key_text.specs.Derived.{keys_of, own_secret, public_of, secret_of}
+use Rattle.ab_key_text.specs.Keys.{Secret, PartyKeys, IsWhole, peers_in, replicas}
+use Rattle.ab_key_text.specs.Lines.{◌>>=◌, found_at, line_at, key_in}
+use Rattle.ab_key_text.specs.Nodes.{Node, command_in, commands_at, node_in, node_of, with_command}
+use Rattle.ab_key_text.specs.Reading.{Read, Setting, ended, keys_after, keys_at, peers_at, publics_at, put_together, secret_at, secret_in, setting_at}
+
+abbrev Lines : Type 0
+Lines = List (List ℕ)
+
+-- what came of two readings in a row came of each
+bound : {A B : Type 0} (r : Result A NodeFault) (f : A → Result B NodeFault) (b : B) → (r >>= f) ≡ Ok b → (a : A) × (r ≡ Ok a) × (f a ≡ Ok b)
+bound (Ok a) f b e = (a, refl, e)
+bound (Err fault) f b e = let T = Unit {0} in cc
+
+ended_keeps : (node : Node) (n : ℕ) (ls : Lines) (out : Node) → ended node n ls ≡ Ok out → out.keys ≡ node.keys
+ended_keeps node n [] out e = cc
+ended_keeps node n (l ∷ ls) out e = cc
+
+-- the lines of commands leave the keys
+commands_keep : (ls : Lines) (node : Node) (n : ℕ) (out : Node) → commands_at node n ls ≡ Ok out → out.keys ≡ node.keys
+commands_keep [] node n out e = cc
+commands_keep (l ∷ ls) node n out e = go (λ x. commands_keep ls (with_command node x.0) (n + 1) out) (bytes_eq l (codes "end")) e where
+  go : ((x : List ℕ × Lines) → commands_at (with_command node x.0) (n + 1) ls ≡ Ok out → out.keys ≡ node.keys)
+      → (b : Bool) → (if b then ended node (n + 1) ls else found_at n ls (command_in node.keys.me l) >>= λ x. commands_at (with_command node x.0) (n + 1) ls) ≡ Ok out → out.keys ≡ node.keys
+  go rest true was = ended_keeps node (n + 1) ls out was
+  go rest false was =
+      let x = bound (found_at n ls (command_in node.keys.me l)) (λ (x : List ℕ × Lines). commands_at (with_command node x.0) (n + 1) ls) out was in
+      rest x.0 x.2
+
+secret_there : (r : ℕ) (ls : Lines) (x : Read (Option Secret)) → secret_at (Replica r) ls ≡ Ok x → (s : Secret) × (x.value ≡ Some s)
+secret_there r ls x e =
+    let secret = bound (line_at secret_in 8 ls) (λ (y : Secret × Lines). Ok (record { value = Some y.0; next = 9; rest = y.1 })) x e in (
+      secret.0.0,
+      let is : ◌≡◌ {A = Result (Read (Option Secret)) NodeFault} (Ok (record { value = Some secret.0.0; next = 9; rest = secret.0.1 })) (Ok x) = secret.2 in
+          let same : x ≡ record { value = Some secret.0.0; next = 9; rest = secret.0.1 } = cc in ap (λ (y : Read (Option Secret)). y.value) same,
+    )
+
+publics_many : (ps : List Party) (done : Lines) (n : ℕ) (ls : Lines) (x : Read Lines) → publics_at ps done n ls ≡ Ok x → length x.value ≡ length done + length ps
+publics_many [] done n ls x e =
+    let same : x ≡ record { value = done; next = n; rest = ls } = cc in
+    ap (λ (y : Read Lines). length y.value) same ∙ omega arith
+publics_many (p ∷ ps) done n ls x e =
+    let key = bound (line_at (key_in (codes "public ") p 56) n ls) (λ (y : List ℕ × Lines). publics_at ps (done ++ y.0 ∷ []) (n + 1) y.1) x e in
+    let rest = publics_many ps (done ++ key.0.0 ∷ []) (n + 1) key.0.1 x key.2 in
+    omega (arith, rest, length-append done (key.0.0 ∷ []))
+
+many_replicas : (f : ℕ) → length (replicas f) ≡ 3 * f + 1
+many_replicas f = length-map-range_with_len Replica 0 (3 * f + 1)
+
+keys_whole : (s : Setting) (ls : Lines) (x : Read PartyKeys) → keys_after s ls ≡ Ok x → IsWhole x.value
+unfolding keys_after
+keys_whole s ls x e =
+    let secret = bound (secret_at s.me ls) (λ (a : Read (Option Secret)). peers_at (peers_in s.f s.clients s.me) [] a.next a.rest >>= λ b. publics_at (replicas s.f) [] b.next b.rest >>= λ c. Ok (record { value = put_together s a.value b.value c.value; next = c.next; rest = c.rest })) x e in
+    let peers = bound (peers_at (peers_in s.f s.clients s.me) [] secret.0.next secret.0.rest) (λ (b : Read (List Peer)). publics_at (replicas s.f) [] b.next b.rest >>= λ c. Ok (record { value = put_together s secret.0.value b.value c.value; next = c.next; rest = c.rest })) x secret.2 in
+    let publics = bound (publics_at (replicas s.f) [] peers.0.next peers.0.rest) (λ (c : Read Lines). Ok (record { value = put_together s secret.0.value peers.0.value c.value; next = c.next; rest = c.rest })) x peers.2 in
+    let made : Read PartyKeys = record { value = put_together s secret.0.value peers.0.value publics.0.value; next = publics.0.next; rest = publics.0.rest } in
+    let is : ◌≡◌ {A = Result (Read PartyKeys) NodeFault} (Ok made) (Ok x) = publics.2 in
+    let same : made ≡ x = cc in
+    subst (λ (y : Read PartyKeys). IsWhole y.value) same (record {
+      secret = λ r me. secret_there r ls secret.0 (subst (λ (p : Party). secret_at p ls ≡ Ok secret.0) me secret.1);
+      public_of_each = publics_many (replicas s.f) [] peers.0.next peers.0.rest publics.0 publics.1 ∙ let many = many_replicas s.f in omega (arith, many);
+    })
+
+pub read_whole : (ls : Lines) (n : Node) → node_in ls ≡ Ok n → IsWhole n.keys
+unfolding node_in keys_at
+read_whole ls n e =
+    let keys = bound (setting_at ls >>= λ s. keys_after s.0 s.1) (λ (k : Read PartyKeys). commands_at (node_of k.value []) k.next k.rest) n e in
+    let setting = bound (setting_at ls) (λ (s : Setting × Lines). keys_after s.0 s.1) keys.0 keys.1 in
+    subst IsWhole (sym (commands_keep keys.0.rest (node_of keys.0.value []) keys.0.next n keys.2)) (keys_whole setting.0.0 setting.0.1 keys.0 setting.2)
+
+pub derived_whole : (f clients : ℕ) (plan : Plan) (service : ServiceName) (lms : Height) (seed : List ℕ) (me : Party) → IsWhole (keys_of f clients plan service lms seed me)
+derived_whole f clients plan service lms seed me = record {
+  secret = λ r is. (secret_of seed r, ap (own_secret seed) is);
+  public_of_each = length-map-range_with_len (public_of lms seed) 0 (3 * f + 1);
+}

@@ -1,0 +1,6 @@
+-- The lemmas that this crate's answers cite.
+pub mod SealLemmas
+pub mod MemberLemmas
+pub mod CommitLemmas
+pub mod LocalLemmas
+pub mod JointLemmas

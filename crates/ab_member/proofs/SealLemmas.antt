@@ -1,0 +1,58 @@
+-- What is opened and sealed.
+use Rattle.std.proofs.Common.{◌≡◌, ℕ, suc, ◌+◌, ◌*◌, ◌<◌, ◌≤◌, Bool, true, false, IsTrue, List, [], ◌∷◌, ◌++◌, length, take, get_or, refl, ap, sym, ◌∙◌, arith, append-nil, length-append}
+use Rattle.std.specs.Prelude.{nat_lt, ◌&&◌, None, if◌then◌else◌}
+use Rattle.std.specs.List.{list_all}
+use Rattle.std.specs.Result.{result_ok}
+use Rattle.std.proofs.lemmas.List.{take_more}
+use Rattle.std.proofs.lemmas.Bool.{ltb-true}
+use Rattle.std.proofs.lemmas.Grind.{flat_map-append}
+use Rattle.ab_form.specs.Formats.{IsBytes, u8_bytes}
+use Rattle.ab_form.proofs.PartLemmas.{length-u8_bytes}
+use Rattle.ab_num.specs.declared.party.Party.{Party}
+use Rattle.ab_num.specs.declared.party.Party.TheVariants.{Replica, Client}
+use Rattle.ab_keys.specs.Keys.{is_party}
+use Rattle.ab_keys.specs.Rings.{Ring}
+use Rattle.ab_msg.specs.declared.message.Out.{Out}
+use Rattle.ab_msg.specs.Fields.{IsParty}
+use Rattle.ab_msg.specs.Messages.{code_of, spell_body}
+use Rattle.ab_open.specs.Opening.{opening}
+use Rattle.ab_sign.specs.Judges.{judge_of}
+use Rattle.ab_seal.specs.Sealing.{sealed, tagged}
+use Rattle.ab_loop.specs.Cores.{IsSendable}
+use Rattle.ab_member.specs.Credentials.{Credentials, IsPartyRing, opened, sealed_all, sealed_by, sealed_for}
+
+-- ---- opening
+
+is_byte : (b : ℕ) → b < 256 → nat_lt b 256 ≡ true
+is_byte b lt = search arith
+
+all_bytes : (bytes : List ℕ) → IsBytes bytes → list_all (λ b. nat_lt b 256) bytes ≡ true
+all_bytes [] fits = refl
+all_bytes (b ∷ bytes) fits = (λ j. is_byte b (fits 0) j && all_bytes bytes (λ i. fits (suc i)) j)
+
+pub opened_is : (c : Credentials) (bytes : List ℕ) → IsBytes bytes → opened c bytes ≡ result_ok (opening (judge_of c.ring c.keys) c.ring.f c.ring.clients c.ring.me bytes)
+opened_is c bytes fits = ap (λ b. if b then result_ok (opening (judge_of c.ring c.keys) c.ring.f c.ring.clients c.ring.me bytes) else None) (all_bytes bytes fits)
+
+-- ---- sealing
+
+party_fits : (ring : Ring) (p : Party) → IsPartyRing ring → IsTrue (is_party ring.f ring.clients p) → IsParty p
+party_fits ring (Replica r) is h = (omega arith, omega (arith, ltb-true r (3 * ring.f + 1) h, is.bounds.few_faulty))
+party_fits ring (Client c) is h = (omega arith, omega (arith, ltb-true c ring.clients h, is.bounds.few_clients))
+
+-- a sealed message to a party can be sent
+pub can_send : (ring : Ring) (o : Out) → IsPartyRing ring → length (sealed ring o) ≤ 4194304 → IsTrue (is_party ring.f ring.clients o.to) → IsSendable (sealed_by ring o)
+can_send ring o is few to =
+    let m = tagged ring o.to o.msg in
+    record {
+      to = party_fits ring o.to is to;
+      some = omega (arith, length-append (u8_bytes (code_of m)) (spell_body m), length-u8_bytes (code_of m));
+      few = few;
+    }
+
+-- one more of these
+pub sealed_more : (ring : Ring) (outs : List Out) (i : ℕ) (o : Out) → i < length outs → o ≡ get_or outs i o
+    → sealed_all ring (take (i + 1) outs) ≡ sealed_all ring (take i outs) ++ sealed_for ring o
+sealed_more ring outs i o lt is =
+    ap (sealed_all ring) (take_more outs i o lt ∙ ap (λ (x : Out). take i outs ++ x ∷ []) (sym is))
+    ∙ flat_map-append (sealed_for ring) (take i outs) (o ∷ [])
+    ∙ ap (λ l. sealed_all ring (take i outs) ++ l) (append-nil (sealed_for ring o))

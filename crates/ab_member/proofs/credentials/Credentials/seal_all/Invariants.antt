@@ -1,0 +1,7 @@
+use Rattle.std.proofs.Common.{◌≡◌, All, take}
+use Rattle.ab_loop.specs.Cores.{IsSendable}
+use Rattle.ab_member.specs.Credentials.{sealed_all}
+use Rattle.ab_member.proofs.credentials.Credentials.seal_all.Given as goal
+
+abbrev pub invariant-loop-out : goal.invariant-loop-out
+invariant-loop-out l = (l.messages.items ≡ sealed_all l.self.ring (take l.out-index l.outs)) × All IsSendable l.messages.items

@@ -1,0 +1,14 @@
+//! One party of a cluster, a replica or a client, with its keys, as a core that takes bytes and sends
+//! bytes.
+#![tactic(auto)]
+
+mod client_member;
+mod commits;
+mod credentials;
+mod given;
+mod laws;
+mod replica_member;
+
+pub use client_member::ClientMember;
+pub use laws::{clients_are_local, members_make_a_run, replicas_are_local};
+pub use replica_member::ReplicaMember;
