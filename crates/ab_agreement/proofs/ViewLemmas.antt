@@ -1,23 +1,22 @@
 -- With each view that a replica leaves, its view rises.
-use Rattle.std.proofs.Common.{◌≡◌, ℕ, suc, pred, ◌+◌, ◌*◌, ◌<◌, ◌≤◌, Option, Some, None, List, [], ◌∷◌, ◌++◌, length, map, refl, sym, ap, ◌∙◌, subst, inl, inr, arith}
-use Rattle.std.specs.Prelude.{Contains, count_by, cond, slice_get}
+use Rattle.std.proofs.Common.{◌≡◌, ℕ, suc, pred, ◌+◌, ◌*◌, ◌≤◌, Option, Some, None, List, [], ◌∷◌, ◌++◌, length, map, refl, ap, ◌∙◌, inl, inr, arith}
+use Rattle.std.specs.Prelude.{Contains, cond, slice_get}
 use Rattle.std.specs.Str.{bytes_eq}
 use Rattle.std.proofs.lemmas.Grind.{flat_map-append}
-use Rattle.std.proofs.lemmas.List.{append-nil, map-append}
+use Rattle.std.proofs.lemmas.List.{map-append}
 use Rattle.std.proofs.lemmas.List.Sums.{sum_by-append}
 use Rattle.ab_msg.specs.declared.value.Value.{Value}
 use Rattle.ab_msg.specs.Slots.{slot_digest}
 use Rattle.ab_abs.specs.Values.{goes}
 use Rattle.ab_abs.proofs.Counting.{Contains-head, Contains-tail}
-use Rattle.ab_lock.specs.Steps.{Change, accepts, signs, prepares, changes, enters, executes, State, after}
+use Rattle.ab_lock.specs.Steps.{accepts, signs, prepares, changes, enters, executes, State, after}
 use Rattle.ab_lock.specs.ViewChanges.{enter, leave}
-use Rattle.ab_lock.specs.Events.{Peer, state_by, settles_by, peer_by, left_peer, entered_peer, accept, accepted_peer}
+use Rattle.ab_lock.specs.Events.{state_by, settles_by, accept}
 use Rattle.ab_lock.proofs.VoteLemmas.{IsInView, settled_in_view}
 use Rattle.ab_order.specs.Inputs.{Input}
 use Rattle.ab_pbft.specs.Traces.{OrderStep}
-use Rattle.ab_pbft.specs.Rules.{Doing, takes_step, offers, leads, oldest_first, Seat, Work, core_of, with_peer, settle, leave_to, work, idle, Pbft, done_by}
-use Rattle.ab_pbft.proofs.RuleInduction.{IsSpoken, is_spoken, MayEnter, IsKept, work_kept}
-use Rattle.ab_slots.specs.declared.deed.Deed.{Deed}
+use Rattle.ab_pbft.specs.Rules.{Doing, takes_step, offers, leads, oldest_first, Seat, Work, core_of, settle, idle, Pbft, done_by}
+use Rattle.ab_pbft.proofs.RuleInduction.{IsSpoken, is_spoken, IsKept, work_kept}
 use Rattle.ab_slots.specs.Deeds.{prepared_in, deeds_of, told_in}
 use Rattle.ab_shelf.specs.Signing.{is_leaving, leavings}
 
