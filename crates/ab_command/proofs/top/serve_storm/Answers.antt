@@ -31,3 +31,11 @@ returns-in-Err-Failed g c =
     let front = subst (λ (bytes : List ℕ). AppendsFront old new bytes) c.as_slice.ensures.value c.in-Err-Failed.ensures.front in
     let rose : Rose (g.O.Sink.faults c.args.out.now) (g.O.Sink.faults c.write_all.new.sink) = rw c.in-Err-Failed.field-0-is at c.in-Err-Failed.ensures.cause in
     record { cause = λ words left read_before read_now asks. write_settled _ c.say-in-Err-Failed.result c.say-in-Err-Failed.ensures.status rose (inr (inr (inr (c.args.asked.now, stormed.summary.items, stormed.held, asks, c.in-Ok.ensures.ok, front)))) }
+
+pub returns : goal.returns
+returns g c =
+    let old = g.O.Sink.contents c.args.out.now in
+    let new = g.O.Sink.contents c.write_all.new.sink in
+    let stormed = c.in-Ok.stormed in
+    let front = subst (λ (bytes : List ℕ). AppendsFront old new bytes) c.as_slice.ensures.value c.in-Err-OutOfMemory-write_all.ensures.front in
+    record { cause = λ words left read_before read_now asks. memory_settled _ c.say_no_memory-in-Err-OutOfMemory-write_all.result c.say_no_memory-in-Err-OutOfMemory-write_all.ensures.status (inr (inr (inr (c.args.asked.now, stormed.summary.items, stormed.held, asks, c.in-Ok.ensures.ok, front)))) }
