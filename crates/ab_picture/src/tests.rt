@@ -1,5 +1,7 @@
 //! The picture of a small run, worked out by hand.
 
+ghost use Rattle.std.specs.Prelude.{◌≡◌, IfOk, length};
+
 use super::*;
 use ab_num::{Cluster, OutOfMemory, Party, Plan};
 use ab_text::{Core, Event, Items, Line, Premise};
@@ -12,7 +14,9 @@ fn own(party: Party) -> Core {
 }
 
 /// c0 asks r0 and r1; r0 answers, and c0 takes the answer; bytes are handed to the twin of r1.
-fn events(alloc: Global) -> Result<Vec<Event>, OutOfMemory> {
+fn events(alloc: Global) -> Result<Vec<Event>, OutOfMemory>
+    ensures { IfOk result (λ v. length v.items ≡ 4) }
+{
     let mut events = Vec::new(alloc);
     events.push(Event::Invoke {
         core: own(Party::Client(0)),
