@@ -12,25 +12,22 @@ use Rattle.ab_text.specs.Heads.{Script}
 use Rattle.ab_text.specs.Schedules.{ReadsText}
 use Rattle.ab_replay.specs.Protocols.{Any, any}
 use Rattle.ab_command.specs.declared.status.Bound.TheVariants.{Bytes, Events, Packets}
+use Rattle.ab_replay.specs.declared.refusal.Refusal.{Refusal}
 use Rattle.ab_command.specs.declared.status.Status.{Status}
 use Rattle.ab_command.specs.declared.status.Status.TheVariants.{Done, Broken, Usage, Refused, ReadFault, WriteFault, Limit, OutOfMemory}
 use Rattle.ab_command.specs.Texts.{code_of}
 use Rattle.ab_replay.specs.Streams.{IsAllOf, IsInput, IsTooLong}
 use Rattle.ab_words.specs.declared.command.Command.{Command}
-use Rattle.ab_words.specs.declared.command.Command.TheVariants.{Replay, Keys, Storm}
-use Rattle.ab_words.specs.Commands.{KeysCommand, StormCommand}
-use Rattle.ab_words.specs.Language.{command_in}
-use Rattle.ab_command.specs.KeyCommands.{AsksKeys, AsksStorm, is_built, key_text}
+use Rattle.ab_words.specs.declared.command.Command.TheVariants.{Replay, Keys}
+use Rattle.ab_words.specs.Commands.{KeysCommand}
+use Rattle.ab_command.specs.KeyCommands.{AsksKeys, is_built, key_text}
 use Rattle.ab_io.specs.Causes.{Rose}
 use Rattle.ab_world.specs.declared.fault.WorldFault.{WorldFault}
 use Rattle.ab_world.specs.declared.fault.WorldFault.TheVariants.{PacketLimit}
 use Rattle.ab_world.specs.Worlds.{World, premise_of}
 use Rattle.ab_replay.specs.Replays.{Performs, PerformsAs, IsRefused, RunsTo, proto_of, Runs}
 use Rattle.ab_replay.proofs.RunLemmas.{one_end}
-use Rattle.ab_kv.specs.KvMachines.{kv_machine}
-use Rattle.ab_replay.specs.declared.refusal.Refusal.{Refusal}
-use Rattle.ab_storm_run.specs.Runs.{Storms}
-use Rattle.ab_command.specs.Statuses.{Call, IsReplay, StatusCause, Says, SaysNoMemoryOn, Settles, HasCauseOf, HasFront, HasReport, HasSummary, IsToldWhole, KeepsOut, Passes, kv, IsClear, IsClearForKeys, IsClearForStorm, premise_code}
+use Rattle.ab_command.specs.Statuses.{Call, IsReplay, StatusCause, Says, SaysNoMemoryOn, Settles, HasCauseOf, HasFront, HasReport, IsClear, IsClearForKeys, premise_code}
 
 -- a run has one end
 said_at : {S : Type 0} (machine : Machine S) (s : Script) (report : List ℕ) (held : Bool) (end : World Any) → Performs machine s report held → RunsTo (any machine) s (Ok end)
@@ -49,24 +46,9 @@ code_of_broken : (p : Premise) → (p ≡ Held → IsTrue false) → 1 ≡ premi
 code_of_broken Held never = let e : false ≡ true = never refl in absurd (cc)
 code_of_broken (NotHeld e breach q) never = refl
 
-held_code : (held : Bool) (p : Premise) → IsTrue held ↔ (p ≡ Held) → (if held then 0 else 1) ≡ premise_code p
-held_code true p says = ap premise_code (sym (says.0 refl))
-held_code false p says = code_of_broken p says.1
-
 -- words are not both a replay and a wish for keys
 not_both : (words : List (List ℕ)) (k : KeysCommand) → IsReplay words → AsksKeys words k → ⊥
 not_both words k replay asks = let e : ◌≡◌ {A = Option Command} (Some Replay) (Some (Keys k)) = sym replay ∙ asks in cc
-
--- nor one of these and a wish for a storm
-not_replay : (words : List (List ℕ)) (k : StormCommand) → IsReplay words → AsksStorm words k → ⊥
-not_replay words k replay asks = let e : ◌≡◌ {A = Option Command} (Some Replay) (Some (Storm k)) = sym replay ∙ asks in cc
-
-not_keys : (words : List (List ℕ)) (j : KeysCommand) (k : StormCommand) → AsksKeys words j → AsksStorm words k → ⊥
-not_keys words j k keys asks = let e : ◌≡◌ {A = Option Command} (Some (Keys j)) (Some (Storm k)) = sym keys ∙ asks in cc
-
--- words ask for one storm
-same_storm : (words : List (List ℕ)) (j k : StormCommand) → AsksStorm words j → AsksStorm words k → j ≡ k
-same_storm words j k one other = let e : ◌≡◌ {A = Option Command} (Some (Storm j)) (Some (Storm k)) = sym one ∙ other in cc
 
 module _ (one : (text : List ℕ) (r q : Result Script TextFault) → ReadsText text r → ReadsText text q → r ≡ q) (c : Call) (clear : IsClear c) where
   -- the bytes that were read are those that the input tells
@@ -96,10 +78,8 @@ module _ (one : (text : List ℕ) (r q : Result Script TextFault) → ReadsText 
 
   clear_status : (s : Status) → StatusCause s c → (code_of s ≡ premise_code (premise_of clear.end)) ⊎ (code_of s ≡ 9)
   clear_status Done (inl (words, report), kept) = inl (ap premise_code (sym ((says_clear true report).0 refl)))
-  clear_status Done (inr (inl (k, asks, written)), kept) = absurd (not_both c.words k clear.words asks)
-  clear_status Done (inr (inr (k, summary, asks, storms, written)), kept) = absurd (not_replay c.words k clear.words asks)
-  clear_status Broken (inl (words, report), kept) = inl (code_of_broken (premise_of clear.end) ((says_clear false report).1))
-  clear_status Broken (inr (k, summary, asks, storms, written), kept) = absurd (not_replay c.words k clear.words asks)
+  clear_status Done (inr (k, asks, written), kept) = absurd (not_both c.words k clear.words asks)
+  clear_status Broken (words, report, kept) = inl (code_of_broken (premise_of clear.end) ((says_clear false report).1))
   clear_status Usage (others, none, kept, said) = absurd (others clear.words)
   clear_status (Refused r) (words, (text, input, refused), kept, said) = absurd (not_refused text r (same_text text input) refused)
   clear_status ReadFault (words, rose, kept, said) = absurd (clear.read rose)
@@ -113,22 +93,19 @@ module _ (one : (text : List ℕ) (r q : Result Script TextFault) → ReadsText 
       absurd (let e : Ok s ≡ Ok clear.schedule = one clear.text (Ok s) (Ok clear.schedule) (subst (λ t. ReadsText t (Ok s)) (same_text text input) reads) clear.reads in
       let same : s ≡ clear.schedule = cc in
       omega (arith, many, ap (λ x. length x.events) same, clear.few))
-  clear_status (Limit Packets) (inl (words, (text, input, many)), kept, said) =
+  clear_status (Limit Packets) (words, (text, input, many), kept, said) =
       absurd (not_ended text many.schedule many.event PacketLimit (same_text text input) many.reads many.runs)
-  clear_status (Limit Packets) (inr (k, asks, passes), kept, said) = absurd (not_replay c.words k clear.words asks)
   clear_status OutOfMemory cause = inr refl
 
 -- where keys are asked for
 module _ (c : Call) (k : KeysCommand) (clear : IsClearForKeys c k) where
   keys_status : (s : Status) → StatusCause s c → ((code_of s ≡ 0) × Appends c.out_old c.out_new (key_text k)) ⊎ (code_of s ≡ 9)
   keys_status Done (inl (words, report), kept) = absurd (not_both c.words k words clear.words)
-  keys_status Done (inr (inr (s, summary, asks, storms, written)), kept) = absurd (not_keys c.words k s clear.words asks)
-  keys_status Done (inr (inl (j, asks, written)), kept) =
+  keys_status Done (inr (j, asks, written), kept) =
       let e : ◌≡◌ {A = Option Command} (Some (Keys j)) (Some (Keys k)) = sym asks ∙ clear.words in
       let same : j ≡ k = cc in
       inl (refl, subst (λ (x : KeysCommand). Appends c.out_old c.out_new (key_text x)) same written)
-  keys_status Broken (inl (words, report), kept) = absurd (not_both c.words k words clear.words)
-  keys_status Broken (inr (s, summary, asks, storms, written), kept) = absurd (not_keys c.words k s clear.words asks)
+  keys_status Broken (words, report, kept) = absurd (not_both c.words k words clear.words)
   keys_status Usage (others, none, kept, said) = absurd (let e : true ≡ false = ap is_built (sym clear.words) ∙ none in cc)
   keys_status (Refused r) (words, input, kept, said) = absurd (not_both c.words k words clear.words)
   keys_status ReadFault (words, rose, kept, said) = absurd (not_both c.words k words clear.words)
@@ -138,43 +115,8 @@ module _ (c : Call) (k : KeysCommand) (clear : IsClearForKeys c k) where
   ]
   keys_status (Limit Bytes) (words, long, kept, said) = absurd (not_both c.words k words clear.words)
   keys_status (Limit Events) (words, input, kept, said) = absurd (not_both c.words k words clear.words)
-  keys_status (Limit Packets) (inl (words, input), kept, said) = absurd (not_both c.words k words clear.words)
-  keys_status (Limit Packets) (inr (s, asks, passes), kept, said) = absurd (not_keys c.words k s clear.words asks)
+  keys_status (Limit Packets) (words, input, kept, said) = absurd (not_both c.words k words clear.words)
   keys_status OutOfMemory cause = inr refl
-
--- where a storm is asked for
-module _ (c : Call) (k : StormCommand) (clear : IsClearForStorm c k) where
-  abbrev Told : ℕ → Type 0
-  Told n = IsToldWhole n k c ⊎ ((Passes k × (n ≡ 7)) ⊎ (n ≡ 9))
-
-  told_as : (held : Bool) (n : ℕ) → n ≡ (if held then 0 else 1) → HasSummary held c → Told n
-  told_as held n is (j, summary, asks, storms, written) =
-      let ours : Storms kv_machine kv k summary held = subst (λ (s : StormCommand). Storms kv_machine kv s summary held) (same_storm c.words j k asks clear.words) storms in
-      inl (record {
-        end = ours.end;
-        runs = record { cluster = ours.cluster; sized = ours.sized; runs = ours.runs };
-        code = is ∙ held_code held (premise_of ours.end) ours.says;
-        whole = subst (λ (text : List ℕ). Appends c.out_old c.out_new text) ours.sums written;
-      })
-
-  storm_status : (s : Status) → StatusCause s c → Told (code_of s)
-  storm_status Done (inl (words, report), kept) = absurd (not_replay c.words k words clear.words)
-  storm_status Done (inr (inl (j, asks, written)), kept) = absurd (not_keys c.words j k asks clear.words)
-  storm_status Done (inr (inr summary), kept) = told_as true 0 refl summary
-  storm_status Broken (inl (words, report), kept) = absurd (not_replay c.words k words clear.words)
-  storm_status Broken (inr summary, kept) = told_as false 1 refl summary
-  storm_status Usage (others, none, kept, said) = absurd (let e : true ≡ false = ap is_built (sym clear.words) ∙ none in cc)
-  storm_status (Refused r) (words, input, kept, said) = absurd (not_replay c.words k words clear.words)
-  storm_status ReadFault (words, rose, kept, said) = absurd (not_replay c.words k words clear.words)
-  storm_status WriteFault (rose, front) = elim rose [
-    | inl out ↦ absurd (clear.out out.0)
-    | inr err ↦ absurd (clear.err err)
-  ]
-  storm_status (Limit Bytes) (words, long, kept, said) = absurd (not_replay c.words k words clear.words)
-  storm_status (Limit Events) (words, input, kept, said) = absurd (not_replay c.words k words clear.words)
-  storm_status (Limit Packets) (inl (words, input), kept, said) = absurd (not_replay c.words k words clear.words)
-  storm_status (Limit Packets) (inr (j, asks, passes), kept, said) = inr (inl (subst (λ (s : StormCommand). Passes s) (same_storm c.words j k asks clear.words) passes, refl))
-  storm_status OutOfMemory cause = inr (inr refl)
 
 -- the number of a status that has its cause
 pub answers : ((text : List ℕ) (r q : Result Script TextFault) → ReadsText text r → ReadsText text q → r ≡ q)
@@ -191,34 +133,21 @@ answers one n c s code cause = record {
     | inl whole ↦ inl (code ∙ whole.0, whole.1)
     | inr nine ↦ inr (code ∙ nine)
   ];
-  storm = λ k clear. subst (λ (m : ℕ). IsToldWhole m k c ⊎ ((Passes k × (m ≡ 7)) ⊎ (m ≡ 9))) (sym code) (storm_status c k clear s cause);
 }
 
 written_whole : (c : Call) (held : Bool) → IsReplay c.words → HasReport held c → Keeps c.err_old c.err_new → StatusCause (if held then Done else Broken) c
 written_whole c true words report kept = (inl (words, report), kept)
-written_whole c false words report kept = (inl (words, report), kept)
+written_whole c false words report kept = (words, report, kept)
 
 -- a report that was written whole
 pub report_written : (c : Call) (r : Status) (held : Bool) → r ≡ (if held then Done else Broken) → IsReplay c.words → HasReport held c → Keeps c.err_old c.err_new → StatusCause r c
 report_written c r held is words report kept = subst (λ (s : Status). StatusCause s c) (sym is) (written_whole c held words report kept)
-
-summed_whole : (c : Call) (held : Bool) → HasSummary held c → Keeps c.err_old c.err_new → StatusCause (if held then Done else Broken) c
-summed_whole c true summary kept = (inr (inr summary), kept)
-summed_whole c false summary kept = (inr summary, kept)
-
--- a summary that was written whole
-pub summary_written : (c : Call) (r : Status) (held : Bool) → r ≡ (if held then Done else Broken) → HasSummary held c → Keeps c.err_old c.err_new → StatusCause r c
-summary_written c r held is summary kept = subst (λ (s : Status). StatusCause s c) (sym is) (summed_whole c held summary kept)
 
 -- a status that was to be said has its cause, where it has it once it is said
 pub settled : (c : Call) (r s : Status) → Settles r s c.err_old c.err_new c.err_before c.err_now → (Says s c → StatusCause s c) → HasFront c → StatusCause r c
 settled c r s (inl (e, said)) make front = subst (λ (x : Status). StatusCause x c) (sym e) (make said)
 settled c r s (inr (inl (e, rose))) make front = subst (λ (x : Status). StatusCause x c) (sym e) (inr rose, front)
 settled c r s (inr (inr (e, says))) make front = subst (λ (x : Status). StatusCause x c) (sym e) (front, says)
-
--- a storm that passes the limit of bytes
-pub limit_settled : (c : Call) (k : StormCommand) (r : Status) → Settles r (Limit Packets) c.err_old c.err_new c.err_before c.err_now → AsksStorm c.words k → Passes k → KeepsOut c → StatusCause r c
-limit_settled c k r how asks passes kept = settled c r (Limit Packets) how (λ said. (inr (k, asks, passes), kept, said)) (inl kept)
 
 -- want of memory that was to be said
 pub memory_settled : (c : Call) (r : Status) → Settles r OutOfMemory c.err_old c.err_new c.err_before c.err_now → HasFront c → StatusCause r c

@@ -4,15 +4,15 @@ use Rattle.ab_key_text.specs.Derived.{keys_of}
 use Rattle.ab_key_text.specs.Spelling.{key_lines, text_of}
 use Rattle.ab_words.specs.declared.command.Command.{Command}
 use Rattle.ab_words.specs.declared.command.Command.TheVariants.{Replay, Storm, Keys, Node}
-use Rattle.ab_words.specs.Commands.{KeysCommand, StormCommand}
+use Rattle.ab_words.specs.Commands.{KeysCommand}
 use Rattle.ab_words.specs.Language.{command_in}
 
--- a node is not built
+-- a storm and a node are not built
 abbrev pub is_built : Option Command → Bool
 is_built None = false
 is_built (Some Replay) = true
 is_built (Some (Keys k)) = true
-is_built (Some (Storm s)) = true
+is_built (Some (Storm s)) = false
 is_built (Some (Node n)) = false
 
 -- the words are no command that this program does
@@ -22,10 +22,6 @@ IsNoCommand words = is_built (command_in words) ≡ false
 -- the words ask for these keys
 abbrev pub AsksKeys : List (List ℕ) → KeysCommand → Type 0
 AsksKeys words k = command_in words ≡ Some (Keys k)
-
--- the words ask for this storm
-abbrev pub AsksStorm : List (List ℕ) → StormCommand → Type 0
-AsksStorm words k = command_in words ≡ Some (Storm k)
 
 -- the text of the keys that are asked for
 abbrev pub key_text : KeysCommand → List ℕ

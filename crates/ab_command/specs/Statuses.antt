@@ -1,5 +1,5 @@
 -- The statuses of the top call, each with its cause.
-use Rattle.std.specs.Prelude.{◌≡◌, ◌≤◌, ℕ, Bool, true, false, List, [], ◌∷◌, ◌⊎◌, Option, Some, Ok, Err, length, codes}
+use Rattle.std.specs.Prelude.{◌≡◌, ◌≤◌, ℕ, Bool, true, false, List, [], ◌∷◌, ◌⊎◌, Option, Some, Ok, length, codes}
 use Rattle.std.specs.Io.KnownBytes.{Appends, Keeps}
 use Rattle.ab_io.specs.Causes.{Rose}
 use Rattle.ab_command.specs.declared.status.Bound.TheVariants.{Bytes, Events, Packets}
@@ -11,18 +11,13 @@ use Rattle.ab_text.specs.Heads.{Script}
 use Rattle.ab_text.specs.Schedules.{ReadsText}
 use Rattle.ab_text.specs.declared.line.Premise.{Premise}
 use Rattle.ab_text.specs.declared.line.Premise.TheVariants as premise
-use Rattle.ab_world.specs.declared.fault.WorldFault.TheVariants.{PacketLimit}
 use Rattle.ab_world.specs.Worlds.{World, premise_of}
-use Rattle.ab_words.specs.Commands.{KeysCommand, StormCommand}
+use Rattle.ab_words.specs.Commands.{KeysCommand}
 use Rattle.ab_words.specs.Language.{command_in}
 use Rattle.ab_words.specs.declared.command.Command.TheVariants.{Replay}
-use Rattle.ab_abs.specs.Ensembles.{Proto}
-use Rattle.ab_kv.specs.KvMachines.{kv_machine}
-use Rattle.ab_replay.specs.Protocols.{Any, any}
-use Rattle.ab_command.specs.KeyCommands.{AsksKeys, AsksStorm, IsNoCommand, key_text}
+use Rattle.ab_replay.specs.Protocols.{Any}
+use Rattle.ab_command.specs.KeyCommands.{AsksKeys, IsNoCommand, key_text}
 use Rattle.ab_replay.specs.Replays.{Replays, IsRefused, HasTooManyEvents, HasTooManyBytes, Runs}
-use Rattle.ab_storm_run.specs.Runs.{Storms, StormsTo}
-use Rattle.ab_storm_run.specs.Summaries.{summary_of}
 
 -- what a call of the program met: its words, what was left of the input, what out and err held before and after, and the
 -- counts of faults before and after
@@ -75,43 +70,23 @@ HasKeys c = (k : KeysCommand) × AsksKeys c.words k × Appends c.out_old c.out_n
 abbrev pub HasKeysFront : Call → Type 0
 HasKeysFront c = (k : KeysCommand) × AsksKeys c.words k × AppendsFront c.out_old c.out_new (key_text k)
 
--- the protocol of a storm's replicas, over the store of keys and values
-abbrev pub kv : Proto Any
-kv = any kv_machine
-
--- out got the summary of the storm that the words ask for, and nothing else. Its premise line says `held` or `broken`
-abbrev pub HasSummary : Bool → Call → Type 0
-HasSummary held c = (k : StormCommand) × (summary : List ℕ) × AsksStorm c.words k × Storms kv_machine kv k summary held × Appends c.out_old c.out_new summary
-
--- out got a front of it
-abbrev pub HasSummaryFront : Call → Type 0
-HasSummaryFront c = (k : StormCommand) × (summary : List ℕ) × (held : Bool) × AsksStorm c.words k × Storms kv_machine kv k summary held × AppendsFront c.out_old c.out_new summary
-
--- the packets of an event of this storm would have more bytes than a world keeps
-abbrev pub Passes : StormCommand → Type 0
-Passes k = (e : ℕ) × StormsTo kv k (Err (e, PacketLimit))
-
--- and the words ask for it
-abbrev pub StormPasses : Call → Type 0
-StormPasses c = (k : StormCommand) × AsksStorm c.words k × Passes k
-
--- out got a front of the report, of the key text or of the summary, or nothing
+-- out got a front of the report or of the key text, or nothing
 abbrev pub HasFront : Call → Type 0
 HasFront c =
     KeepsOut c
     ⊎ (((report : List ℕ) × (held : Bool) × HasInput (λ text. Replays text report held) c × AppendsFront c.out_old c.out_new report)
-    ⊎ (HasKeysFront c ⊎ HasSummaryFront c))
+    ⊎ HasKeysFront c)
 
 -- when each status comes, and what it leaves on out and err
 abbrev pub StatusCause : Status → Call → Type 0
-StatusCause Done c = ((IsReplay c.words × HasReport true c) ⊎ (HasKeys c ⊎ HasSummary true c)) × Keeps c.err_old c.err_new
-StatusCause Broken c = ((IsReplay c.words × HasReport false c) ⊎ HasSummary false c) × Keeps c.err_old c.err_new
+StatusCause Done c = ((IsReplay c.words × HasReport true c) ⊎ HasKeys c) × Keeps c.err_old c.err_new
+StatusCause Broken c = IsReplay c.words × HasReport false c × Keeps c.err_old c.err_new
 StatusCause Usage c = (IsReplay c.words → ⊥) × IsNoCommand c.words × KeepsOut c × Says Usage c
 StatusCause (Refused r) c = IsReplay c.words × HasInput (λ text. IsRefused text r) c × KeepsOut c × Says (Refused r) c
 StatusCause ReadFault c = IsReplay c.words × Rose c.read_before c.read_now × KeepsOut c × Says ReadFault c
 StatusCause WriteFault c = ((Rose c.out_before c.out_now × Says WriteFault c) ⊎ Rose c.err_before c.err_now) × HasFront c
 StatusCause (Limit Bytes) c = IsReplay c.words × IsTooLong c.left × KeepsOut c × Says (Limit Bytes) c
-StatusCause (Limit Packets) c = ((IsReplay c.words × HasInput HasTooManyBytes c) ⊎ StormPasses c) × KeepsOut c × Says (Limit Packets) c
+StatusCause (Limit Packets) c = IsReplay c.words × HasInput HasTooManyBytes c × KeepsOut c × Says (Limit Packets) c
 StatusCause (Limit Events) c = IsReplay c.words × HasInput HasTooManyEvents c × KeepsOut c × Says (Limit Events) c
 StatusCause OutOfMemory c = HasFront c × SaysNoMemoryOn c.err_old c.err_new
 
@@ -142,27 +117,11 @@ pub record IsClearForKeys (c : Call) (k : KeysCommand) : Type 0 where
   pub out : Rose c.out_before c.out_now → ⊥
   pub err : Rose c.err_before c.err_now → ⊥
 
--- the words ask for a storm, and neither out nor err has counted a fault
-pub record IsClearForStorm (c : Call) (k : StormCommand) : Type 0 where
-  pub words : AsksStorm c.words k
-  pub out : Rose c.out_before c.out_now → ⊥
-  pub err : Rose c.err_before c.err_now → ⊥
-
--- out got the summary of this storm, and nothing else, and the number is that of its premise line
-pub record IsToldWhole (n : ℕ) (k : StormCommand) (c : Call) : Type 0 where
-  pub end : World Any
-  pub runs : StormsTo kv k (Ok end)
-  pub code : n ≡ premise_code (premise_of end)
-  pub whole : Appends c.out_old c.out_new (summary_of end)
-
 -- the number is that of a status that has its cause. Where nothing stands in the way, it is that of the premise line, or memory
--- was refused. Where keys are asked for, they are written whole, or memory was refused. Where a storm is asked for, its summary is
--- written whole and the number is that of the premise line, or its packets pass the limit of bytes and the number is 7, or memory was
--- refused
+-- was refused; and where keys are asked for, they are written whole, or memory was refused
 pub record HasCauseOf (n : ℕ) (c : Call) : Type 0 where
   pub status : Status
   pub code : n ≡ code_of status
   pub cause : StatusCause status c
   pub complete : (clear : IsClear c) → (n ≡ premise_code (premise_of clear.end)) ⊎ (n ≡ 9)
   pub keys : (k : KeysCommand) → IsClearForKeys c k → ((n ≡ 0) × Appends c.out_old c.out_new (key_text k)) ⊎ (n ≡ 9)
-  pub storm : (k : StormCommand) → IsClearForStorm c k → IsToldWhole n k c ⊎ ((Passes k × (n ≡ 7)) ⊎ (n ≡ 9))

@@ -16,9 +16,9 @@ pub(crate) enum Bound {
 /// How a call of the program ended.
 #[derive(Clone, Copy, Debug, PartialEq, Eq)]
 pub(crate) enum Status {
-    /// A run was told, and its premises held; or keys were.
+    /// A replay was done, and its premises held.
     Done,
-    /// A run was told, and a premise was broken.
+    /// A replay was done, and a premise was broken.
     Broken,
     Usage,
     Refused(Refusal),

@@ -4,17 +4,14 @@ ghost use Rattle.std.specs.Prelude.{◌≡◌, ◌≤◌, ◌⊎◌, ℕ, List, 
 ghost use Rattle.ab_io.specs.Causes.{Rose};
 ghost use Rattle.ab_command.specs.Texts.{code_of, text_of};
 ghost use Rattle.ab_command.specs.Statuses.{Call, IsReplay, SaysNoMemoryOn, Settles, StatusCause, HasCauseOf};
-ghost use Rattle.ab_command.specs.KeyCommands.{AsksKeys, AsksStorm};
+ghost use Rattle.ab_command.specs.KeyCommands.{AsksKeys};
 
 use crate::keys::key_text;
 use crate::status::{Bound, Status};
 use ab_io::{Clock, Link, Sink, Source};
-use ab_kv::Kv;
-use ab_receivers::packets_go_to_parties;
-use ab_replay::{AnyProtocol, Refusal, ReplayFault, WriteFault, refusal_line, replay, write_all};
-use ab_storm_run::{StormFault, storm};
+use ab_replay::{Refusal, ReplayFault, WriteFault, refusal_line, replay, write_all};
 use ab_text::one_reading;
-use ab_words::{Command, KeysCommand, StormCommand, command_in};
+use ab_words::{Command, KeysCommand, command_in};
 use std::alloc::Global;
 
 const USAGE: &str = "usage: abstract_bft <keys|node|replay|storm> [options]\n";
@@ -51,7 +48,7 @@ fn say_refusal<E: Sink>(alloc: Global, err: &mut E, refusal: Refusal) -> Status
     }
 }
 
-/// The status of a run that was told.
+/// The status of a replay that was done.
 fn done(held: bool) -> Status
     ensures { result ≡ (if held then Status.Done else Status.Broken) }
 {
@@ -134,44 +131,6 @@ fn serve_keys<O: Sink, E: Sink>(
     }
 }
 
-/// Runs the storm that is asked for and writes its summary.
-fn serve_storm<O: Sink, E: Sink>(
-    alloc: Global,
-    asked: &StormCommand,
-    out: &mut O,
-    err: &mut E,
-) -> Status
-    requires few { asked.now.events ≤ 100000 }
-    ensures cause { (words : List (List ℕ)) (left : Option (List ℕ)) (read_before read_now : ℕ) → AsksStorm words asked.now → StatusCause result (record {
-      words = words;
-      left = left;
-      out_old = O.contents out.old;
-      out_new = O.contents out.new;
-      err_old = E.contents err.old;
-      err_new = E.contents err.new;
-      read_before = read_before;
-      read_now = read_now;
-      out_before = O.faults out.old;
-      out_now = O.faults out.new;
-      err_before = E.faults err.old;
-      err_now = E.faults err.new;
-    }) }
-{
-    packets_go_to_parties::<Kv>();
-    let stormed = match storm::<Kv, AnyProtocol<Kv>>(alloc, asked) {
-        Ok(stormed) => stormed,
-        Err(StormFault::TooManyPackets) => {
-            return say(err, "limit packets\n", Status::Limit(Bound::Packets));
-        }
-        Err(StormFault::OutOfMemory) => return say_no_memory(err),
-    };
-    match write_all(out, stormed.summary.as_slice()) {
-        Ok(()) => done(stormed.held),
-        Err(WriteFault::Failed) => say(err, "write fault\n", Status::WriteFault),
-        Err(WriteFault::OutOfMemory) => say_no_memory(err),
-    }
-}
-
 /// What the program does.
 fn serve<I: Source, O: Sink, E: Sink>(
     alloc: Global,
@@ -199,8 +158,11 @@ fn serve<I: Source, O: Sink, E: Sink>(
     match command_in(alloc, words) {
         Ok(Some(Command::Replay)) => serve_replay(alloc, input, out, err),
         Ok(Some(Command::Keys(asked))) => serve_keys(alloc, &asked, out, err),
-        Ok(Some(Command::Storm(asked))) => serve_storm(alloc, &asked, out, err),
-        Ok(Some(Command::Node(_)) | None) => say(err, USAGE, Status::Usage),
+        Ok(Some(Command::Storm(_)) | Some(Command::Node(_)) | None) => say(
+            err,
+            USAGE,
+            Status::Usage,
+        ),
         Err(_) => say_no_memory(err),
     }
 }
@@ -208,17 +170,15 @@ fn serve<I: Source, O: Sink, E: Sink>(
 /// Does the command that the words are, and returns the number of its status.
 ///
 /// `replay` reads a schedule from `input` to its end, runs it, and writes the report of the run to
-/// `out`. `storm` runs random events that a seed gives, and writes the summary of the run to `out`.
-/// `keys` writes the key text of a party to `out`. The statuses are:
+/// `out`. `keys` writes the key text of a party to `out`. The statuses are:
 ///
-/// - 0: the report or the summary was written, and its premise line says `held`; or the key text was
-///   written.
-/// - 1: the report or the summary was written, and its premise line says `broken`.
+/// - 0: the report was written, and its premise line says `held`; or the key text was written.
+/// - 1: the report was written, and its premise line says `broken`.
 /// - 2: the words are no command.
 /// - 3: a line is out of form or missing, or its event is refused.
 /// - 4: `input` failed.
 /// - 5: `out` or `err` failed.
-/// - 7: the input has more bytes or more events than are taken, or the packets of the run have more
+/// - 7: the input has more bytes or more events than are taken, or the packets of its run have more
 ///   bytes.
 /// - 9: memory was refused.
 ///
