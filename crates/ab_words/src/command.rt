@@ -1,6 +1,6 @@
 //! The commands.
 
-ghost use Rattle.std.specs.Prelude.{◌≡◌, IsTrue};
+ghost use Rattle.std.specs.Prelude.{◌≡◌, ◌≤◌, IsTrue};
 ghost use Rattle.ab_num.specs.Bounds.{IsInBounds};
 ghost use Rattle.ab_keys.specs.Keys.{is_party};
 
@@ -167,17 +167,21 @@ pub struct NodeCommand {
 }
 
 impl Model for NodeCommand {
+    ghost use Rattle.std.specs.Prelude.{◌≤◌};
     ghost use Rattle.ab_words.specs.Commands.{NodeCommand as NodeValue};
 
     ghost Value = { NodeValue };
 
     ghost view = { λ c. record { base = c.base; wait = c.wait; turns = c.turns; trace = c.trace } };
+
+    ghost invariant = { λ c. c.base ≤ 65000 };
 }
 
 impl NodeCommand {
     /// The port of replica 0.
     pub fn base(&self) -> u16
-        ensures { result ≡ self.now.base }
+        ensures number { result ≡ self.now.base }
+        ensures bound { result ≤ 65000 }
     {
         self.base
     }
