@@ -1,14 +1,15 @@
 -- An event of a replica of PBFT, once it is read and what came is on the shelf.
-use Rattle.std.specs.Prelude.{◌≡◌, ℕ, suc, ◌+◌, ◌*◌, nat_le, if◌then◌else◌, Option, Some, None, List, [], length}
+use Rattle.std.specs.Prelude.{ℕ, ◌+◌, if◌then◌else◌, Option, Some, None, List, [], length}
 use Rattle.ab_msg.specs.declared.message.Out.{Out}
 use Rattle.ab_msg.specs.Pens.{Pen}
 use Rattle.ab_order.specs.Inputs.{Input}
 use Rattle.ab_pbft.specs.Rules.{done_by, pbft}
 use Rattle.ab_slots.specs.declared.deed.Deed.{Deed}
 use Rattle.ab_slots.specs.Deeds.{told_in}
+use Rattle.ab_slots.specs.Waits.{waits}
 use Rattle.ab_shelf.specs.Shelves.{Shelf}
 use Rattle.ab_shelf.specs.Posts.{Post, posts_all, signings}
-use Rattle.ab_shelf.specs.Signing.{Signing, signer_of}
+use Rattle.ab_shelf.specs.Signing.{Signing, signer_of, leavings}
 
 -- what others hear of
 abbrev pub heard_of : Signing → Input → List Deed
@@ -22,10 +23,8 @@ abbrev pub signs_of : Signing → Input → ℕ
 signs_of q e = signings (signer_of q) (heard_of q e)
 
 abbrev pub next_of : Pen → Signing → Shelf → Input → Signing
-next_of pen q shelf e = record { cluster = q.cluster; order = pbft.after q.order e; shelf = (post_of pen q shelf e).shelf }
+next_of pen q shelf e = record { cluster = q.cluster; order = pbft.after q.order e; shelf = (post_of pen q shelf e).shelf; left = q.left + leavings (heard_of q e) }
 
--- what its timer counts: views, and the slots that are executed
+-- while something waits, its timer counts the slots that it executed and how often it left a view
 abbrev pub turns_of : Signing → Option ℕ
-turns_of q =
-    let core = q.order.memory.peer.core in
-    if nat_le (suc q.order.seat.k) (length core.executed) then None else Some (core.view * 512 + length core.executed)
+turns_of q = if waits q.order.memory then Some (length q.order.memory.peer.core.executed + q.left) else None

@@ -1,9 +1,9 @@
 //! A replica of PBFT.
 
-ghost use Rattle.std.specs.Prelude.{◌≡◌, ◌+◌, ◌<◌, IfOk, IsErrOf};
+ghost use Rattle.std.specs.Prelude.{◌≡◌, ◌+◌, ◌<◌, ◌≤◌, IfOk, IsErrOf};
 ghost use Rattle.ab_msg.specs.Pens.{moved};
-ghost use Rattle.ab_slots.specs.Turns.{input_of};
-ghost use Rattle.ab_shelf.specs.Signing.{signer_of};
+ghost use Rattle.ab_slots.specs.Turns.{input_of, memory_of};
+ghost use Rattle.ab_shelf.specs.Signing.{signer_of, is_leaving, leavings};
 ghost use Rattle.ab_agreement.specs.Events.{next_of, post_of, signs_of};
 
 use crate::putting::{receive, shelve};
@@ -13,29 +13,51 @@ use ab_hist::History;
 use ab_msg::{Notary, Outs};
 use ab_num::{Cluster, OutOfMemory};
 use ab_shelf::{Shelf, Signer};
-use ab_slots::{Input, Memory, Seat, Turn};
+use ab_slots::{Deed, Input, Memory, Seat, Turn};
 use ab_wire::MsgRef;
 use std::alloc::Global;
 use std::marker::Model;
 
 /// Replicas agree on the order of requests by views, each with a primary that offers values for slots; 2f + 1 PREPAREs
 /// of a view prepare a value, and 2f + 1 COMMITs execute it. Replicas that wait too long change to the next view, which
-/// begins with what 2f + 1 of them had prepared (Castro and Liskov, OSDI 1999).
+/// begins with what 2f + 1 of them had prepared (Castro and Liskov, OSDI 1999). How often this replica left a view is
+/// counted in `left`.
 #[derive(Drop)]
 pub struct Pbft {
     cluster: Cluster,
     seat: Seat,
     memory: Memory,
     shelf: Shelf,
+    left: u32,
 }
 
 impl Model for Pbft {
+    ghost use Rattle.std.specs.Prelude.{◌≤◌};
     ghost use Rattle.ab_slots.specs.Turns.{memory_of, seat_of};
     ghost use Rattle.ab_shelf.specs.Signing.{Signing};
 
     ghost Value = { Signing };
 
-    ghost view = { λ q. record { cluster = q.cluster; order = record { seat = seat_of q.seat; memory = memory_of q.memory }; shelf = q.shelf } };
+    ghost view = { λ q. record { cluster = q.cluster; order = record { seat = seat_of q.seat; memory = memory_of q.memory }; shelf = q.shelf; left = q.left } };
+
+    ghost invariant = { λ q. q.left ≤ (memory_of q.memory).peer.core.view };
+}
+
+/// Whether it leaves a view.
+fn is_leaving(deed: &Deed) -> bool
+    ensures { result ≡ is_leaving deed.now }
+{
+    match deed {
+        Deed::Changes { .. } => true,
+        _ => false,
+    }
+}
+
+/// How many of these leave a view.
+fn leavings(deeds: &[Deed]) -> usize
+    ensures { result ≡ leavings deeds.now }
+{
+    deeds.iter().filter(|d| is_leaving(d)).count()
 }
 
 impl Pbft {
@@ -48,6 +70,15 @@ impl Pbft {
             instance: self.seat.instance,
             me: self.seat.me,
         }
+    }
+
+    /// How often it left a view, once it did this.
+    fn left_after(&self, turn: &Turn) -> u32
+        requires { self.now.left + leavings turn.now.deeds.items ≤ (memory_of turn.now.memory).peer.core.view }
+        ensures count { result ≡ self.now.left + leavings turn.now.deeds.items }
+        ensures within { result ≤ (memory_of turn.now.memory).peer.core.view }
+    {
+        self.left + leavings(&turn.deeds) as u32
     }
 
     /// Does what the rules say as something comes that is on this shelf, and posts what others hear of.
@@ -67,6 +98,7 @@ impl Pbft {
         let seat = self.seat.copy(alloc)?;
         let mut turn = Turn::new(alloc, memory);
         turn.work(alloc, &seat, input)?;
+        let left = self.left_after(&turn);
         let mut outs = Vec::new(alloc);
         shelf.post_all(alloc, &self.signer(), &turn.deeds, n, &mut outs)?;
         let next = Pbft {
@@ -74,6 +106,7 @@ impl Pbft {
             seat,
             memory: turn.memory,
             shelf,
+            left,
         };
         Ok((next, Outs::of(outs)))
     }
@@ -114,6 +147,7 @@ impl Orderer for Pbft {
             seat,
             memory: Memory::new(alloc),
             shelf,
+            left: 0,
         })
     }
 
@@ -143,6 +177,7 @@ impl Orderer for Pbft {
             seat,
             memory,
             shelf,
+            left: self.left,
         })
     }
 
@@ -159,11 +194,11 @@ impl Orderer for Pbft {
     }
 
     fn turns(&self) -> Option<u64> {
-        if self.memory.is_done(self.seat.k) {
+        if !self.memory.waits() {
             return None;
         }
         let executed = self.memory.executed().len() as u64;
-        Some(u64::from(self.memory.view()) * 512 + executed)
+        Some(executed + u64::from(self.left))
     }
 
     ghost use Rattle.ab_pbft.proofs.LawfulOrderer.{pbft_lawful};

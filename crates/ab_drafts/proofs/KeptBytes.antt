@@ -40,7 +40,7 @@ use Rattle.ab_drafts.proofs.Putting.{IsPlain, IsPut, nothing, tags, ballot, proo
 use Rattle.ab_drafts.proofs.Sending.{IsPosted}
 use Rattle.ab_drafts.proofs.Events.{Stands, settles_on, kept_by}
 
-module _ (c : Cluster) (i me : ℕ) (placed : IsInstance i) (owned : me < 3 * c.f + 1) (base : List Request) (written : IsWritten base) (pen : Pen) (signs : SignsInForm pen) (memory : Memory) (s : Shelf)
+module _ (c : Cluster) (i me : ℕ) (placed : IsInstance i) (owned : me < 3 * c.f + 1) (base : List Request) (written : IsWritten base) (pen : Pen) (signs : SignsInForm pen) (memory : Memory) (s : Shelf) (left : ℕ)
     (was : IsBounded c.f (limit_of c.plan i) memory.peer.core memory.peer.votes memory.changes memory.requests s) where
   abbrev seat : Seat
   seat = seat_of c i me base
@@ -128,7 +128,7 @@ module _ (c : Cluster) (i me : ℕ) (placed : IsInstance i) (owned : me < 3 * c.
   event e t (proof change p written' maker view formed) told = change_event change p written' maker view formed
 
   abbrev here : Signing
-  here = record { cluster = c; order = record { seat = seat; memory = memory }; shelf = s }
+  here = record { cluster = c; order = record { seat = seat; memory = memory }; shelf = s; left = left }
 
   -- a call leaves it within bounds, and it sends what is of the grammar
   pub call_on : (call : Call) → IsFormed call → IsInForm c i me (signing.after pen here call) × ((o : Out) → Contains (signing.sends pen here call) o → IsDraft o.msg)
@@ -165,10 +165,10 @@ GoesOn c i r pen q call = IsInForm c i r (signing.after pen q call) × ((o : Out
 
 call_within : (c : Cluster) (i r : ℕ) (pen : Pen) (q : Signing) (call : Call) → IsInstance i → r < 3 * c.f + 1 → SignsInForm pen → IsFormed call → IsInForm c i r q → GoesOn c i r pen q call
 call_within c i r pen q call placed owned signs formed is =
-    let at : Cluster → Seat → Signing = λ d seat. record { cluster = d; order = record { seat = seat; memory = q.order.memory }; shelf = q.shelf } in
+    let at : Cluster → Seat → Signing = λ d seat. record { cluster = d; order = record { seat = seat; memory = q.order.memory }; shelf = q.shelf; left = q.left } in
     subst (λ (d : Cluster). GoesOn c i r pen (at d q.order.seat) call) (sym is.cluster)
     (subst (λ (seat : Seat). GoesOn c i r pen (at c seat) call) (sym is.seated)
-    (call_on c i r placed owned is.base is.written pen signs q.order.memory q.shelf is.kept call formed))
+    (call_on c i r placed owned is.base is.written pen signs q.order.memory q.shelf q.left is.kept call formed))
 
 -- it is a replica of the cluster, in an instance that can be
 record IsPlaced (c : Cluster) (i r : ℕ) : Type 0 where

@@ -4,3 +4,4 @@ pub mod Based
 pub mod Offers
 pub mod Places
 pub mod Turns
+pub mod Waits

@@ -9,6 +9,7 @@ ghost use Rattle.ab_abs.specs.Values.{goes};
 ghost use Rattle.ab_lock.specs.Steps.{begun, signs, prepares, executes};
 ghost use Rattle.ab_lock.specs.Votes.{next_sign, next_prepare, next_execute};
 ghost use Rattle.ab_slots.specs.Turns.{memory_of, without_votes_below};
+ghost use Rattle.ab_slots.specs.Waits.{waits};
 
 use crate::certs::copy_certs;
 use crate::change::Cert;
@@ -17,7 +18,7 @@ use crate::digest::slot_digest;
 use crate::kept::Kept;
 use crate::slots::Slots;
 use crate::vote::{Vote, is_enough};
-use crate::waiting::copy_requests;
+use crate::waiting::{copy_requests, lacks_some};
 use ab_hist::Request;
 use ab_num::OutOfMemory;
 use std::alloc::Global;
@@ -86,6 +87,14 @@ impl Memory {
         ensures { result ≡ nat_le (suc k) (length (memory_of self.now).peer.core.executed) }
     {
         usize::from(k) < self.executed.len()
+    }
+
+    /// Whether a slot is accepted and not executed, or a kept request is missing from the executed list.
+    pub fn waits(&self) -> bool
+        ensures { result ≡ waits (memory_of self.now) }
+    {
+        self.executed.len() < self.accepted.len()
+            || lacks_some(self.executed.list(), &self.requests)
     }
 
     /// The digest of the lowest slot that is accepted and not signed, where all lower ones are prepared.

@@ -5,9 +5,10 @@ ghost use Rattle.std.specs.List.{take_while};
 ghost use Rattle.ab_order.specs.Backups.{keep as keep_last};
 ghost use Rattle.ab_pbft.specs.Rules.{first_fit as first_that_fits};
 ghost use Rattle.ab_slots.specs.Places.{is_of, place_of as place_in};
+ghost use Rattle.ab_slots.specs.Waits.{lacks_some};
 
 use crate::slots::Slots;
-use ab_hist::Request;
+use ab_hist::{History, Request};
 use ab_num::OutOfMemory;
 use std::alloc::Global;
 
@@ -62,6 +63,13 @@ pub(crate) fn first_fit(kept: &[Request], accepted: &Slots) -> Option<Request>
         }
     }
     None
+}
+
+/// Whether one of them is missing from a list.
+pub(crate) fn lacks_some(list: &History, kept: &[Request]) -> bool
+    ensures { result ≡ lacks_some list.now kept.now }
+{
+    kept.iter().any(|m| list.place_of(m).is_none())
 }
 
 /// The same requests.
