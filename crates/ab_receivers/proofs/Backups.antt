@@ -115,7 +115,7 @@ module _ {S : Type 0} (machine : Machine S) (c : Cluster) where
     event = told signing v.order call
 
     event_named : IsInputNamed c.clients event
-    event_named = subst (λ (k : Cluster). IsInputNamed c.clients (told signing (record { cluster = k; order = v.order.order; shelf = v.order.shelf }) call)) (sym knows.cluster) (told_named c v.order.order.seat.i c.clients call names)
+    event_named = subst (λ (k : Cluster). IsInputNamed c.clients (told signing (record { cluster = k; order = v.order.order; shelf = v.order.shelf; left = v.order.left }) call)) (sym knows.cluster) (told_named c v.order.order.seat.i c.clients call names)
 
     asked_here : (m : Request) → asked_by event ≡ Some m → m.client < c.clients
     asked_here m is = asked_named c.clients event m event_named is
