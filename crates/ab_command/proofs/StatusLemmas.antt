@@ -20,7 +20,7 @@ use Rattle.ab_words.specs.declared.command.Command.{Command}
 use Rattle.ab_words.specs.declared.command.Command.TheVariants.{Replay, Keys, Storm}
 use Rattle.ab_words.specs.Commands.{KeysCommand, StormCommand}
 use Rattle.ab_words.specs.Language.{command_in}
-use Rattle.ab_command.specs.KeyCommands.{AsksKeys, AsksStorm, is_built, key_text}
+use Rattle.ab_command.specs.Commands.{AsksKeys, AsksStorm, is_built, key_text}
 use Rattle.ab_io.specs.Causes.{Rose}
 use Rattle.ab_world.specs.declared.fault.WorldFault.{WorldFault}
 use Rattle.ab_world.specs.declared.fault.WorldFault.TheVariants.{PacketLimit}

@@ -1,7 +1,7 @@
 use Rattle.std.proofs.Common.{◌≡◌, ◌∙◌, List, ℕ, subst, inl, inr, rules}
 use Rattle.std.specs.Io.KnownBytes.{Appends, Keeps}
 use Rattle.ab_io.specs.Causes.{Rose}
-use Rattle.ab_command.specs.KeyCommands.{key_text}
+use Rattle.ab_command.specs.Commands.{key_text}
 use Rattle.ab_replay.specs.Streams.{AppendsFront}
 use Rattle.ab_command.proofs.StatusLemmas.{memory_settled, write_settled}
 use Rattle.ab_command.proofs.top.serve_keys.Goals as goal
