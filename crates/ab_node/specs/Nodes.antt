@@ -3,8 +3,6 @@ use Rattle.std.specs.Prelude.{◌≡◌, ℕ, List, map, Option, None, Some, Res
 use Rattle.arrayvec.specs.ArrayVec.{ArrayVec}
 use Rattle.ab_num.specs.declared.party.Party.{Party}
 use Rattle.ab_num.specs.declared.party.Party.TheVariants.{Replica, Client}
-use Rattle.ab_num.specs.declared.plan.ServiceName.{ServiceName}
-use Rattle.ab_num.specs.declared.plan.ServiceName.TheVariants.{Echo, Kv}
 use Rattle.ab_io.specs.Causes.{Rose}
 use Rattle.ab_io.specs.Readings.{Readings}
 use Rattle.ab_text.specs.Lines.{lines_of}
@@ -13,19 +11,19 @@ use Rattle.ab_key_text.specs.declared.fault.NodeFault.TheVariants as text_fault
 use Rattle.ab_key_text.specs.Keys.{PartyKeys}
 use Rattle.ab_key_text.specs.Nodes.{Node, node_in}
 use Rattle.ab_words.specs.Commands.{NodeCommand}
-use Rattle.ab_svc.specs.Echoes.{echo_machine}
-use Rattle.ab_kv.specs.KvMachines.{kv_machine}
 use Rattle.ab_abs.specs.Ensembles.{Proto}
 use Rattle.ab_loop.specs.declared.fault.ServeFault.{ServeFault}
 use Rattle.ab_loop.specs.declared.serving.Served.{Served}
 use Rattle.ab_loop.specs.declared.setting.Setting.{Setting}
+use Rattle.ab_loop.specs.Cores.{Rules}
 use Rattle.ab_loop.specs.Outside.{Counts, Outside}
 use Rattle.ab_loop.specs.Runs.{HasFaultOf, HasServed, Start, start_of}
 use Rattle.ab_member.specs.Replicas.{IsFirstReplica, ReplicaMember, replica_rules}
 use Rattle.ab_member.specs.Clients.{ClientMember, IsFirstClient, client_rules}
 use Rattle.ab_replay.specs.declared.refusal.Cause.TheVariants.{BadLine, NoEnd}
 use Rattle.ab_replay.specs.declared.refusal.Refusal.{Refusal}
-use Rattle.ab_replay.specs.Protocols.{any}
+use Rattle.ab_replay.specs.Protocols.{Any}
+use Rattle.ab_replay.specs.Replays.{proto_of}
 use Rattle.ab_replay.specs.Streams.{IsInput, IsTooLong}
 use Rattle.ab_node.specs.declared.stop.Stop.{Stop}
 use Rattle.ab_node.specs.declared.stop.Stop.TheVariants as stop
@@ -47,46 +45,50 @@ setting_of a me = record { me = me; base = a.base; wait = a.wait; trace = a.trac
 abbrev pub as_command : List ℕ → ArrayVec ℕ
 as_command bytes = record { items = bytes }
 
+-- ---- one party
+
 abbrev pub start_with : {C : Type 0} → Meeting → Party → C → List (List ℕ) → Start C
 start_with x me core commands = start_of (setting_of x.asked me) x.asked.turns core (map as_command commands) x.clock x.link
 
--- ---- one party
-
--- the replica of these keys was served, to the end
-pub record ReplicaServed {P : Type 0} (proto : Proto P) (counted : P → Option ℕ) (k : PartyKeys) (r : ℕ) (commands : List (List ℕ)) (x : Meeting) (served : Served) : Type 0 where
-  pub core : ReplicaMember P
-  pub first : IsFirstReplica proto k r core
-  pub run : HasServed (replica_rules proto counted) (start_with x (Replica r) core commands) x.old x.new x.before x.after served
+-- a core was served, to the end
+abbrev pub CoreServed : {C : Type 0} → Rules C → Party → C → List (List ℕ) → Meeting → Served → Type 0
+CoreServed rules me core commands x served = HasServed rules (start_with x me core commands) x.old x.new x.before x.after served
 
 -- it was served, and the node stopped for this
-pub record ReplicaStopped {P : Type 0} (proto : Proto P) (counted : P → Option ℕ) (k : PartyKeys) (r : ℕ) (commands : List (List ℕ)) (x : Meeting) (why : ServeFault) : Type 0 where
-  pub core : ReplicaMember P
+abbrev pub CoreStopped : {C : Type 0} → Rules C → Party → C → List (List ℕ) → Meeting → ServeFault → Type 0
+CoreStopped rules me core commands x why = HasFaultOf rules (start_with x me core commands) x.old x.new x.before x.after why
+
+-- the replica of these keys was served, to the end
+pub record ReplicaServed (proto : Proto Any) (k : PartyKeys) (r : ℕ) (commands : List (List ℕ)) (x : Meeting) (served : Served) : Type 0 where
+  pub core : ReplicaMember Any
   pub first : IsFirstReplica proto k r core
-  pub fault : HasFaultOf (replica_rules proto counted) (start_with x (Replica r) core commands) x.old x.new x.before x.after why
+  pub run : CoreServed (replica_rules proto any_counted) (Replica r) core commands x served
+
+-- it was served, and the node stopped for this
+pub record ReplicaStopped (proto : Proto Any) (k : PartyKeys) (r : ℕ) (commands : List (List ℕ)) (x : Meeting) (why : ServeFault) : Type 0 where
+  pub core : ReplicaMember Any
+  pub first : IsFirstReplica proto k r core
+  pub fault : CoreStopped (replica_rules proto any_counted) (Replica r) core commands x why
 
 -- the same of the client of these keys
 pub record ClientServed (k : PartyKeys) (c : ℕ) (commands : List (List ℕ)) (x : Meeting) (served : Served) : Type 0 where
   pub core : ClientMember
   pub first : IsFirstClient k c core
-  pub run : HasServed client_rules (start_with x (Client c) core commands) x.old x.new x.before x.after served
+  pub run : CoreServed client_rules (Client c) core commands x served
 
 pub record ClientStopped (k : PartyKeys) (c : ℕ) (commands : List (List ℕ)) (x : Meeting) (why : ServeFault) : Type 0 where
   pub core : ClientMember
   pub first : IsFirstClient k c core
-  pub fault : HasFaultOf client_rules (start_with x (Client c) core commands) x.old x.new x.before x.after why
+  pub fault : CoreStopped client_rules (Client c) core commands x why
 
--- the party of these keys, with the service that they name. What a client does depends on no service
-abbrev pub PartyServed : ServiceName → Party → PartyKeys → List (List ℕ) → Meeting → Served → Type 0
-PartyServed Echo (Replica r) k commands x served = ReplicaServed (any echo_machine) any_counted k r commands x served
-PartyServed Kv (Replica r) k commands x served = ReplicaServed (any kv_machine) any_counted k r commands x served
-PartyServed Echo (Client c) k commands x served = ClientServed k c commands x served
-PartyServed Kv (Client c) k commands x served = ClientServed k c commands x served
+-- the party of these keys, a replica with the service that they name. What a client does depends on no service
+abbrev pub PartyServed : Party → PartyKeys → List (List ℕ) → Meeting → Served → Type 0
+PartyServed (Replica r) k commands x served = ReplicaServed (proto_of k.service) k r commands x served
+PartyServed (Client c) k commands x served = ClientServed k c commands x served
 
-abbrev pub PartyStopped : ServiceName → Party → PartyKeys → List (List ℕ) → Meeting → ServeFault → Type 0
-PartyStopped Echo (Replica r) k commands x why = ReplicaStopped (any echo_machine) any_counted k r commands x why
-PartyStopped Kv (Replica r) k commands x why = ReplicaStopped (any kv_machine) any_counted k r commands x why
-PartyStopped Echo (Client c) k commands x why = ClientStopped k c commands x why
-PartyStopped Kv (Client c) k commands x why = ClientStopped k c commands x why
+abbrev pub PartyStopped : Party → PartyKeys → List (List ℕ) → Meeting → ServeFault → Type 0
+PartyStopped (Replica r) k commands x why = ReplicaStopped (proto_of k.service) k r commands x why
+PartyStopped (Client c) k commands x why = ClientStopped k c commands x why
 
 -- ---- by a text
 
@@ -94,13 +96,13 @@ PartyStopped Kv (Client c) k commands x why = ClientStopped k c commands x why
 pub record IsServed (text : List ℕ) (x : Meeting) (served : Served) : Type 0 where
   pub node : Node
   pub reads : node_in (lines_of text) ≡ Ok node
-  pub run : PartyServed node.keys.service node.keys.me node.keys node.commands x served
+  pub run : PartyServed node.keys.me node.keys node.commands x served
 
 -- it was served, and the node stopped for this
 pub record IsStopped (text : List ℕ) (x : Meeting) (why : ServeFault) : Type 0 where
   pub node : Node
   pub reads : node_in (lines_of text) ≡ Ok node
-  pub fault : PartyStopped node.keys.service node.keys.me node.keys node.commands x why
+  pub fault : PartyStopped node.keys.me node.keys node.commands x why
 
 -- a line is out of form or missing
 abbrev pub text_refusal : NodeFault → Option Refusal
@@ -139,17 +141,16 @@ TextCause (stop.Refused r) text x = IsRefused text r × IsUntouched x
 TextCause (stop.Serving why) text x = IsStopped text x why
 TextCause stop.OutOfMemory text x = IsUntouched x
 
--- and of a party that is made for it
-abbrev pub ReplicaCause : {P : Type 0} → Proto P → (P → Option ℕ) → PartyKeys → ℕ → List (List ℕ) → Meeting → Stop → Type 0
-ReplicaCause proto counted k r commands x stop.Read = ⊥
-ReplicaCause proto counted k r commands x stop.TooLong = ⊥
-ReplicaCause proto counted k r commands x (stop.Refused q) = ⊥
-ReplicaCause proto counted k r commands x (stop.Serving why) = ReplicaStopped proto counted k r commands x why
-ReplicaCause proto counted k r commands x stop.OutOfMemory = IsUntouched x
+-- and of a party of which this is said once it is served
+abbrev pub PartyCause : (ServeFault → Type 0) → Meeting → Stop → Type 0
+PartyCause HasFault x stop.Read = ⊥
+PartyCause HasFault x stop.TooLong = ⊥
+PartyCause HasFault x (stop.Refused r) = ⊥
+PartyCause HasFault x (stop.Serving why) = HasFault why
+PartyCause HasFault x stop.OutOfMemory = IsUntouched x
+
+abbrev pub ReplicaCause : Proto Any → PartyKeys → ℕ → List (List ℕ) → Meeting → Stop → Type 0
+ReplicaCause proto k r commands x = PartyCause (ReplicaStopped proto k r commands x) x
 
 abbrev pub ClientCause : PartyKeys → ℕ → List (List ℕ) → Meeting → Stop → Type 0
-ClientCause k c commands x stop.Read = ⊥
-ClientCause k c commands x stop.TooLong = ⊥
-ClientCause k c commands x (stop.Refused q) = ⊥
-ClientCause k c commands x (stop.Serving why) = ClientStopped k c commands x why
-ClientCause k c commands x stop.OutOfMemory = IsUntouched x
+ClientCause k c commands x = PartyCause (ClientStopped k c commands x) x

@@ -5,16 +5,16 @@ ghost use Rattle.ab_num.specs.declared.party.Party.TheVariants.{Replica as Repli
 ghost use Rattle.ab_keys.specs.Keys.{is_party};
 ghost use Rattle.ab_key_text.specs.Keys.{IsWhole};
 ghost use Rattle.ab_loop.specs.Outside.{counts, outside};
+ghost use Rattle.ab_msg.specs.Fields.{IsParty};
 ghost use Rattle.ab_replay.specs.Protocols.{any};
 ghost use Rattle.ab_replay.specs.Streams.{IsInput};
-ghost use Rattle.ab_node.specs.Timers.{any_counted};
-ghost use Rattle.ab_node.specs.Nodes.{ClientCause, ClientServed, IsServed, PartyServed, ReplicaCause, ReplicaServed, StopCause, TextCause, setting_of, stop_from, text_refusal};
+ghost use Rattle.ab_node.specs.Nodes.{ClientCause, ClientServed, CoreServed, CoreStopped, IsServed, ReplicaCause, ReplicaServed, StopCause, TextCause, setting_of, stop_from, text_refusal};
 
 use crate::stop::Stop;
 use ab_io::{Clock, Link, Sink, Source};
 use ab_key_text::{Commands, NodeFault, PartyKeys, keys_are_whole, read_node};
 use ab_kv::Kv;
-use ab_loop::{Job, Served, Setting, serve};
+use ab_loop::{Job, PartyCore, ServeFault, Served, Setting, serve};
 use ab_member::{ClientMember, ReplicaMember};
 use ab_num::{Party, ServiceName};
 use ab_replay::{AnyProtocol, Cause, ReadFault, Refusal, read_all};
@@ -24,7 +24,8 @@ use std::alloc::Global;
 
 /// What the node is told once.
 fn setting_of(asked: &NodeCommand, me: Party) -> Setting
-    ensures { result ≡ setting_of asked.now me }
+    ensures value { result ≡ setting_of asked.now me }
+    ensures bound { result.base ≤ 65000 }
 {
     Setting {
         me,
@@ -61,6 +62,46 @@ fn stop_of(refusal: Option<Refusal>) -> Stop
     }
 }
 
+/// Serves a core.
+fn serve_core<K: PartyCore, L: Link, C: Clock, O: Sink>(
+    alloc: Global,
+    asked: &NodeCommand,
+    me: Party,
+    core: K,
+    commands: Commands,
+    link: &mut L,
+    clock: &mut C,
+    out: &mut O,
+) -> Result<Served, ServeFault>
+    requires { IsParty me }
+    ensures ok { IfOk result (CoreServed K.rules me core (map (λ c. c.items) commands) (record {
+      asked = asked.now;
+      clock = C.readings clock.old;
+      link = L.to_come link.old;
+      old = outside (O.contents out.old) (L.sent link.old);
+      new = outside (O.contents out.new) (L.sent link.new);
+      before = counts (L.faults link.old) (O.faults out.old) (L.losses link.old);
+      after = counts (L.faults link.new) (O.faults out.new) (L.losses link.new);
+    })) }
+    ensures cause { IfErr result (CoreStopped K.rules me core (map (λ c. c.items) commands) (record {
+      asked = asked.now;
+      clock = C.readings clock.old;
+      link = L.to_come link.old;
+      old = outside (O.contents out.old) (L.sent link.old);
+      new = outside (O.contents out.new) (L.sent link.new);
+      before = counts (L.faults link.old) (O.faults out.old) (L.losses link.old);
+      after = counts (L.faults link.new) (O.faults out.new) (L.losses link.new);
+    })) }
+{
+    let job = Job {
+        core,
+        setting: setting_of(asked, me),
+        commands,
+        turns: u64::from(asked.turns()),
+    };
+    serve(alloc, job, link, clock, out)
+}
+
 /// Serves replica `me` of these keys.
 fn serve_replica<S: Service, L: Link, C: Clock, O: Sink>(
     alloc: Global,
@@ -75,7 +116,7 @@ fn serve_replica<S: Service, L: Link, C: Clock, O: Sink>(
     requires whole { IsWhole keys.now }
     requires own { keys.now.me ≡ ReplicaParty me }
     requires party { IsTrue (is_party keys.now.f keys.now.clients keys.now.me) }
-    ensures ok { IfOk result (ReplicaServed (any S.machine) any_counted keys.now me (map (λ c. c.items) commands) (record {
+    ensures ok { IfOk result (ReplicaServed (any S.machine) keys.now me (map (λ c. c.items) commands) (record {
       asked = asked.now;
       clock = C.readings clock.old;
       link = L.to_come link.old;
@@ -84,7 +125,7 @@ fn serve_replica<S: Service, L: Link, C: Clock, O: Sink>(
       before = counts (L.faults link.old) (O.faults out.old) (L.losses link.old);
       after = counts (L.faults link.new) (O.faults out.new) (L.losses link.new);
     })) }
-    ensures cause { IfErr result (ReplicaCause (any S.machine) any_counted keys.now me (map (λ c. c.items) commands) (record {
+    ensures cause { IfErr result (ReplicaCause (any S.machine) keys.now me (map (λ c. c.items) commands) (record {
       asked = asked.now;
       clock = C.readings clock.old;
       link = L.to_come link.old;
@@ -97,13 +138,8 @@ fn serve_replica<S: Service, L: Link, C: Clock, O: Sink>(
     let Ok(core) = ReplicaMember::<S, AnyProtocol<S>>::new(alloc, keys, me) else {
         return Err(Stop::OutOfMemory);
     };
-    let job = Job {
-        core,
-        setting: setting_of(asked, Party::Replica(me)),
-        commands,
-        turns: u64::from(asked.turns()),
-    };
-    match serve(alloc, job, link, clock, out) {
+    let party = Party::Replica(me);
+    match serve_core(alloc, asked, party, core, commands, link, clock, out) {
         Ok(served) => Ok(served),
         Err(fault) => Err(Stop::Serving(fault)),
     }
@@ -145,13 +181,8 @@ fn serve_client<L: Link, C: Clock, O: Sink>(
     let Ok(core) = ClientMember::new(alloc, keys, me) else {
         return Err(Stop::OutOfMemory);
     };
-    let job = Job {
-        core,
-        setting: setting_of(asked, Party::Client(me)),
-        commands,
-        turns: u64::from(asked.turns()),
-    };
-    match serve(alloc, job, link, clock, out) {
+    let party = Party::Client(me);
+    match serve_core(alloc, asked, party, core, commands, link, clock, out) {
         Ok(served) => Ok(served),
         Err(fault) => Err(Stop::Serving(fault)),
     }
