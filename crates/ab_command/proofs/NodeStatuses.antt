@@ -2,8 +2,6 @@
 use Rattle.std.proofs.Common.{◌≡◌, ◌⊎◌, ℕ, List, Bool, true, Option, Some, Result, Ok, Err, refl, sym, ap, ◌∙◌, subst, inl, inr}
 use Rattle.ab_num.specs.declared.party.Party.{Party}
 use Rattle.ab_num.specs.declared.party.Party.TheVariants.{Replica, Client}
-use Rattle.ab_num.specs.declared.plan.ServiceName.{ServiceName}
-use Rattle.ab_num.specs.declared.plan.ServiceName.TheVariants.{Echo, Kv}
 use Rattle.ab_io.specs.Causes.{Rose}
 use Rattle.ab_text.specs.Lines.{lines_of}
 use Rattle.ab_key_text.specs.declared.fault.NodeFault.{NodeFault}
@@ -32,24 +30,18 @@ use Rattle.ab_command.proofs.StatusLemmas.{keys_or_node, not_none, not_too_long,
 
 -- ---- whose counts rose, whatever the party
 
-link_rose : (service : ServiceName) (me : Party) (k : PartyKeys) (commands : List (List ℕ)) (x : Meeting) → PartyStopped service me k commands x LinkFailed → Rose x.before.link x.after.link
-link_rose Echo (Replica r) k commands x stopped = stopped.fault.counted.1
-link_rose Kv (Replica r) k commands x stopped = stopped.fault.counted.1
-link_rose Echo (Client c) k commands x stopped = stopped.fault.counted.1
-link_rose Kv (Client c) k commands x stopped = stopped.fault.counted.1
+link_rose : (me : Party) (k : PartyKeys) (commands : List (List ℕ)) (x : Meeting) → PartyStopped me k commands x LinkFailed → Rose x.before.link x.after.link
+link_rose (Replica r) k commands x stopped = stopped.fault.counted.1
+link_rose (Client c) k commands x stopped = stopped.fault.counted.1
 
-out_rose : (service : ServiceName) (me : Party) (k : PartyKeys) (commands : List (List ℕ)) (x : Meeting) → PartyStopped service me k commands x WriteFailed → Rose x.before.out x.after.out
-out_rose Echo (Replica r) k commands x stopped = stopped.fault.counted.1
-out_rose Kv (Replica r) k commands x stopped = stopped.fault.counted.1
-out_rose Echo (Client c) k commands x stopped = stopped.fault.counted.1
-out_rose Kv (Client c) k commands x stopped = stopped.fault.counted.1
+out_rose : (me : Party) (k : PartyKeys) (commands : List (List ℕ)) (x : Meeting) → PartyStopped me k commands x WriteFailed → Rose x.before.out x.after.out
+out_rose (Replica r) k commands x stopped = stopped.fault.counted.1
+out_rose (Client c) k commands x stopped = stopped.fault.counted.1
 
 -- only a client leaves commands
-leaves_as_client : (service : ServiceName) (me : Party) (k : PartyKeys) (commands : List (List ℕ)) (x : Meeting) (n : ℕ) → PartyStopped service me k commands x (Unanswered n) → is_client me ≡ true
-leaves_as_client Echo (Replica r) k commands x n stopped = stopped.fault.client
-leaves_as_client Kv (Replica r) k commands x n stopped = stopped.fault.client
-leaves_as_client Echo (Client c) k commands x n stopped = refl
-leaves_as_client Kv (Client c) k commands x n stopped = refl
+leaves_as_client : (me : Party) (k : PartyKeys) (commands : List (List ℕ)) (x : Meeting) (n : ℕ) → PartyStopped me k commands x (Unanswered n) → is_client me ≡ true
+leaves_as_client (Replica r) k commands x n stopped = stopped.fault.client
+leaves_as_client (Client c) k commands x n stopped = refl
 
 module _ (c : Call) (k : NodeCommand) (clear : IsClearForNode c k) where
   read_as : (text : List ℕ) (r : Result Node NodeFault) → IsInput c.left text → node_in (lines_of text) ≡ r → Ok clear.node ≡ r
@@ -63,7 +55,7 @@ module _ (c : Call) (k : NodeCommand) (clear : IsClearForNode c k) where
       let e : ◌≡◌ {A = Result Node NodeFault} (Ok clear.node) (Ok stopped.node) = read_as text (Ok stopped.node) input stopped.reads in
       let same : stopped.node ≡ clear.node = cc in
       let node = stopped.node in
-      subst (λ (m : Node). is_client m.keys.me ≡ true) same (leaves_as_client node.keys.service node.keys.me node.keys node.commands x n stopped.fault)
+      subst (λ (m : Node). is_client m.keys.me ≡ true) same (leaves_as_client node.keys.me node.keys node.commands x n stopped.fault)
 
   pub node_status : (s : Status) → StatusCause s c → IsServedOut (code_of s) clear.node c
   node_status Done (inl (words, report), kept) = absurd (replay_or_node c.words k words clear.words)
@@ -83,7 +75,7 @@ module _ (c : Call) (k : NodeCommand) (clear : IsClearForNode c k) where
   ]
   node_status LinkFault ((j, asks, text, input, stopped), said) =
       let node = stopped.node in
-      absurd (clear.link (link_rose node.keys.service node.keys.me node.keys node.commands (meeting_of j c) stopped.fault))
+      absurd (clear.link (link_rose node.keys.me node.keys node.commands (meeting_of j c) stopped.fault))
   node_status (Limit Bytes) (inl (words, long, kept), said) = absurd (replay_or_node c.words k words clear.words)
   node_status (Limit Bytes) (inr (j, asks, long, untouched), said) = absurd (not_too_long c.left clear.text clear.input clear.short long)
   node_status (Limit Events) (words, input, kept, said) = absurd (replay_or_node c.words k words clear.words)
@@ -102,7 +94,7 @@ stopped_status c k (stop.Refused r) asks cause front said = (inr (k, asks, cause
 stopped_status c k (stop.Serving serving.LinkFailed) asks cause front said = ((k, asks, cause), said)
 stopped_status c k (stop.Serving serving.WriteFailed) asks (text, input, stopped) front said =
     let node = stopped.node in
-    (inl (out_rose node.keys.service node.keys.me node.keys node.commands (meeting_of k c) stopped.fault, said), front)
+    (inl (out_rose node.keys.me node.keys node.commands (meeting_of k c) stopped.fault, said), front)
 stopped_status c k (stop.Serving serving.OutOfMemory) asks cause front said = (front, inl said)
 stopped_status c k (stop.Serving (serving.TurnsSpent n)) asks cause front said = ((k, asks, cause), said)
 stopped_status c k stop.OutOfMemory asks cause front said = (front, inl said)
