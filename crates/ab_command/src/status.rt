@@ -8,7 +8,7 @@ use std::alloc::{AllocError, Global};
 
 /// Which of its limits an input passes.
 #[derive(Clone, Copy, Debug, PartialEq, Eq)]
-pub(crate) enum Bound {
+pub enum Bound {
     Bytes,
     Events,
     Packets,
@@ -16,7 +16,7 @@ pub(crate) enum Bound {
 
 /// How a call of the program ended.
 #[derive(Clone, Copy, Debug, PartialEq, Eq)]
-pub(crate) enum Status {
+pub enum Status {
     /// A run was told, and its premises held; or keys were; or a node was served to its end.
     Done,
     /// A run was told, and a premise was broken.
@@ -34,7 +34,7 @@ pub(crate) enum Status {
 
 impl Status {
     /// The number that the program ends with.
-    pub(crate) fn code(self) -> u8
+    pub fn code(self) -> u8
         ensures { result ≡ code_of self }
     {
         match self {

@@ -2,57 +2,26 @@
 
 ghost use Rattle.std.specs.Prelude.{◌≡◌, ◌≤◌, ◌⊎◌, ℕ, List, Option, if◌then◌else◌, map, codes};
 ghost use Rattle.ab_io.specs.Causes.{Rose};
-ghost use Rattle.ab_command.specs.Texts.{code_of, status_of, stop_status, text_of};
+ghost use Rattle.ab_command.specs.Texts.{code_of, status_of, stop_status};
 ghost use Rattle.ab_command.specs.Calls.{Call, Network};
 ghost use Rattle.ab_command.specs.Commands.{AsksKeys, AsksNode, AsksStorm, IsNode, IsReplay, TakesInput};
 ghost use Rattle.ab_command.specs.Statuses.{SaysNoMemoryOn, Settles, StatusCause, HasCauseOf};
 
 use crate::keys::key_text;
+use crate::saying::{say, say_no_memory, say_refusal};
 use crate::status::{Bound, Status, turns_line};
 use ab_io::{Clock, Link, Sink, Source};
 use ab_kv::Kv;
 use ab_loop::ServeFault;
 use ab_node::{Stop, serve_text};
 use ab_receivers::packets_go_to_parties;
-use ab_replay::{AnyProtocol, Refusal, ReplayFault, WriteFault, refusal_line, replay, write_all};
+use ab_replay::{AnyProtocol, ReplayFault, WriteFault, replay, write_all};
 use ab_storm_run::{StormFault, storm};
 use ab_text::one_reading;
 use ab_words::{Command, KeysCommand, NodeCommand, StormCommand, command_in};
 use std::alloc::Global;
 
 const USAGE: &str = "usage: abstract_bft <keys|node|replay|storm> [options]\n";
-
-/// Writes the text of a status, and gives the status, or that of the fault of writing it.
-fn say<E: Sink>(err: &mut E, text: &str, status: Status) -> Status
-    requires { text.now ≡ text_of status }
-    ensures status { Settles result status (E.contents err.old) (E.contents err.new) (E.faults err.old) (E.faults err.new) }
-    ensures later { E.faults err.old ≤ E.faults err.new }
-{
-    match write_all(err, text.as_bytes()) {
-        Ok(()) => status,
-        Err(WriteFault::Failed) => Status::WriteFault,
-        Err(WriteFault::OutOfMemory) => Status::OutOfMemory,
-    }
-}
-
-/// Says that memory was refused.
-fn say_no_memory<E: Sink>(err: &mut E) -> Status
-    ensures status { Settles result Status.OutOfMemory (E.contents err.old) (E.contents err.new) (E.faults err.old) (E.faults err.new) }
-    ensures later { E.faults err.old ≤ E.faults err.new }
-{
-    say(err, "out of memory\n", Status::OutOfMemory)
-}
-
-/// Says which line is refused.
-fn say_refusal<E: Sink>(alloc: Global, err: &mut E, refusal: Refusal) -> Status
-    ensures status { Settles result (Status.Refused refusal) (E.contents err.old) (E.contents err.new) (E.faults err.old) (E.faults err.new) }
-    ensures later { E.faults err.old ≤ E.faults err.new }
-{
-    match refusal_line(alloc, refusal) {
-        Ok(line) => say(err, line.as_str(), Status::Refused(refusal)),
-        Err(_) => say_no_memory(err),
-    }
-}
 
 /// The status of a run that was told.
 fn done(held: bool) -> Status

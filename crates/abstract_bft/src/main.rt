@@ -7,24 +7,12 @@
 //! commands are unanswered, and 9 where memory was refused.
 #![tactic(auto)]
 
-mod standard;
-
 use ab_command::{refuse_memory, run};
 use ab_net::{StdClock, UdpLink};
-use standard::{StdSink, StdSource};
+use ab_standard::{StdSink, StdSource, words};
 use std::alloc::{AllocError, Global};
-use std::env::{self, Env};
 use std::io;
 use std::process::ExitCode;
-
-/// The words after the program's name.
-fn words(rt: &(impl Env + AllocGlobal)) -> io::Result<Vec<String>> {
-    let mut all = Vec::new(rt.alloc());
-    for word in env::args(rt)?.skip(1) {
-        all.push(word)?;
-    }
-    Ok(all)
-}
 
 /// The words as texts.
 fn texts<'a>(alloc: Global, words: &'a [String]) -> Result<Vec<&'a str>, AllocError> {
@@ -36,9 +24,7 @@ fn texts<'a>(alloc: Global, words: &'a [String]) -> Result<Vec<&'a str>, AllocEr
 }
 
 /// Datagrams over the loopback address, and the system's clock.
-fn network(
-    rt: &HostRuntime,
-) -> Result<(UdpLink<HostRuntime>, StdClock<HostRuntime>), AllocError> {
+fn network(rt: &HostRuntime) -> Result<(UdpLink<HostRuntime>, StdClock<HostRuntime>), AllocError> {
     let link = UdpLink::new(rt.clone()?);
     let clock = StdClock::new(rt.clone()?);
     Ok((link, clock))
