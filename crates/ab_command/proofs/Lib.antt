@@ -1,3 +1,5 @@
 -- The lemmas that the proofs of this crate share.
+pub mod Answering
+pub mod NodeStatuses
 pub mod StatusLemmas
 pub mod StormWords

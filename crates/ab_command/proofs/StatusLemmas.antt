@@ -1,6 +1,6 @@
 -- What follows from the causes of statuses.
 use Rattle.std.proofs.Common.{◌≡◌, ◌↔◌, ℕ, ◌<◌, ◌⊎◌, List, Bool, true, false, IsTrue, Ok, Err, Result, if◌then◌else◌, length, arith, refl, sym, ap, ◌∙◌, subst, inl, inr}
-use Rattle.std.proofs.Common.{Option, Some}
+use Rattle.std.proofs.Common.{Option, None, Some}
 use Rattle.std.specs.Io.KnownBytes.{Appends, Keeps}
 use Rattle.ab_num.specs.declared.plan.ServiceName.{ServiceName}
 use Rattle.ab_num.specs.declared.plan.ServiceName.TheVariants.{Echo, Kv}
@@ -13,14 +13,15 @@ use Rattle.ab_text.specs.Schedules.{ReadsText}
 use Rattle.ab_replay.specs.Protocols.{Any, any}
 use Rattle.ab_command.specs.declared.status.Bound.TheVariants.{Bytes, Events, Packets}
 use Rattle.ab_command.specs.declared.status.Status.{Status}
-use Rattle.ab_command.specs.declared.status.Status.TheVariants.{Done, Broken, Usage, Refused, ReadFault, WriteFault, Limit, OutOfMemory}
+use Rattle.ab_command.specs.declared.status.Status.TheVariants.{Done, Broken, Usage, Refused, ReadFault, WriteFault, LinkFault, Limit, TurnsSpent, OutOfMemory}
 use Rattle.ab_command.specs.Texts.{code_of}
 use Rattle.ab_replay.specs.Streams.{IsAllOf, IsInput, IsTooLong}
 use Rattle.ab_words.specs.declared.command.Command.{Command}
-use Rattle.ab_words.specs.declared.command.Command.TheVariants.{Replay, Keys, Storm}
-use Rattle.ab_words.specs.Commands.{KeysCommand, StormCommand}
+use Rattle.ab_words.specs.declared.command.Command.TheVariants.{Replay, Keys, Storm, Node}
+use Rattle.ab_words.specs.Commands.{KeysCommand, NodeCommand, StormCommand}
 use Rattle.ab_words.specs.Language.{command_in}
-use Rattle.ab_command.specs.KeyCommands.{AsksKeys, AsksStorm, is_built, key_text}
+use Rattle.ab_command.specs.Calls.{Call}
+use Rattle.ab_command.specs.Commands.{AsksKeys, AsksNode, AsksStorm, IsReplay, key_text}
 use Rattle.ab_io.specs.Causes.{Rose}
 use Rattle.ab_world.specs.declared.fault.WorldFault.{WorldFault}
 use Rattle.ab_world.specs.declared.fault.WorldFault.TheVariants.{PacketLimit}
@@ -30,7 +31,7 @@ use Rattle.ab_replay.proofs.RunLemmas.{one_end}
 use Rattle.ab_kv.specs.KvMachines.{kv_machine}
 use Rattle.ab_replay.specs.declared.refusal.Refusal.{Refusal}
 use Rattle.ab_storm_run.specs.Runs.{Storms}
-use Rattle.ab_command.specs.Statuses.{Call, IsReplay, StatusCause, Says, SaysNoMemoryOn, Settles, HasCauseOf, HasFront, HasReport, HasSummary, IsToldWhole, KeepsOut, Passes, kv, IsClear, IsClearForKeys, IsClearForStorm, premise_code}
+use Rattle.ab_command.specs.Statuses.{StatusCause, Says, SaysNoMemoryOn, Settles, HasCauseOf, HasFront, HasReport, HasSummary, IsToldWhole, KeepsOut, Passes, kv, IsClear, IsClearForKeys, IsClearForStorm, premise_code}
 
 -- a run has one end
 said_at : {S : Type 0} (machine : Machine S) (s : Script) (report : List ℕ) (held : Bool) (end : World Any) → Performs machine s report held → RunsTo (any machine) s (Ok end)
@@ -53,25 +54,43 @@ held_code : (held : Bool) (p : Premise) → IsTrue held ↔ (p ≡ Held) → (if
 held_code true p says = ap premise_code (sym (says.0 refl))
 held_code false p says = code_of_broken p says.1
 
--- words are not both a replay and a wish for keys
-not_both : (words : List (List ℕ)) (k : KeysCommand) → IsReplay words → AsksKeys words k → ⊥
-not_both words k replay asks = let e : ◌≡◌ {A = Option Command} (Some Replay) (Some (Keys k)) = sym replay ∙ asks in cc
+-- ---- words ask for one command
 
--- nor one of these and a wish for a storm
-not_replay : (words : List (List ℕ)) (k : StormCommand) → IsReplay words → AsksStorm words k → ⊥
-not_replay words k replay asks = let e : ◌≡◌ {A = Option Command} (Some Replay) (Some (Storm k)) = sym replay ∙ asks in cc
+pub not_none : (words : List (List ℕ)) (a : Command) → command_in words ≡ Some a → command_in words ≡ None → ⊥
+not_none words a asks none = let e : ◌≡◌ {A = Option Command} (Some a) None = sym asks ∙ none in cc
 
-not_keys : (words : List (List ℕ)) (j : KeysCommand) (k : StormCommand) → AsksKeys words j → AsksStorm words k → ⊥
-not_keys words j k keys asks = let e : ◌≡◌ {A = Option Command} (Some (Keys j)) (Some (Storm k)) = sym keys ∙ asks in cc
+pub replay_or_keys : (words : List (List ℕ)) (k : KeysCommand) → IsReplay words → AsksKeys words k → ⊥
+replay_or_keys words k replay asks = let e : ◌≡◌ {A = Option Command} (Some Replay) (Some (Keys k)) = sym replay ∙ asks in cc
 
--- words ask for one storm
+pub replay_or_storm : (words : List (List ℕ)) (k : StormCommand) → IsReplay words → AsksStorm words k → ⊥
+replay_or_storm words k replay asks = let e : ◌≡◌ {A = Option Command} (Some Replay) (Some (Storm k)) = sym replay ∙ asks in cc
+
+pub keys_or_storm : (words : List (List ℕ)) (j : KeysCommand) (k : StormCommand) → AsksKeys words j → AsksStorm words k → ⊥
+keys_or_storm words j k keys asks = let e : ◌≡◌ {A = Option Command} (Some (Keys j)) (Some (Storm k)) = sym keys ∙ asks in cc
+
+pub replay_or_node : (words : List (List ℕ)) (k : NodeCommand) → IsReplay words → AsksNode words k → ⊥
+replay_or_node words k replay asks = let e : ◌≡◌ {A = Option Command} (Some Replay) (Some (Node k)) = sym replay ∙ asks in cc
+
+pub keys_or_node : (words : List (List ℕ)) (j : KeysCommand) (k : NodeCommand) → AsksKeys words j → AsksNode words k → ⊥
+keys_or_node words j k keys asks = let e : ◌≡◌ {A = Option Command} (Some (Keys j)) (Some (Node k)) = sym keys ∙ asks in cc
+
+pub storm_or_node : (words : List (List ℕ)) (j : StormCommand) (k : NodeCommand) → AsksStorm words j → AsksNode words k → ⊥
+storm_or_node words j k storm asks = let e : ◌≡◌ {A = Option Command} (Some (Storm j)) (Some (Node k)) = sym storm ∙ asks in cc
+
 same_storm : (words : List (List ℕ)) (j k : StormCommand) → AsksStorm words j → AsksStorm words k → j ≡ k
 same_storm words j k one other = let e : ◌≡◌ {A = Option Command} (Some (Storm j)) (Some (Storm k)) = sym one ∙ other in cc
 
+-- the bytes that were read are those that the input tells
+pub same_input : (left : Option (List ℕ)) (told text : List ℕ) → left ≡ Some told → IsInput left text → text ≡ told
+same_input left told text is input = sym (subst (λ l. IsAllOf l text) is input.all)
+
+-- it tells no more than a program reads
+pub not_too_long : (left : Option (List ℕ)) (told : List ℕ) → left ≡ Some told → length told ≤ 67108864 → IsTooLong left → ⊥
+not_too_long left told is short long = let above : 67108864 < length told = subst IsTooLong is long in omega (arith, above, short)
+
 module _ (one : (text : List ℕ) (r q : Result Script TextFault) → ReadsText text r → ReadsText text q → r ≡ q) (c : Call) (clear : IsClear c) where
-  -- the bytes that were read are those that the input tells
   same_text : (text : List ℕ) → IsInput c.left text → text ≡ clear.text
-  same_text text input = sym (subst (λ left. IsAllOf left text) clear.input input.all)
+  same_text text input = same_input c.left clear.text text clear.input input
 
   not_ended : (text : List ℕ) (s : Script) (n : ℕ) (f : WorldFault) → text ≡ clear.text → ReadsText text (Ok s) → Runs s (Err (n, f)) → ⊥
   not_ended text s n f same reads ends =
@@ -94,52 +113,63 @@ module _ (one : (text : List ℕ) (r q : Result Script TextFault) → ReadsText 
       let is : s ≡ clear.schedule = cc in
       said_of s.service s report held clear.end replays.performs (subst (λ (q : Script). Runs q (Ok clear.end)) (sym is) clear.runs)
 
-  clear_status : (s : Status) → StatusCause s c → (code_of s ≡ premise_code (premise_of clear.end)) ⊎ (code_of s ≡ 9)
+  pub clear_status : (s : Status) → StatusCause s c → (code_of s ≡ premise_code (premise_of clear.end)) ⊎ (code_of s ≡ 9)
   clear_status Done (inl (words, report), kept) = inl (ap premise_code (sym ((says_clear true report).0 refl)))
-  clear_status Done (inr (inl (k, asks, written)), kept) = absurd (not_both c.words k clear.words asks)
-  clear_status Done (inr (inr (k, summary, asks, storms, written)), kept) = absurd (not_replay c.words k clear.words asks)
+  clear_status Done (inr (inl (k, asks, written)), kept) = absurd (replay_or_keys c.words k clear.words asks)
+  clear_status Done (inr (inr (inl (k, summary, asks, storms, written))), kept) = absurd (replay_or_storm c.words k clear.words asks)
+  clear_status Done (inr (inr (inr (k, asks, served))), kept) = absurd (replay_or_node c.words k clear.words asks)
   clear_status Broken (inl (words, report), kept) = inl (code_of_broken (premise_of clear.end) ((says_clear false report).1))
-  clear_status Broken (inr (k, summary, asks, storms, written), kept) = absurd (not_replay c.words k clear.words asks)
-  clear_status Usage (others, none, kept, said) = absurd (others clear.words)
-  clear_status (Refused r) (words, (text, input, refused), kept, said) = absurd (not_refused text r (same_text text input) refused)
-  clear_status ReadFault (words, rose, kept, said) = absurd (clear.read rose)
+  clear_status Broken (inr (k, summary, asks, storms, written), kept) = absurd (replay_or_storm c.words k clear.words asks)
+  clear_status Usage (others, none, kept, said) = absurd (others (inl clear.words))
+  clear_status (Refused r) (inl (words, (text, input, refused), kept), said) = absurd (not_refused text r (same_text text input) refused)
+  clear_status (Refused r) (inr (k, asks, why), said) = absurd (replay_or_node c.words k clear.words asks)
+  clear_status ReadFault (inl (words, rose, kept), said) = absurd (clear.read rose)
+  clear_status ReadFault (inr (k, asks, why), said) = absurd (replay_or_node c.words k clear.words asks)
   clear_status WriteFault (rose, front) = elim rose [
     | inl out ↦ absurd (clear.out out.0)
     | inr err ↦ absurd (clear.err err)
   ]
-  clear_status (Limit Bytes) (words, long, kept, said) =
-      absurd (let above : 67108864 < length clear.text = subst IsTooLong clear.input long in omega (arith, above, clear.short))
+  clear_status LinkFault ((k, asks, why), said) = absurd (replay_or_node c.words k clear.words asks)
+  clear_status (Limit Bytes) (inl (words, long, kept), said) = absurd (not_too_long c.left clear.text clear.input clear.short long)
+  clear_status (Limit Bytes) (inr (k, asks, why), said) = absurd (replay_or_node c.words k clear.words asks)
   clear_status (Limit Events) (words, (text, input, (s, reads, many)), kept, said) =
       absurd (let e : Ok s ≡ Ok clear.schedule = one clear.text (Ok s) (Ok clear.schedule) (subst (λ t. ReadsText t (Ok s)) (same_text text input) reads) clear.reads in
       let same : s ≡ clear.schedule = cc in
       omega (arith, many, ap (λ x. length x.events) same, clear.few))
   clear_status (Limit Packets) (inl (words, (text, input, many)), kept, said) =
       absurd (not_ended text many.schedule many.event PacketLimit (same_text text input) many.reads many.runs)
-  clear_status (Limit Packets) (inr (k, asks, passes), kept, said) = absurd (not_replay c.words k clear.words asks)
+  clear_status (Limit Packets) (inr (k, asks, passes), kept, said) = absurd (replay_or_storm c.words k clear.words asks)
+  clear_status (TurnsSpent n) ((k, asks, why), said) = absurd (replay_or_node c.words k clear.words asks)
   clear_status OutOfMemory cause = inr refl
 
 -- where keys are asked for
 module _ (c : Call) (k : KeysCommand) (clear : IsClearForKeys c k) where
-  keys_status : (s : Status) → StatusCause s c → ((code_of s ≡ 0) × Appends c.out_old c.out_new (key_text k)) ⊎ (code_of s ≡ 9)
-  keys_status Done (inl (words, report), kept) = absurd (not_both c.words k words clear.words)
-  keys_status Done (inr (inr (s, summary, asks, storms, written)), kept) = absurd (not_keys c.words k s clear.words asks)
+  pub keys_status : (s : Status) → StatusCause s c → ((code_of s ≡ 0) × Appends c.out_old c.out_new (key_text k)) ⊎ (code_of s ≡ 9)
+  keys_status Done (inl (words, report), kept) = absurd (replay_or_keys c.words k words clear.words)
+  keys_status Done (inr (inr (inl (s, summary, asks, storms, written))), kept) = absurd (keys_or_storm c.words k s clear.words asks)
+  keys_status Done (inr (inr (inr (n, asks, served))), kept) = absurd (keys_or_node c.words k n clear.words asks)
   keys_status Done (inr (inl (j, asks, written)), kept) =
       let e : ◌≡◌ {A = Option Command} (Some (Keys j)) (Some (Keys k)) = sym asks ∙ clear.words in
       let same : j ≡ k = cc in
       inl (refl, subst (λ (x : KeysCommand). Appends c.out_old c.out_new (key_text x)) same written)
-  keys_status Broken (inl (words, report), kept) = absurd (not_both c.words k words clear.words)
-  keys_status Broken (inr (s, summary, asks, storms, written), kept) = absurd (not_keys c.words k s clear.words asks)
-  keys_status Usage (others, none, kept, said) = absurd (let e : true ≡ false = ap is_built (sym clear.words) ∙ none in cc)
-  keys_status (Refused r) (words, input, kept, said) = absurd (not_both c.words k words clear.words)
-  keys_status ReadFault (words, rose, kept, said) = absurd (not_both c.words k words clear.words)
+  keys_status Broken (inl (words, report), kept) = absurd (replay_or_keys c.words k words clear.words)
+  keys_status Broken (inr (s, summary, asks, storms, written), kept) = absurd (keys_or_storm c.words k s clear.words asks)
+  keys_status Usage (others, none, kept, said) = absurd (not_none c.words (Keys k) clear.words none)
+  keys_status (Refused r) (inl (words, input, kept), said) = absurd (replay_or_keys c.words k words clear.words)
+  keys_status (Refused r) (inr (n, asks, why), said) = absurd (keys_or_node c.words k n clear.words asks)
+  keys_status ReadFault (inl (words, rose, kept), said) = absurd (replay_or_keys c.words k words clear.words)
+  keys_status ReadFault (inr (n, asks, why), said) = absurd (keys_or_node c.words k n clear.words asks)
   keys_status WriteFault (rose, front) = elim rose [
     | inl out ↦ absurd (clear.out out.0)
     | inr err ↦ absurd (clear.err err)
   ]
-  keys_status (Limit Bytes) (words, long, kept, said) = absurd (not_both c.words k words clear.words)
-  keys_status (Limit Events) (words, input, kept, said) = absurd (not_both c.words k words clear.words)
-  keys_status (Limit Packets) (inl (words, input), kept, said) = absurd (not_both c.words k words clear.words)
-  keys_status (Limit Packets) (inr (s, asks, passes), kept, said) = absurd (not_keys c.words k s clear.words asks)
+  keys_status LinkFault ((n, asks, why), said) = absurd (keys_or_node c.words k n clear.words asks)
+  keys_status (Limit Bytes) (inl (words, long, kept), said) = absurd (replay_or_keys c.words k words clear.words)
+  keys_status (Limit Bytes) (inr (n, asks, why), said) = absurd (keys_or_node c.words k n clear.words asks)
+  keys_status (Limit Events) (words, input, kept, said) = absurd (replay_or_keys c.words k words clear.words)
+  keys_status (Limit Packets) (inl (words, input), kept, said) = absurd (replay_or_keys c.words k words clear.words)
+  keys_status (Limit Packets) (inr (s, asks, passes), kept, said) = absurd (keys_or_storm c.words k s clear.words asks)
+  keys_status (TurnsSpent m) ((n, asks, why), said) = absurd (keys_or_node c.words k n clear.words asks)
   keys_status OutOfMemory cause = inr refl
 
 -- where a storm is asked for
@@ -157,42 +187,30 @@ module _ (c : Call) (k : StormCommand) (clear : IsClearForStorm c k) where
         whole = subst (λ (text : List ℕ). Appends c.out_old c.out_new text) ours.sums written;
       })
 
-  storm_status : (s : Status) → StatusCause s c → Told (code_of s)
-  storm_status Done (inl (words, report), kept) = absurd (not_replay c.words k words clear.words)
-  storm_status Done (inr (inl (j, asks, written)), kept) = absurd (not_keys c.words j k asks clear.words)
-  storm_status Done (inr (inr summary), kept) = told_as true 0 refl summary
-  storm_status Broken (inl (words, report), kept) = absurd (not_replay c.words k words clear.words)
+  pub storm_status : (s : Status) → StatusCause s c → Told (code_of s)
+  storm_status Done (inl (words, report), kept) = absurd (replay_or_storm c.words k words clear.words)
+  storm_status Done (inr (inl (j, asks, written)), kept) = absurd (keys_or_storm c.words j k asks clear.words)
+  storm_status Done (inr (inr (inl summary)), kept) = told_as true 0 refl summary
+  storm_status Done (inr (inr (inr (n, asks, served))), kept) = absurd (storm_or_node c.words k n clear.words asks)
+  storm_status Broken (inl (words, report), kept) = absurd (replay_or_storm c.words k words clear.words)
   storm_status Broken (inr summary, kept) = told_as false 1 refl summary
-  storm_status Usage (others, none, kept, said) = absurd (let e : true ≡ false = ap is_built (sym clear.words) ∙ none in cc)
-  storm_status (Refused r) (words, input, kept, said) = absurd (not_replay c.words k words clear.words)
-  storm_status ReadFault (words, rose, kept, said) = absurd (not_replay c.words k words clear.words)
+  storm_status Usage (others, none, kept, said) = absurd (not_none c.words (Storm k) clear.words none)
+  storm_status (Refused r) (inl (words, input, kept), said) = absurd (replay_or_storm c.words k words clear.words)
+  storm_status (Refused r) (inr (n, asks, why), said) = absurd (storm_or_node c.words k n clear.words asks)
+  storm_status ReadFault (inl (words, rose, kept), said) = absurd (replay_or_storm c.words k words clear.words)
+  storm_status ReadFault (inr (n, asks, why), said) = absurd (storm_or_node c.words k n clear.words asks)
   storm_status WriteFault (rose, front) = elim rose [
     | inl out ↦ absurd (clear.out out.0)
     | inr err ↦ absurd (clear.err err)
   ]
-  storm_status (Limit Bytes) (words, long, kept, said) = absurd (not_replay c.words k words clear.words)
-  storm_status (Limit Events) (words, input, kept, said) = absurd (not_replay c.words k words clear.words)
-  storm_status (Limit Packets) (inl (words, input), kept, said) = absurd (not_replay c.words k words clear.words)
+  storm_status LinkFault ((n, asks, why), said) = absurd (storm_or_node c.words k n clear.words asks)
+  storm_status (Limit Bytes) (inl (words, long, kept), said) = absurd (replay_or_storm c.words k words clear.words)
+  storm_status (Limit Bytes) (inr (n, asks, why), said) = absurd (storm_or_node c.words k n clear.words asks)
+  storm_status (Limit Events) (words, input, kept, said) = absurd (replay_or_storm c.words k words clear.words)
+  storm_status (Limit Packets) (inl (words, input), kept, said) = absurd (replay_or_storm c.words k words clear.words)
   storm_status (Limit Packets) (inr (j, asks, passes), kept, said) = inr (inl (subst (λ (s : StormCommand). Passes s) (same_storm c.words j k asks clear.words) passes, refl))
+  storm_status (TurnsSpent m) ((n, asks, why), said) = absurd (storm_or_node c.words k n clear.words asks)
   storm_status OutOfMemory cause = inr (inr refl)
-
--- the number of a status that has its cause
-pub answers : ((text : List ℕ) (r q : Result Script TextFault) → ReadsText text r → ReadsText text q → r ≡ q)
-    → (n : ℕ) (c : Call) (s : Status) → n ≡ code_of s → StatusCause s c → HasCauseOf n c
-answers one n c s code cause = record {
-  status = s;
-  code = code;
-  cause = cause;
-  complete = λ clear. elim (clear_status one c clear s cause) [
-    | inl premise ↦ inl (code ∙ premise)
-    | inr nine ↦ inr (code ∙ nine)
-  ];
-  keys = λ k clear. elim (keys_status c k clear s cause) [
-    | inl whole ↦ inl (code ∙ whole.0, whole.1)
-    | inr nine ↦ inr (code ∙ nine)
-  ];
-  storm = λ k clear. subst (λ (m : ℕ). IsToldWhole m k c ⊎ ((Passes k × (m ≡ 7)) ⊎ (m ≡ 9))) (sym code) (storm_status c k clear s cause);
-}
 
 written_whole : (c : Call) (held : Bool) → IsReplay c.words → HasReport held c → Keeps c.err_old c.err_new → StatusCause (if held then Done else Broken) c
 written_whole c true words report kept = (inl (words, report), kept)
@@ -203,7 +221,7 @@ pub report_written : (c : Call) (r : Status) (held : Bool) → r ≡ (if held th
 report_written c r held is words report kept = subst (λ (s : Status). StatusCause s c) (sym is) (written_whole c held words report kept)
 
 summed_whole : (c : Call) (held : Bool) → HasSummary held c → Keeps c.err_old c.err_new → StatusCause (if held then Done else Broken) c
-summed_whole c true summary kept = (inr (inr summary), kept)
+summed_whole c true summary kept = (inr (inr (inl summary)), kept)
 summed_whole c false summary kept = (inr summary, kept)
 
 -- a summary that was written whole

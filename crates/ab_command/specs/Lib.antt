@@ -1,4 +1,5 @@
--- The definitions that the contracts of this crate cite.
-pub mod KeyCommands
+-- What the contracts of this crate cite.
+pub mod Calls
+pub mod Commands
 pub mod Statuses
 pub mod Texts

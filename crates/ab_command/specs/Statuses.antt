@@ -4,41 +4,32 @@ use Rattle.std.specs.Io.KnownBytes.{Appends, Keeps}
 use Rattle.ab_io.specs.Causes.{Rose}
 use Rattle.ab_command.specs.declared.status.Bound.TheVariants.{Bytes, Events, Packets}
 use Rattle.ab_command.specs.declared.status.Status.{Status}
-use Rattle.ab_command.specs.declared.status.Status.TheVariants.{Done, Broken, Usage, Refused, ReadFault, WriteFault, Limit, OutOfMemory}
+use Rattle.ab_command.specs.declared.status.Status.TheVariants.{Done, Broken, Usage, Refused, ReadFault, WriteFault, LinkFault, Limit, TurnsSpent, OutOfMemory}
 use Rattle.ab_command.specs.Texts.{code_of, text_of}
+use Rattle.ab_loop.specs.declared.fault.ServeFault.TheVariants as serving
+use Rattle.ab_loop.specs.declared.serving.Served.{Served}
+use Rattle.ab_loop.specs.Nodes.{is_client}
+use Rattle.ab_node.specs.declared.stop.Stop.{Stop}
+use Rattle.ab_node.specs.declared.stop.Stop.TheVariants as stop
+use Rattle.ab_node.specs.Nodes.{IsServed, StopCause}
 use Rattle.ab_replay.specs.Streams.{IsInput, IsTooLong, AppendsFront, AppendsPart}
 use Rattle.ab_text.specs.Heads.{Script}
+use Rattle.ab_text.specs.Lines.{lines_of}
 use Rattle.ab_text.specs.Schedules.{ReadsText}
 use Rattle.ab_text.specs.declared.line.Premise.{Premise}
 use Rattle.ab_text.specs.declared.line.Premise.TheVariants as premise
 use Rattle.ab_world.specs.declared.fault.WorldFault.TheVariants.{PacketLimit}
 use Rattle.ab_world.specs.Worlds.{World, premise_of}
-use Rattle.ab_words.specs.Commands.{KeysCommand, StormCommand}
-use Rattle.ab_words.specs.Language.{command_in}
-use Rattle.ab_words.specs.declared.command.Command.TheVariants.{Replay}
+use Rattle.ab_key_text.specs.Nodes.{Node, node_in}
+use Rattle.ab_words.specs.Commands.{KeysCommand, NodeCommand, StormCommand}
 use Rattle.ab_abs.specs.Ensembles.{Proto}
 use Rattle.ab_kv.specs.KvMachines.{kv_machine}
 use Rattle.ab_replay.specs.Protocols.{Any, any}
-use Rattle.ab_command.specs.KeyCommands.{AsksKeys, AsksStorm, IsNoCommand, key_text}
+use Rattle.ab_command.specs.Calls.{Call, meeting_of}
+use Rattle.ab_command.specs.Commands.{AsksKeys, AsksNode, AsksStorm, IsNoCommand, IsReplay, TakesInput, key_text}
 use Rattle.ab_replay.specs.Replays.{Replays, IsRefused, HasTooManyEvents, HasTooManyBytes, Runs}
 use Rattle.ab_storm_run.specs.Runs.{Storms, StormsTo}
 use Rattle.ab_storm_run.specs.Summaries.{summary_of}
-
--- what a call of the program met: its words, what was left of the input, what out and err held before and after, and the
--- counts of faults before and after
-pub record Call : Type 0 where
-  pub words : List (List ℕ)
-  pub left : Option (List ℕ)
-  pub out_old : Option (List ℕ)
-  pub out_new : Option (List ℕ)
-  pub err_old : Option (List ℕ)
-  pub err_new : Option (List ℕ)
-  pub read_before : ℕ
-  pub read_now : ℕ
-  pub out_before : ℕ
-  pub out_now : ℕ
-  pub err_before : ℕ
-  pub err_now : ℕ
 
 -- the status was said on err
 abbrev pub Says : Status → Call → Type 0
@@ -55,9 +46,6 @@ Settles r s old new before now = ((r ≡ s) × Appends old new (text_of s)) ⊎ 
 -- nothing was written to out
 abbrev pub KeepsOut : Call → Type 0
 KeepsOut c = Keeps c.out_old c.out_new
-
-abbrev pub IsReplay : List (List ℕ) → Type 0
-IsReplay words = command_in words ≡ Some Replay
 
 -- the input was read to its end, of no more bytes than a program reads, and its bytes are so
 abbrev pub HasInput : (List ℕ → Type 0) → Call → Type 0
@@ -95,24 +83,35 @@ Passes k = (e : ℕ) × StormsTo kv k (Err (e, PacketLimit))
 abbrev pub StormPasses : Call → Type 0
 StormPasses c = (k : StormCommand) × AsksStorm c.words k × Passes k
 
--- out got a front of the report, of the key text or of the summary, or nothing
+-- the words ask for a node, the input sets up a party, and it was served to the end: its turns, its text and its datagrams are
+-- those of its core
+abbrev pub ServesNode : Call → Type 0
+ServesNode c = (k : NodeCommand) × AsksNode c.words k × HasInput (λ text. (served : Served) × IsServed text (meeting_of k c) served) c
+
+-- the words ask for a node, and it stopped for this: what was written and sent until then is a front of what its core says
+abbrev pub StopsNode : Stop → Call → Type 0
+StopsNode why c = (k : NodeCommand) × AsksNode c.words k × StopCause why c.left c.read_before c.read_now (meeting_of k c)
+
+-- out got a front of the report, of the key text, of the summary or of a node's lines, or nothing
 abbrev pub HasFront : Call → Type 0
 HasFront c =
     KeepsOut c
     ⊎ (((report : List ℕ) × (held : Bool) × HasInput (λ text. Replays text report held) c × AppendsFront c.out_old c.out_new report)
-    ⊎ (HasKeysFront c ⊎ HasSummaryFront c))
+    ⊎ (HasKeysFront c ⊎ (HasSummaryFront c ⊎ ((why : Stop) × StopsNode why c))))
 
 -- when each status comes, and what it leaves on out and err
 abbrev pub StatusCause : Status → Call → Type 0
-StatusCause Done c = ((IsReplay c.words × HasReport true c) ⊎ (HasKeys c ⊎ HasSummary true c)) × Keeps c.err_old c.err_new
+StatusCause Done c = ((IsReplay c.words × HasReport true c) ⊎ (HasKeys c ⊎ (HasSummary true c ⊎ ServesNode c))) × Keeps c.err_old c.err_new
 StatusCause Broken c = ((IsReplay c.words × HasReport false c) ⊎ HasSummary false c) × Keeps c.err_old c.err_new
-StatusCause Usage c = (IsReplay c.words → ⊥) × IsNoCommand c.words × KeepsOut c × Says Usage c
-StatusCause (Refused r) c = IsReplay c.words × HasInput (λ text. IsRefused text r) c × KeepsOut c × Says (Refused r) c
-StatusCause ReadFault c = IsReplay c.words × Rose c.read_before c.read_now × KeepsOut c × Says ReadFault c
+StatusCause Usage c = (TakesInput c.words → ⊥) × IsNoCommand c.words × KeepsOut c × Says Usage c
+StatusCause (Refused r) c = ((IsReplay c.words × HasInput (λ text. IsRefused text r) c × KeepsOut c) ⊎ StopsNode (stop.Refused r) c) × Says (Refused r) c
+StatusCause ReadFault c = ((IsReplay c.words × Rose c.read_before c.read_now × KeepsOut c) ⊎ StopsNode stop.Read c) × Says ReadFault c
 StatusCause WriteFault c = ((Rose c.out_before c.out_now × Says WriteFault c) ⊎ Rose c.err_before c.err_now) × HasFront c
-StatusCause (Limit Bytes) c = IsReplay c.words × IsTooLong c.left × KeepsOut c × Says (Limit Bytes) c
+StatusCause LinkFault c = StopsNode (stop.Serving serving.LinkFailed) c × Says LinkFault c
+StatusCause (Limit Bytes) c = ((IsReplay c.words × IsTooLong c.left × KeepsOut c) ⊎ StopsNode stop.TooLong c) × Says (Limit Bytes) c
 StatusCause (Limit Packets) c = ((IsReplay c.words × HasInput HasTooManyBytes c) ⊎ StormPasses c) × KeepsOut c × Says (Limit Packets) c
 StatusCause (Limit Events) c = IsReplay c.words × HasInput HasTooManyEvents c × KeepsOut c × Says (Limit Events) c
+StatusCause (TurnsSpent n) c = StopsNode (stop.Serving (serving.TurnsSpent n)) c × Says (TurnsSpent n) c
 StatusCause OutOfMemory c = HasFront c × SaysNoMemoryOn c.err_old c.err_new
 
 -- nothing stands in the way of a call: the input tells that it is a schedule within the limits, of which no event is refused,
@@ -155,10 +154,30 @@ pub record IsToldWhole (n : ℕ) (k : StormCommand) (c : Call) : Type 0 where
   pub code : n ≡ premise_code (premise_of end)
   pub whole : Appends c.out_old c.out_new (summary_of end)
 
+-- the words ask for a node, the input tells that it sets up a party, and no object has counted a fault. Datagrams may be lost
+pub record IsClearForNode (c : Call) (k : NodeCommand) : Type 0 where
+  pub words : AsksNode c.words k
+  pub text : List ℕ
+  pub node : Node
+  pub input : c.left ≡ Some text
+  pub short : length text ≤ 67108864
+  pub reads : node_in (lines_of text) ≡ Ok node
+  pub read : Rose c.read_before c.read_now → ⊥
+  pub out : Rose c.out_before c.out_now → ⊥
+  pub err : Rose c.err_before c.err_now → ⊥
+  pub link : Rose c.network.link_before c.network.link_now → ⊥
+
+-- the party was served to the end; or it is a client whose turns were used before its commands were answered; or memory was refused
+abbrev pub IsServedOut : ℕ → Node → Call → Type 0
+IsServedOut n node c =
+    ((n ≡ 0) × ServesNode c)
+    ⊎ (((n ≡ 8) × (is_client node.keys.me ≡ true) × ((unanswered : ℕ) × StopsNode (stop.Serving (serving.TurnsSpent unanswered)) c))
+    ⊎ (n ≡ 9))
+
 -- the number is that of a status that has its cause. Where nothing stands in the way, it is that of the premise line, or memory
 -- was refused. Where keys are asked for, they are written whole, or memory was refused. Where a storm is asked for, its summary is
 -- written whole and the number is that of the premise line, or its packets pass the limit of bytes and the number is 7, or memory was
--- refused
+-- refused. Where a node is asked for, its party is served out
 pub record HasCauseOf (n : ℕ) (c : Call) : Type 0 where
   pub status : Status
   pub code : n ≡ code_of status
@@ -166,3 +185,4 @@ pub record HasCauseOf (n : ℕ) (c : Call) : Type 0 where
   pub complete : (clear : IsClear c) → (n ≡ premise_code (premise_of clear.end)) ⊎ (n ≡ 9)
   pub keys : (k : KeysCommand) → IsClearForKeys c k → ((n ≡ 0) × Appends c.out_old c.out_new (key_text k)) ⊎ (n ≡ 9)
   pub storm : (k : StormCommand) → IsClearForStorm c k → IsToldWhole n k c ⊎ ((Passes k × (n ≡ 7)) ⊎ (n ≡ 9))
+  pub node : (k : NodeCommand) → (clear : IsClearForNode c k) → IsServedOut n clear.node c

@@ -1,9 +1,14 @@
 -- The number and the text of each status.
-use Rattle.std.specs.Prelude.{ℕ, List, [], codes}
+use Rattle.std.specs.Prelude.{ℕ, List, [], codes, decimal}
+use Rattle.ab_text.specs.Reports.{◌then◌}
+use Rattle.ab_loop.specs.declared.fault.ServeFault.{ServeFault}
+use Rattle.ab_loop.specs.declared.fault.ServeFault.TheVariants as serving
+use Rattle.ab_node.specs.declared.stop.Stop.{Stop}
+use Rattle.ab_node.specs.declared.stop.Stop.TheVariants as stop
 use Rattle.ab_replay.specs.Refusals.{refusal_text}
 use Rattle.ab_command.specs.declared.status.Bound.TheVariants.{Bytes, Events, Packets}
 use Rattle.ab_command.specs.declared.status.Status.{Status}
-use Rattle.ab_command.specs.declared.status.Status.TheVariants.{Done, Broken, Usage, Refused, ReadFault, WriteFault, Limit, OutOfMemory}
+use Rattle.ab_command.specs.declared.status.Status.TheVariants.{Done, Broken, Usage, Refused, ReadFault, WriteFault, LinkFault, Limit, TurnsSpent, OutOfMemory}
 
 -- the number that the program ends with
 abbrev pub code_of : Status → ℕ
@@ -13,8 +18,14 @@ code_of Usage = 2
 code_of (Refused r) = 3
 code_of ReadFault = 4
 code_of WriteFault = 5
+code_of LinkFault = 6
 code_of (Limit b) = 7
+code_of (TurnsSpent n) = 8
 code_of OutOfMemory = 9
+
+-- so many commands are unanswered
+abbrev pub turns_text : ℕ → List ℕ
+turns_text n = codes "turns spent " then decimal n then codes "\n"
 
 -- what the program says of a status
 abbrev pub text_of : Status → List ℕ
@@ -24,7 +35,24 @@ text_of Usage = codes "usage: abstract_bft <keys|node|replay|storm> [options]\n"
 text_of (Refused r) = refusal_text r
 text_of ReadFault = codes "read fault\n"
 text_of WriteFault = codes "write fault\n"
+text_of LinkFault = codes "link fault\n"
 text_of (Limit Bytes) = codes "limit bytes\n"
 text_of (Limit Events) = codes "limit events\n"
 text_of (Limit Packets) = codes "limit packets\n"
+text_of (TurnsSpent n) = turns_text n
 text_of OutOfMemory = codes "out of memory\n"
+
+-- the status of a node that was served, by why it stopped
+abbrev pub status_of : ServeFault → Status
+status_of serving.LinkFailed = LinkFault
+status_of serving.WriteFailed = WriteFault
+status_of serving.OutOfMemory = OutOfMemory
+status_of (serving.TurnsSpent n) = TurnsSpent n
+
+-- and of any node that stopped
+abbrev pub stop_status : Stop → Status
+stop_status stop.Read = ReadFault
+stop_status stop.TooLong = Limit Bytes
+stop_status (stop.Refused r) = Refused r
+stop_status (stop.Serving why) = status_of why
+stop_status stop.OutOfMemory = OutOfMemory

@@ -1,7 +1,7 @@
 //! The command `keys`.
 
 ghost use Rattle.std.specs.Prelude.{◌≡◌, IfOk};
-ghost use Rattle.ab_command.specs.KeyCommands.{key_text};
+ghost use Rattle.ab_command.specs.Commands.{key_text};
 
 use ab_key_text::PartyKeys;
 use ab_num::OutOfMemory;

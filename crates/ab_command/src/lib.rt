@@ -2,7 +2,10 @@
 #![tactic(auto)]
 
 mod keys;
+mod saying;
 mod status;
 mod top;
 
+pub use saying::{say, say_no_memory, say_refusal};
+pub use status::{Bound, Status};
 pub use top::{refuse_memory, run};

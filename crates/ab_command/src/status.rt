@@ -1,13 +1,14 @@
 //! How a call of the program ends.
 
-ghost use Rattle.std.specs.Prelude.{◌≡◌};
-ghost use Rattle.ab_command.specs.Texts.{code_of};
+ghost use Rattle.std.specs.Prelude.{◌≡◌, IfOk, string_bytes};
+ghost use Rattle.ab_command.specs.Texts.{code_of, turns_text};
 
 use ab_replay::Refusal;
+use std::alloc::{AllocError, Global};
 
 /// Which of its limits an input passes.
 #[derive(Clone, Copy, Debug, PartialEq, Eq)]
-pub(crate) enum Bound {
+pub enum Bound {
     Bytes,
     Events,
     Packets,
@@ -15,8 +16,8 @@ pub(crate) enum Bound {
 
 /// How a call of the program ended.
 #[derive(Clone, Copy, Debug, PartialEq, Eq)]
-pub(crate) enum Status {
-    /// A run was told, and its premises held; or keys were.
+pub enum Status {
+    /// A run was told, and its premises held; or keys were; or a node was served to its end.
     Done,
     /// A run was told, and a premise was broken.
     Broken,
@@ -24,13 +25,16 @@ pub(crate) enum Status {
     Refused(Refusal),
     ReadFault,
     WriteFault,
+    LinkFault,
     Limit(Bound),
+    /// A client's turns were used, and so many commands are unanswered.
+    TurnsSpent(u64),
     OutOfMemory,
 }
 
 impl Status {
     /// The number that the program ends with.
-    pub(crate) fn code(self) -> u8
+    pub fn code(self) -> u8
         ensures { result ≡ code_of self }
     {
         match self {
@@ -40,8 +44,17 @@ impl Status {
             Status::Refused(_) => 3,
             Status::ReadFault => 4,
             Status::WriteFault => 5,
+            Status::LinkFault => 6,
             Status::Limit(_) => 7,
+            Status::TurnsSpent(_) => 8,
             Status::OutOfMemory => 9,
         }
     }
+}
+
+/// What is said of so many unanswered commands.
+pub(crate) fn turns_line(alloc: Global, unanswered: u64) -> Result<String, AllocError>
+    ensures { IfOk result (λ s. string_bytes s ≡ turns_text unanswered) }
+{
+    format!(in alloc; "turns spent {unanswered}\n")
 }

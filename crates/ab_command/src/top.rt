@@ -2,54 +2,26 @@
 
 ghost use Rattle.std.specs.Prelude.{◌≡◌, ◌≤◌, ◌⊎◌, ℕ, List, Option, if◌then◌else◌, map, codes};
 ghost use Rattle.ab_io.specs.Causes.{Rose};
-ghost use Rattle.ab_command.specs.Texts.{code_of, text_of};
-ghost use Rattle.ab_command.specs.Statuses.{Call, IsReplay, SaysNoMemoryOn, Settles, StatusCause, HasCauseOf};
-ghost use Rattle.ab_command.specs.KeyCommands.{AsksKeys, AsksStorm};
+ghost use Rattle.ab_command.specs.Texts.{code_of, status_of, stop_status};
+ghost use Rattle.ab_command.specs.Calls.{Call, Network};
+ghost use Rattle.ab_command.specs.Commands.{AsksKeys, AsksNode, AsksStorm, IsNode, IsReplay, TakesInput};
+ghost use Rattle.ab_command.specs.Statuses.{SaysNoMemoryOn, Settles, StatusCause, HasCauseOf};
 
 use crate::keys::key_text;
-use crate::status::{Bound, Status};
+use crate::saying::{say, say_no_memory, say_refusal};
+use crate::status::{Bound, Status, turns_line};
 use ab_io::{Clock, Link, Sink, Source};
 use ab_kv::Kv;
+use ab_loop::ServeFault;
+use ab_node::{Stop, serve_text};
 use ab_receivers::packets_go_to_parties;
-use ab_replay::{AnyProtocol, Refusal, ReplayFault, WriteFault, refusal_line, replay, write_all};
+use ab_replay::{AnyProtocol, ReplayFault, WriteFault, replay, write_all};
 use ab_storm_run::{StormFault, storm};
 use ab_text::one_reading;
-use ab_words::{Command, KeysCommand, StormCommand, command_in};
+use ab_words::{Command, KeysCommand, NodeCommand, StormCommand, command_in};
 use std::alloc::Global;
 
 const USAGE: &str = "usage: abstract_bft <keys|node|replay|storm> [options]\n";
-
-/// Writes the text of a status, and gives the status, or that of the fault of writing it.
-fn say<E: Sink>(err: &mut E, text: &str, status: Status) -> Status
-    requires { text.now ≡ text_of status }
-    ensures status { Settles result status (E.contents err.old) (E.contents err.new) (E.faults err.old) (E.faults err.new) }
-    ensures later { E.faults err.old ≤ E.faults err.new }
-{
-    match write_all(err, text.as_bytes()) {
-        Ok(()) => status,
-        Err(WriteFault::Failed) => Status::WriteFault,
-        Err(WriteFault::OutOfMemory) => Status::OutOfMemory,
-    }
-}
-
-/// Says that memory was refused.
-fn say_no_memory<E: Sink>(err: &mut E) -> Status
-    ensures status { Settles result Status.OutOfMemory (E.contents err.old) (E.contents err.new) (E.faults err.old) (E.faults err.new) }
-    ensures later { E.faults err.old ≤ E.faults err.new }
-{
-    say(err, "out of memory\n", Status::OutOfMemory)
-}
-
-/// Says which line is refused.
-fn say_refusal<E: Sink>(alloc: Global, err: &mut E, refusal: Refusal) -> Status
-    ensures status { Settles result (Status.Refused refusal) (E.contents err.old) (E.contents err.new) (E.faults err.old) (E.faults err.new) }
-    ensures later { E.faults err.old ≤ E.faults err.new }
-{
-    match refusal_line(alloc, refusal) {
-        Ok(line) => say(err, line.as_str(), Status::Refused(refusal)),
-        Err(_) => say_no_memory(err),
-    }
-}
 
 /// The status of a run that was told.
 fn done(held: bool) -> Status
@@ -65,7 +37,7 @@ fn serve_replay<I: Source, O: Sink, E: Sink>(
     out: &mut O,
     err: &mut E,
 ) -> Status
-    ensures cause { (words : List (List ℕ)) → IsReplay words → StatusCause result (record {
+    ensures cause { (words : List (List ℕ)) (network : Network) → IsReplay words → StatusCause result (record {
       words = words;
       left = I.left input.old;
       out_old = O.contents out.old;
@@ -78,6 +50,7 @@ fn serve_replay<I: Source, O: Sink, E: Sink>(
       out_now = O.faults out.new;
       err_before = E.faults err.old;
       err_now = E.faults err.new;
+      network = network;
     }) }
 {
     let replayed = match replay(alloc, input) {
@@ -109,7 +82,7 @@ fn serve_keys<O: Sink, E: Sink>(
     out: &mut O,
     err: &mut E,
 ) -> Status
-    ensures cause { (words : List (List ℕ)) (left : Option (List ℕ)) (read_before read_now : ℕ) → AsksKeys words asked.now → StatusCause result (record {
+    ensures cause { (words : List (List ℕ)) (left : Option (List ℕ)) (read_before read_now : ℕ) (network : Network) → AsksKeys words asked.now → StatusCause result (record {
       words = words;
       left = left;
       out_old = O.contents out.old;
@@ -122,6 +95,7 @@ fn serve_keys<O: Sink, E: Sink>(
       out_now = O.faults out.new;
       err_before = E.faults err.old;
       err_now = E.faults err.new;
+      network = network;
     }) }
 {
     let Ok(text) = key_text(alloc, asked) else {
@@ -142,7 +116,7 @@ fn serve_storm<O: Sink, E: Sink>(
     err: &mut E,
 ) -> Status
     requires few { asked.now.events ≤ 100000 }
-    ensures cause { (words : List (List ℕ)) (left : Option (List ℕ)) (read_before read_now : ℕ) → AsksStorm words asked.now → StatusCause result (record {
+    ensures cause { (words : List (List ℕ)) (left : Option (List ℕ)) (read_before read_now : ℕ) (network : Network) → AsksStorm words asked.now → StatusCause result (record {
       words = words;
       left = left;
       out_old = O.contents out.old;
@@ -155,6 +129,7 @@ fn serve_storm<O: Sink, E: Sink>(
       out_now = O.faults out.new;
       err_before = E.faults err.old;
       err_now = E.faults err.new;
+      network = network;
     }) }
 {
     packets_go_to_parties::<Kv>();
@@ -172,13 +147,86 @@ fn serve_storm<O: Sink, E: Sink>(
     }
 }
 
+/// Says why a node stopped that was served.
+fn say_fault<E: Sink>(alloc: Global, err: &mut E, fault: ServeFault) -> Status
+    ensures status { Settles result (status_of fault) (E.contents err.old) (E.contents err.new) (E.faults err.old) (E.faults err.new) }
+    ensures later { E.faults err.old ≤ E.faults err.new }
+{
+    match fault {
+        ServeFault::LinkFailed => say(err, "link fault\n", Status::LinkFault),
+        ServeFault::WriteFailed => say(err, "write fault\n", Status::WriteFault),
+        ServeFault::OutOfMemory => say_no_memory(err),
+        ServeFault::TurnsSpent(unanswered) => match turns_line(alloc, unanswered) {
+            Ok(line) => say(err, line.as_str(), Status::TurnsSpent(unanswered)),
+            Err(_) => say_no_memory(err),
+        },
+    }
+}
+
+/// Says why a node stopped.
+fn say_stop<E: Sink>(alloc: Global, err: &mut E, stop: Stop) -> Status
+    ensures status { Settles result (stop_status stop) (E.contents err.old) (E.contents err.new) (E.faults err.old) (E.faults err.new) }
+    ensures later { E.faults err.old ≤ E.faults err.new }
+{
+    match stop {
+        Stop::Read => say(err, "read fault\n", Status::ReadFault),
+        Stop::TooLong => say(err, "limit bytes\n", Status::Limit(Bound::Bytes)),
+        Stop::Refused(refusal) => say_refusal(alloc, err, refusal),
+        Stop::Serving(fault) => say_fault(alloc, err, fault),
+        Stop::OutOfMemory => say_no_memory(err),
+    }
+}
+
+/// Serves the party that the input sets up.
+fn serve_node<I: Source, O: Sink, E: Sink, L: Link, C: Clock>(
+    alloc: Global,
+    asked: &NodeCommand,
+    input: &mut I,
+    out: &mut O,
+    err: &mut E,
+    link: &mut L,
+    clock: &mut C,
+) -> Status
+    ensures cause { (words : List (List ℕ)) → AsksNode words asked.now → StatusCause result (record {
+      words = words;
+      left = I.left input.old;
+      out_old = O.contents out.old;
+      out_new = O.contents out.new;
+      err_old = E.contents err.old;
+      err_new = E.contents err.new;
+      read_before = I.faults input.old;
+      read_now = I.faults input.new;
+      out_before = O.faults out.old;
+      out_now = O.faults out.new;
+      err_before = E.faults err.old;
+      err_now = E.faults err.new;
+      network = record {
+        clock = C.readings clock.old;
+        to_come = L.to_come link.old;
+        sent_old = L.sent link.old;
+        sent_new = L.sent link.new;
+        link_before = L.faults link.old;
+        link_now = L.faults link.new;
+        losses_before = L.losses link.old;
+        losses_now = L.losses link.new;
+      };
+    }) }
+{
+    match serve_text(alloc, asked, input, link, clock, out) {
+        Ok(_) => Status::Done,
+        Err(stop) => say_stop(alloc, err, stop),
+    }
+}
+
 /// What the program does.
-fn serve<I: Source, O: Sink, E: Sink>(
+fn serve<I: Source, O: Sink, E: Sink, L: Link, C: Clock>(
     alloc: Global,
     words: &[&str],
     input: &mut I,
     out: &mut O,
     err: &mut E,
+    link: &mut L,
+    clock: &mut C,
 ) -> Status
     ensures cause { StatusCause result (record {
       words = map (λ w. w.now) words.now;
@@ -193,14 +241,29 @@ fn serve<I: Source, O: Sink, E: Sink>(
       out_now = O.faults out.new;
       err_before = E.faults err.old;
       err_now = E.faults err.new;
+      network = record {
+        clock = C.readings clock.old;
+        to_come = L.to_come link.old;
+        sent_old = L.sent link.old;
+        sent_new = L.sent link.new;
+        link_before = L.faults link.old;
+        link_now = L.faults link.new;
+        losses_before = L.losses link.old;
+        losses_now = L.losses link.new;
+      };
     }) }
-    ensures untouched { (IsReplay (map (λ w. w.now) words.now) → ⊥) → input.new ≡ input.old }
+    ensures untouched { (TakesInput (map (λ w. w.now) words.now) → ⊥) → input.new ≡ input.old }
+    ensures link { (IsNode (map (λ w. w.now) words.now) → ⊥) → link.new ≡ link.old }
+    ensures clock { (IsNode (map (λ w. w.now) words.now) → ⊥) → clock.new ≡ clock.old }
 {
     match command_in(alloc, words) {
         Ok(Some(Command::Replay)) => serve_replay(alloc, input, out, err),
         Ok(Some(Command::Keys(asked))) => serve_keys(alloc, &asked, out, err),
         Ok(Some(Command::Storm(asked))) => serve_storm(alloc, &asked, out, err),
-        Ok(Some(Command::Node(_)) | None) => say(err, USAGE, Status::Usage),
+        Ok(Some(Command::Node(asked))) => {
+            serve_node(alloc, &asked, input, out, err, link, clock)
+        }
+        Ok(None) => say(err, USAGE, Status::Usage),
         Err(_) => say_no_memory(err),
     }
 }
@@ -209,28 +272,32 @@ fn serve<I: Source, O: Sink, E: Sink>(
 ///
 /// `replay` reads a schedule from `input` to its end, runs it, and writes the report of the run to
 /// `out`. `storm` runs random events that a seed gives, and writes the summary of the run to `out`.
-/// `keys` writes the key text of a party to `out`. The statuses are:
+/// `keys` writes the key text of a party to `out`. `node` reads the keys of a party and its commands from
+/// `input` to its end, and serves that party over `link` and `clock`: what it commits is written to `out`.
+/// The statuses are:
 ///
 /// - 0: the report or the summary was written, and its premise line says `held`; or the key text was
-///   written.
+///   written; or the node was served until its client's commands were answered, or its replica's turns used.
 /// - 1: the report or the summary was written, and its premise line says `broken`.
 /// - 2: the words are no command.
 /// - 3: a line is out of form or missing, or its event is refused.
 /// - 4: `input` failed.
 /// - 5: `out` or `err` failed.
+/// - 6: `link` failed.
 /// - 7: the input has more bytes or more events than are taken, or the packets of the run have more
 ///   bytes.
+/// - 8: a client's turns were used, and commands are unanswered.
 /// - 9: memory was refused.
 ///
-/// Each but 0 and 1 is said on `err`. `link` and `clock` are not called.
+/// Each but 0 and 1 is said on `err`. Only `node` calls `link` and `clock`.
 pub fn run<I: Source, O: Sink, E: Sink, L: Link, C: Clock>(
     alloc: Global,
     words: &[&str],
     input: &mut I,
     out: &mut O,
     err: &mut E,
-    _link: &mut L,
-    _clock: &mut C,
+    link: &mut L,
+    clock: &mut C,
 ) -> u8
     ensures cause { HasCauseOf result (record {
       words = map (λ w. w.now) words.now;
@@ -245,12 +312,22 @@ pub fn run<I: Source, O: Sink, E: Sink, L: Link, C: Clock>(
       out_now = O.faults out.new;
       err_before = E.faults err.old;
       err_now = E.faults err.new;
+      network = record {
+        clock = C.readings clock.old;
+        to_come = L.to_come link.old;
+        sent_old = L.sent link.old;
+        sent_new = L.sent link.new;
+        link_before = L.faults link.old;
+        link_now = L.faults link.new;
+        losses_before = L.losses link.old;
+        losses_now = L.losses link.new;
+      };
     }) }
-    ensures untouched { (IsReplay (map (λ w. w.now) words.now) → ⊥) → input.new ≡ input.old }
-    ensures link { _link.new ≡ _link.old }
-    ensures clock { _clock.new ≡ _clock.old }
+    ensures untouched { (TakesInput (map (λ w. w.now) words.now) → ⊥) → input.new ≡ input.old }
+    ensures link { (IsNode (map (λ w. w.now) words.now) → ⊥) → link.new ≡ link.old }
+    ensures clock { (IsNode (map (λ w. w.now) words.now) → ⊥) → clock.new ≡ clock.old }
 {
-    let status = serve(alloc, words, input, out, err);
+    let status = serve(alloc, words, input, out, err, link, clock);
     one_reading();
     status.code()
 }

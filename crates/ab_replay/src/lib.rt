@@ -7,5 +7,8 @@ mod running;
 mod stream;
 
 pub use refusal::{Cause, Refusal, refusal_line};
-pub use running::{AnyProtocol, AnyWorld, ReplayFault, Replayed, replay};
+pub use running::{
+    AnyProtocol, AnyWorld, MOST_EVENTS, ReplayFault, Replayed, fault_of, refusal_of_step,
+    refusal_of_text, replay, run_events,
+};
 pub use stream::{ReadFault, WriteFault, read_all, write_all};

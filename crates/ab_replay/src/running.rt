@@ -34,7 +34,7 @@ pub type AnyProtocol<S> = Choice<Quorum<S>, Choice<ZLight<S>, Choice<Chain<S>, B
 pub type AnyWorld<S> = World<S, AnyProtocol<S>>;
 
 /// How many events a schedule may have.
-const MOST_EVENTS: usize = 100_000;
+pub const MOST_EVENTS: usize = 100_000;
 
 /// Why a replay has no report.
 #[derive(Clone, Copy, Debug, PartialEq, Eq)]
@@ -60,7 +60,7 @@ impl From<OutOfMemory> for ReplayFault {
 }
 
 /// The refusal of a text that is no schedule. None where memory was refused.
-fn refusal_of_text(fault: TextFault) -> Option<Refusal>
+pub fn refusal_of_text(fault: TextFault) -> Option<Refusal>
     ensures { result ≡ text_refusal fault }
 {
     match fault {
@@ -77,7 +77,7 @@ fn refusal_of_text(fault: TextFault) -> Option<Refusal>
 }
 
 /// The refusal of the event in this line. None where the world had ended.
-fn refusal_of_step(line: u32, fault: WorldFault) -> Option<Refusal>
+pub fn refusal_of_step(line: u32, fault: WorldFault) -> Option<Refusal>
     ensures { result ≡ step_refusal line fault }
 {
     let cause = match fault {
@@ -93,7 +93,7 @@ fn refusal_of_step(line: u32, fault: WorldFault) -> Option<Refusal>
 }
 
 /// A refusal as a fault. Where nothing was refused, memory was.
-fn fault_of(refusal: Option<Refusal>) -> ReplayFault
+pub fn fault_of(refusal: Option<Refusal>) -> ReplayFault
     ensures { result ≡ fault_from refusal }
 {
     match refusal {
@@ -103,7 +103,7 @@ fn fault_of(refusal: Option<Refusal>) -> ReplayFault
 }
 
 /// Steps through the events, the first of which stands in the line after this one.
-fn run_events<S: Service>(
+pub fn run_events<S: Service>(
     alloc: Global,
     world: &mut AnyWorld<S>,
     events: &[Event],

@@ -1,29 +1,18 @@
-//! Reads a schedule from standard input, runs it, and writes the report to standard output. Or writes the
-//! keys of a party.
+//! Runs a schedule from standard input or a storm of random events and writes what correct parties saw to standard
+//! output; or writes the keys of a party; or serves a party over the loopback address.
 //!
 //! It ends with 0 where the premises of the order properties held, 1 where one was broken, 2 for
 //! words that are no command, 3 for a line that is refused, 4 for a fault of standard input, 5 for one
-//! of standard output or standard error, 7 past a limit, and 9 where memory was refused.
+//! of standard output or standard error, 6 for one of the socket, 7 past a limit, 8 where a client's turns were used and
+//! commands are unanswered, and 9 where memory was refused.
 #![tactic(auto)]
 
-mod standard;
-
 use ab_command::{refuse_memory, run};
-use ab_io::{MemClock, MemLink};
-use standard::{StdSink, StdSource};
+use ab_net::{StdClock, UdpLink};
+use ab_standard::{StdSink, StdSource, words};
 use std::alloc::{AllocError, Global};
-use std::env::{self, Env};
 use std::io;
 use std::process::ExitCode;
-
-/// The words after the program's name.
-fn words(rt: &(impl Env + AllocGlobal)) -> io::Result<Vec<String>> {
-    let mut all = Vec::new(rt.alloc());
-    for word in env::args(rt)?.skip(1) {
-        all.push(word)?;
-    }
-    Ok(all)
-}
 
 /// The words as texts.
 fn texts<'a>(alloc: Global, words: &'a [String]) -> Result<Vec<&'a str>, AllocError> {
@@ -32,6 +21,13 @@ fn texts<'a>(alloc: Global, words: &'a [String]) -> Result<Vec<&'a str>, AllocEr
         all.push(word.as_str())?;
     }
     Ok(all)
+}
+
+/// Datagrams over the loopback address, and the system's clock.
+fn network(rt: &HostRuntime) -> Result<(UdpLink<HostRuntime>, StdClock<HostRuntime>), AllocError> {
+    let link = UdpLink::new(rt.clone()?);
+    let clock = StdClock::new(rt.clone()?);
+    Ok((link, clock))
 }
 
 fn main(rt: HostRuntime) -> ExitCode {
@@ -48,14 +44,9 @@ fn main(rt: HostRuntime) -> ExitCode {
     };
     let mut input = StdSource::new(rt.reader());
     let mut out = StdSink::new(rt.stdout());
-    let mut link = MemLink::new(
-        alloc,
-        Vec::new(alloc),
-        Vec::new(alloc),
-        Vec::new(alloc),
-        Vec::new(alloc),
-    );
-    let mut clock = MemClock::new(Vec::new(alloc));
+    let Ok((mut link, mut clock)) = network(&rt) else {
+        return ExitCode::from(refuse_memory(&mut err));
+    };
     let status = run(
         alloc,
         texts.as_slice(),

@@ -1,6 +1,6 @@
 use Rattle.std.specs.Prelude.{map}
-use Rattle.ab_command.specs.Statuses.{Call}
-use Rattle.ab_command.proofs.StatusLemmas.{answers}
+use Rattle.ab_command.specs.Calls.{Call}
+use Rattle.ab_command.proofs.Answering.{answers}
 use Rattle.ab_command.proofs.top.run.Goals as goal
 
 pub returns-clause-cause : goal.returns-clause-cause
@@ -18,5 +18,15 @@ returns-clause-cause g c =
       out_now = g.O.Sink.faults c.serve-status.new.out;
       err_before = g.E.Sink.faults c.args.err.now;
       err_now = g.E.Sink.faults c.serve-status.new.err;
+      network = record {
+        clock = g.C.Clock.readings c.args.clock.now;
+        to_come = g.L.Link.to_come c.args.link.now;
+        sent_old = g.L.Link.sent c.args.link.now;
+        sent_new = g.L.Link.sent c.serve-status.new.link;
+        link_before = g.L.Link.faults c.args.link.now;
+        link_now = g.L.Link.faults c.serve-status.new.link;
+        losses_before = g.L.Link.losses c.args.link.now;
+        losses_now = g.L.Link.losses c.serve-status.new.link;
+      };
     } in
     answers c.one_reading.ensures c.code.result call c.serve-status.result c.code.ensures c.serve-status.ensures.cause

@@ -11,4 +11,4 @@ returns-in-Ok-write_all g c =
     let replayed = c.in-Ok.replayed in
     let appended = subst (λ (bytes : List ℕ). Appends old new bytes) c.as_slice.ensures.value c.in-Ok-write_all.ensures.ok in
     let kept : Keeps err err = search rules in
-    record { cause = λ words is. report_written _ c.done.result replayed.held c.done.ensures is (replayed.report.items, c.in-Ok.ensures.ok, appended) kept }
+    record { cause = λ words network is. report_written _ c.done.result replayed.held c.done.ensures is (replayed.report.items, c.in-Ok.ensures.ok, appended) kept }

@@ -21,7 +21,7 @@ returns-in-Ok-write_all g c =
     let stormed = c.in-Ok.stormed in
     let appended = subst (λ (bytes : List ℕ). Appends old new bytes) c.as_slice.ensures.value c.in-Ok-write_all.ensures.ok in
     let kept : Keeps err err = search rules in
-    record { cause = λ words left read_before read_now asks. summary_written _ c.done.result stormed.held c.done.ensures (c.args.asked.now, stormed.summary.items, asks, c.in-Ok.ensures.ok, appended) kept }
+    record { cause = λ words left read_before read_now network asks. summary_written _ c.done.result stormed.held c.done.ensures (c.args.asked.now, stormed.summary.items, asks, c.in-Ok.ensures.ok, appended) kept }
 
 pub returns-in-Err-Failed : goal.returns-in-Err-Failed
 returns-in-Err-Failed g c =
@@ -30,7 +30,7 @@ returns-in-Err-Failed g c =
     let stormed = c.in-Ok.stormed in
     let front = subst (λ (bytes : List ℕ). AppendsFront old new bytes) c.as_slice.ensures.value c.in-Err-Failed.ensures.front in
     let rose : Rose (g.O.Sink.faults c.args.out.now) (g.O.Sink.faults c.write_all.new.sink) = rw c.in-Err-Failed.field-0-is at c.in-Err-Failed.ensures.cause in
-    record { cause = λ words left read_before read_now asks. write_settled _ c.say-in-Err-Failed.result c.say-in-Err-Failed.ensures.status rose (inr (inr (inr (c.args.asked.now, stormed.summary.items, stormed.held, asks, c.in-Ok.ensures.ok, front)))) }
+    record { cause = λ words left read_before read_now network asks. write_settled _ c.say-in-Err-Failed.result c.say-in-Err-Failed.ensures.status rose (inr (inr (inr (inl (c.args.asked.now, stormed.summary.items, stormed.held, asks, c.in-Ok.ensures.ok, front))))) }
 
 pub returns : goal.returns
 returns g c =
@@ -38,4 +38,4 @@ returns g c =
     let new = g.O.Sink.contents c.write_all.new.sink in
     let stormed = c.in-Ok.stormed in
     let front = subst (λ (bytes : List ℕ). AppendsFront old new bytes) c.as_slice.ensures.value c.in-Err-OutOfMemory-write_all.ensures.front in
-    record { cause = λ words left read_before read_now asks. memory_settled _ c.say_no_memory-in-Err-OutOfMemory-write_all.result c.say_no_memory-in-Err-OutOfMemory-write_all.ensures.status (inr (inr (inr (c.args.asked.now, stormed.summary.items, stormed.held, asks, c.in-Ok.ensures.ok, front)))) }
+    record { cause = λ words left read_before read_now network asks. memory_settled _ c.say_no_memory-in-Err-OutOfMemory-write_all.result c.say_no_memory-in-Err-OutOfMemory-write_all.ensures.status (inr (inr (inr (inl (c.args.asked.now, stormed.summary.items, stormed.held, asks, c.in-Ok.ensures.ok, front))))) }

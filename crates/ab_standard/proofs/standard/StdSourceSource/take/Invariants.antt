@@ -1,6 +1,6 @@
 use Rattle.std.proofs.Common.{◌≡◌}
 use Rattle.std.specs.Io.KnownBytes.{Keeps}
-use Rattle.abstract_bft.proofs.standard.StdSourceSource.take.Given as goal
+use Rattle.ab_standard.proofs.standard.StdSourceSource.take.Given as goal
 
 -- nothing was read, and no fault was counted
 abbrev pub invariant-loop : goal.invariant-loop

@@ -1,0 +1,39 @@
+-- What words ask for, and the key text that is written.
+use Rattle.std.specs.Prelude.{◌≡◌, ◌⊎◌, ℕ, List, None, Some}
+use Rattle.ab_key_text.specs.Derived.{keys_of}
+use Rattle.ab_key_text.specs.Spelling.{key_lines, text_of}
+use Rattle.ab_words.specs.declared.command.Command.TheVariants.{Replay, Storm, Keys, Node}
+use Rattle.ab_words.specs.Commands.{KeysCommand, NodeCommand, StormCommand}
+use Rattle.ab_words.specs.Language.{command_in}
+
+-- the words are no command
+abbrev pub IsNoCommand : List (List ℕ) → Type 0
+IsNoCommand words = command_in words ≡ None
+
+-- the words ask for a replay
+abbrev pub IsReplay : List (List ℕ) → Type 0
+IsReplay words = command_in words ≡ Some Replay
+
+-- the words ask for these keys
+abbrev pub AsksKeys : List (List ℕ) → KeysCommand → Type 0
+AsksKeys words k = command_in words ≡ Some (Keys k)
+
+-- the words ask for this storm
+abbrev pub AsksStorm : List (List ℕ) → StormCommand → Type 0
+AsksStorm words k = command_in words ≡ Some (Storm k)
+
+-- the words ask for this node
+abbrev pub AsksNode : List (List ℕ) → NodeCommand → Type 0
+AsksNode words k = command_in words ≡ Some (Node k)
+
+-- the words ask for a node
+abbrev pub IsNode : List (List ℕ) → Type 0
+IsNode words = (k : NodeCommand) × AsksNode words k
+
+-- the words ask for what reads the input
+abbrev pub TakesInput : List (List ℕ) → Type 0
+TakesInput words = IsReplay words ⊎ IsNode words
+
+-- the text of the keys that are asked for
+abbrev pub key_text : KeysCommand → List ℕ
+key_text k = text_of (key_lines (keys_of k.f k.clients k.plan k.service k.lms k.seed k.party))

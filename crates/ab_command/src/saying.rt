@@ -1,0 +1,42 @@
+//! What is said of how a call ends.
+
+ghost use Rattle.std.specs.Prelude.{◌≡◌, ◌≤◌};
+ghost use Rattle.ab_command.specs.Texts.{text_of};
+ghost use Rattle.ab_command.specs.Statuses.{Settles};
+
+use crate::status::Status;
+use ab_io::Sink;
+use ab_replay::{Refusal, WriteFault, refusal_line, write_all};
+use std::alloc::Global;
+
+/// Writes the text of a status, and gives the status, or that of the fault of writing it.
+pub fn say<E: Sink>(err: &mut E, text: &str, status: Status) -> Status
+    requires { text.now ≡ text_of status }
+    ensures status { Settles result status (E.contents err.old) (E.contents err.new) (E.faults err.old) (E.faults err.new) }
+    ensures later { E.faults err.old ≤ E.faults err.new }
+{
+    match write_all(err, text.as_bytes()) {
+        Ok(()) => status,
+        Err(WriteFault::Failed) => Status::WriteFault,
+        Err(WriteFault::OutOfMemory) => Status::OutOfMemory,
+    }
+}
+
+/// Says that memory was refused.
+pub fn say_no_memory<E: Sink>(err: &mut E) -> Status
+    ensures status { Settles result Status.OutOfMemory (E.contents err.old) (E.contents err.new) (E.faults err.old) (E.faults err.new) }
+    ensures later { E.faults err.old ≤ E.faults err.new }
+{
+    say(err, "out of memory\n", Status::OutOfMemory)
+}
+
+/// Says which line is refused.
+pub fn say_refusal<E: Sink>(alloc: Global, err: &mut E, refusal: Refusal) -> Status
+    ensures status { Settles result (Status.Refused refusal) (E.contents err.old) (E.contents err.new) (E.faults err.old) (E.faults err.new) }
+    ensures later { E.faults err.old ≤ E.faults err.new }
+{
+    match refusal_line(alloc, refusal) {
+        Ok(line) => say(err, line.as_str(), Status::Refused(refusal)),
+        Err(_) => say_no_memory(err),
+    }
+}

@@ -1,0 +1,156 @@
+-- A node of the program: one party, by the text that sets it up, over a link, a clock and a sink.
+use Rattle.std.specs.Prelude.{◌≡◌, ℕ, List, map, Option, None, Some, Result, Ok, Err, ⊤}
+use Rattle.arrayvec.specs.ArrayVec.{ArrayVec}
+use Rattle.ab_num.specs.declared.party.Party.{Party}
+use Rattle.ab_num.specs.declared.party.Party.TheVariants.{Replica, Client}
+use Rattle.ab_io.specs.Causes.{Rose}
+use Rattle.ab_io.specs.Readings.{Readings}
+use Rattle.ab_text.specs.Lines.{lines_of}
+use Rattle.ab_key_text.specs.declared.fault.NodeFault.{NodeFault}
+use Rattle.ab_key_text.specs.declared.fault.NodeFault.TheVariants as text_fault
+use Rattle.ab_key_text.specs.Keys.{PartyKeys}
+use Rattle.ab_key_text.specs.Nodes.{Node, node_in}
+use Rattle.ab_words.specs.Commands.{NodeCommand}
+use Rattle.ab_abs.specs.Ensembles.{Proto}
+use Rattle.ab_loop.specs.declared.fault.ServeFault.{ServeFault}
+use Rattle.ab_loop.specs.declared.serving.Served.{Served}
+use Rattle.ab_loop.specs.declared.setting.Setting.{Setting}
+use Rattle.ab_loop.specs.Cores.{Rules}
+use Rattle.ab_loop.specs.Outside.{Counts, Outside}
+use Rattle.ab_loop.specs.Runs.{HasFaultOf, HasServed, Start, start_of}
+use Rattle.ab_member.specs.Replicas.{IsFirstReplica, ReplicaMember, replica_rules}
+use Rattle.ab_member.specs.Clients.{ClientMember, IsFirstClient, client_rules}
+use Rattle.ab_replay.specs.declared.refusal.Cause.TheVariants.{BadLine, NoEnd}
+use Rattle.ab_replay.specs.declared.refusal.Refusal.{Refusal}
+use Rattle.ab_replay.specs.Protocols.{Any}
+use Rattle.ab_replay.specs.Replays.{proto_of}
+use Rattle.ab_replay.specs.Streams.{IsInput, IsTooLong}
+use Rattle.ab_node.specs.declared.stop.Stop.{Stop}
+use Rattle.ab_node.specs.declared.stop.Stop.TheVariants as stop
+use Rattle.ab_node.specs.Timers.{any_counted}
+
+-- what a node is asked for, what clock and link tell, what was written and sent before and after it, and the counts of faults
+pub record Meeting : Type 0 where
+  pub asked : NodeCommand
+  pub clock : Option Readings
+  pub link : Option (List (List ℕ))
+  pub old : Outside
+  pub new : Outside
+  pub before : Counts
+  pub after : Counts
+
+abbrev pub setting_of : NodeCommand → Party → Setting
+setting_of a me = record { me = me; base = a.base; wait = a.wait; trace = a.trace }
+
+abbrev pub as_command : List ℕ → ArrayVec ℕ
+as_command bytes = record { items = bytes }
+
+-- ---- one party
+
+abbrev pub start_with : {C : Type 0} → Meeting → Party → C → List (List ℕ) → Start C
+start_with x me core commands = start_of (setting_of x.asked me) x.asked.turns core (map as_command commands) x.clock x.link
+
+-- a core was served, to the end
+abbrev pub CoreServed : {C : Type 0} → Rules C → Party → C → List (List ℕ) → Meeting → Served → Type 0
+CoreServed rules me core commands x served = HasServed rules (start_with x me core commands) x.old x.new x.before x.after served
+
+-- it was served, and the node stopped for this
+abbrev pub CoreStopped : {C : Type 0} → Rules C → Party → C → List (List ℕ) → Meeting → ServeFault → Type 0
+CoreStopped rules me core commands x why = HasFaultOf rules (start_with x me core commands) x.old x.new x.before x.after why
+
+-- the replica of these keys was served, to the end
+pub record ReplicaServed (proto : Proto Any) (k : PartyKeys) (r : ℕ) (commands : List (List ℕ)) (x : Meeting) (served : Served) : Type 0 where
+  pub core : ReplicaMember Any
+  pub first : IsFirstReplica proto k r core
+  pub run : CoreServed (replica_rules proto any_counted) (Replica r) core commands x served
+
+-- it was served, and the node stopped for this
+pub record ReplicaStopped (proto : Proto Any) (k : PartyKeys) (r : ℕ) (commands : List (List ℕ)) (x : Meeting) (why : ServeFault) : Type 0 where
+  pub core : ReplicaMember Any
+  pub first : IsFirstReplica proto k r core
+  pub fault : CoreStopped (replica_rules proto any_counted) (Replica r) core commands x why
+
+-- the same of the client of these keys
+pub record ClientServed (k : PartyKeys) (c : ℕ) (commands : List (List ℕ)) (x : Meeting) (served : Served) : Type 0 where
+  pub core : ClientMember
+  pub first : IsFirstClient k c core
+  pub run : CoreServed client_rules (Client c) core commands x served
+
+pub record ClientStopped (k : PartyKeys) (c : ℕ) (commands : List (List ℕ)) (x : Meeting) (why : ServeFault) : Type 0 where
+  pub core : ClientMember
+  pub first : IsFirstClient k c core
+  pub fault : CoreStopped client_rules (Client c) core commands x why
+
+-- the party of these keys, a replica with the service that they name. What a client does depends on no service
+abbrev pub PartyServed : Party → PartyKeys → List (List ℕ) → Meeting → Served → Type 0
+PartyServed (Replica r) k commands x served = ReplicaServed (proto_of k.service) k r commands x served
+PartyServed (Client c) k commands x served = ClientServed k c commands x served
+
+abbrev pub PartyStopped : Party → PartyKeys → List (List ℕ) → Meeting → ServeFault → Type 0
+PartyStopped (Replica r) k commands x why = ReplicaStopped (proto_of k.service) k r commands x why
+PartyStopped (Client c) k commands x why = ClientStopped k c commands x why
+
+-- ---- by a text
+
+-- the party that the text sets up was served to the end: a client's commands are answered, or a replica's turns are used
+pub record IsServed (text : List ℕ) (x : Meeting) (served : Served) : Type 0 where
+  pub node : Node
+  pub reads : node_in (lines_of text) ≡ Ok node
+  pub run : PartyServed node.keys.me node.keys node.commands x served
+
+-- it was served, and the node stopped for this
+pub record IsStopped (text : List ℕ) (x : Meeting) (why : ServeFault) : Type 0 where
+  pub node : Node
+  pub reads : node_in (lines_of text) ≡ Ok node
+  pub fault : PartyStopped node.keys.me node.keys node.commands x why
+
+-- a line is out of form or missing
+abbrev pub text_refusal : NodeFault → Option Refusal
+text_refusal (text_fault.BadLine n) = Some (record { line = n; cause = BadLine })
+text_refusal (text_fault.NoEnd n) = Some (record { line = n; cause = NoEnd })
+text_refusal text_fault.OutOfMemory = None
+
+-- where nothing is refused, memory was
+abbrev pub stop_from : Option Refusal → Stop
+stop_from None = stop.OutOfMemory
+stop_from (Some r) = stop.Refused r
+
+pub record IsRefused (text : List ℕ) (r : Refusal) : Type 0 where
+  pub fault : NodeFault
+  pub reads : node_in (lines_of text) ≡ Err fault
+  pub refuses : text_refusal fault ≡ Some r
+
+-- nothing was written or sent, and no count of link and sink rose
+pub record IsUntouched (x : Meeting) : Type 0 where
+  pub outside : x.new ≡ x.old
+  pub counts : x.after ≡ x.before
+
+-- when a node stops for each reason: by what was left of the input, and its count of faults
+abbrev pub StopCause : Stop → Option (List ℕ) → ℕ → ℕ → Meeting → Type 0
+StopCause stop.Read left before now x = Rose before now × IsUntouched x
+StopCause stop.TooLong left before now x = IsTooLong left × IsUntouched x
+StopCause (stop.Refused r) left before now x = ((text : List ℕ) × IsInput left text × IsRefused text r) × IsUntouched x
+StopCause (stop.Serving why) left before now x = (text : List ℕ) × IsInput left text × IsStopped text x why
+StopCause stop.OutOfMemory left before now x = IsUntouched x
+
+-- the same of a text that is there
+abbrev pub TextCause : Stop → List ℕ → Meeting → Type 0
+TextCause stop.Read text x = ⊥
+TextCause stop.TooLong text x = ⊥
+TextCause (stop.Refused r) text x = IsRefused text r × IsUntouched x
+TextCause (stop.Serving why) text x = IsStopped text x why
+TextCause stop.OutOfMemory text x = IsUntouched x
+
+-- and of a party of which this is said once it is served
+abbrev pub PartyCause : (ServeFault → Type 0) → Meeting → Stop → Type 0
+PartyCause HasFault x stop.Read = ⊥
+PartyCause HasFault x stop.TooLong = ⊥
+PartyCause HasFault x (stop.Refused r) = ⊥
+PartyCause HasFault x (stop.Serving why) = HasFault why
+PartyCause HasFault x stop.OutOfMemory = IsUntouched x
+
+abbrev pub ReplicaCause : Proto Any → PartyKeys → ℕ → List (List ℕ) → Meeting → Stop → Type 0
+ReplicaCause proto k r commands x = PartyCause (ReplicaStopped proto k r commands x) x
+
+abbrev pub ClientCause : PartyKeys → ℕ → List (List ℕ) → Meeting → Stop → Type 0
+ClientCause k c commands x = PartyCause (ClientStopped k c commands x) x
