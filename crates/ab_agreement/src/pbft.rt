@@ -78,7 +78,10 @@ impl Pbft {
         ensures count { result ≡ self.now.left + leavings turn.now.deeds.items }
         ensures within { result ≤ (memory_of turn.now.memory).peer.core.view }
     {
-        self.left + leavings(&turn.deeds) as u32
+        let more = leavings(&turn.deeds);
+        let within = more <= turn.memory.view() as usize;
+        prove!(within);
+        self.left + more as u32
     }
 
     /// Does what the rules say as something comes that is on this shelf, and posts what others hear of.

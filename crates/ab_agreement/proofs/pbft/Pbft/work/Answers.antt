@@ -1,4 +1,4 @@
-use Rattle.std.proofs.Common.{◌≤◌, ◌∙◌, refl, ap, arith, rules}
+use Rattle.std.proofs.Common.{◌≡◌, ◌≤◌, ◌∙◌, refl, ap, arith, rules}
 use Rattle.std.proofs.lemmas.Result.{err_from_is_err_and}
 use Rattle.ab_abs.specs.declared.protocol.StepFault.TheVariants.{Spent}
 use Rattle.ab_slots.specs.Turns.{seat_of, memory_of, input_of}
@@ -8,11 +8,15 @@ use Rattle.ab_agreement.proofs.pbft.Pbft.work.Goals as goal
 
 pub left_after-left-requires : goal.left_after-left-requires
 left_after-left-requires g c =
-    let seat_is = ap seat_of c.in_ok-seat.ensures ∙ ap (λ (p : Signing). p.order.seat) c.self.view_is in
-    let memory_is = c.in_ok-memory.ensures ∙ ap (λ (p : Signing). p.order.memory) c.self.view_is in
-    let few : c.args.self.now.left ≤ c.args.self.now.order.memory.peer.core.view =
-    omega (arith, c.self.invariant, ap (λ (p : Signing). p.left) c.self.view_is, ap (λ (p : Signing). p.order.memory.peer.core.view) c.self.view_is) in
-    left_within c.args.self.now (input_of c.args.input) c.new-turn.result c.work.new.self (seat_of c.in_ok-seat.seat) (memory_of c.in_ok-memory.memory) seat_is memory_is c.new-turn.ensures c.in_ok-work.ensures few
+    let q = c.args.self.now in
+    let v = c.self.inside in
+    let seat_is : seat_of c.in_ok-seat.seat ≡ q.order.seat = ap seat_of c.in_ok-seat.ensures ∙ ap (λ (p : Signing). p.order.seat) c.self.view_is in
+    let memory_is : memory_of c.in_ok-memory.memory ≡ q.order.memory = c.in_ok-memory.ensures ∙ ap (λ (p : Signing). p.order.memory) c.self.view_is in
+    let left_is : v.left ≡ q.left = ap (λ (p : Signing). p.left) c.self.view_is in
+    let view_is : (memory_of v.memory).peer.core.view ≡ q.order.memory.peer.core.view = ap (λ (p : Signing). p.order.memory.peer.core.view) c.self.view_is in
+    let was : v.left ≤ (memory_of v.memory).peer.core.view = c.self.invariant in
+    let few : q.left ≤ q.order.memory.peer.core.view = omega (arith, was, left_is, view_is) in
+    left_within q (input_of c.args.input) c.new-turn.result c.work.new.self (seat_of c.in_ok-seat.seat) (memory_of c.in_ok-memory.memory) seat_is memory_is c.new-turn.ensures c.in_ok-work.ensures few
 
 pub returns : goal.returns
 returns g c =
