@@ -64,7 +64,7 @@ module _ (c : Call) (k : NodeCommand) (clear : IsClearForNode c k) where
   node_status Done (inr (inr (inr served)), kept) = inl (refl, served)
   node_status Broken (inl (words, report), kept) = absurd (replay_or_node c.words k words clear.words)
   node_status Broken (inr (j, summary, asks, storms, written), kept) = absurd (storm_or_node c.words j k asks clear.words)
-  node_status Usage (others, none, kept, said) = absurd (not_none c.words (command.Node k) clear.words none)
+  node_status Usage (none, kept, said) = absurd (not_none c.words (command.Node k) clear.words none)
   node_status (Refused r) (inl (words, input, kept), said) = absurd (replay_or_node c.words k words clear.words)
   node_status (Refused r) (inr (j, asks, (text, input, refused), untouched), said) = absurd (not_refused text r input refused)
   node_status ReadFault (inl (words, rose, kept), said) = absurd (clear.read rose)

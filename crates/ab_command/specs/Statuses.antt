@@ -26,7 +26,7 @@ use Rattle.ab_abs.specs.Ensembles.{Proto}
 use Rattle.ab_kv.specs.KvMachines.{kv_machine}
 use Rattle.ab_replay.specs.Protocols.{Any, any}
 use Rattle.ab_command.specs.Calls.{Call, meeting_of}
-use Rattle.ab_command.specs.Commands.{AsksKeys, AsksNode, AsksStorm, IsNoCommand, IsReplay, TakesInput, key_text}
+use Rattle.ab_command.specs.Commands.{AsksKeys, AsksNode, AsksStorm, IsNoCommand, IsReplay, key_text}
 use Rattle.ab_replay.specs.Replays.{Replays, IsRefused, HasTooManyEvents, HasTooManyBytes, Runs}
 use Rattle.ab_storm_run.specs.Runs.{Storms, StormsTo}
 use Rattle.ab_storm_run.specs.Summaries.{summary_of}
@@ -103,7 +103,7 @@ HasFront c =
 abbrev pub StatusCause : Status → Call → Type 0
 StatusCause Done c = ((IsReplay c.words × HasReport true c) ⊎ (HasKeys c ⊎ (HasSummary true c ⊎ ServesNode c))) × Keeps c.err_old c.err_new
 StatusCause Broken c = ((IsReplay c.words × HasReport false c) ⊎ HasSummary false c) × Keeps c.err_old c.err_new
-StatusCause Usage c = (TakesInput c.words → ⊥) × IsNoCommand c.words × KeepsOut c × Says Usage c
+StatusCause Usage c = IsNoCommand c.words × KeepsOut c × Says Usage c
 StatusCause (Refused r) c = ((IsReplay c.words × HasInput (λ text. IsRefused text r) c × KeepsOut c) ⊎ StopsNode (stop.Refused r) c) × Says (Refused r) c
 StatusCause ReadFault c = ((IsReplay c.words × Rose c.read_before c.read_now × KeepsOut c) ⊎ StopsNode stop.Read c) × Says ReadFault c
 StatusCause WriteFault c = ((Rose c.out_before c.out_now × Says WriteFault c) ⊎ Rose c.err_before c.err_now) × HasFront c
