@@ -66,23 +66,23 @@ module _ (c : Call) (k : NodeCommand) (clear : IsClearForNode c k) where
   node_status Broken (inr (j, summary, asks, storms, written), kept) = absurd (storm_or_node c.words j k asks clear.words)
   node_status Usage (none, kept, said) = absurd (not_none c.words (command.Node k) clear.words none)
   node_status (Refused r) (inl (words, input, kept), said) = absurd (replay_or_node c.words k words clear.words)
-  node_status (Refused r) (inr (j, asks, (text, input, refused), untouched), said) = absurd (not_refused text r input refused)
+  node_status (Refused r) (inr (j, asks, ((text, input, refused), untouched)), said) = absurd (not_refused text r input refused)
   node_status ReadFault (inl (words, rose, kept), said) = absurd (clear.read rose)
-  node_status ReadFault (inr (j, asks, rose, untouched), said) = absurd (clear.read rose)
+  node_status ReadFault (inr (j, asks, (rose, untouched)), said) = absurd (clear.read rose)
   node_status WriteFault (rose, front) = elim rose [
     | inl out ↦ absurd (clear.out out.0)
     | inr err ↦ absurd (clear.err err)
   ]
-  node_status LinkFault ((j, asks, text, input, stopped), said) =
+  node_status LinkFault ((j, asks, (text, input, stopped)), said) =
       let node = stopped.node in
       absurd (clear.link (link_rose node.keys.me node.keys node.commands (meeting_of j c) stopped.fault))
   node_status (Limit Bytes) (inl (words, long, kept), said) = absurd (replay_or_node c.words k words clear.words)
-  node_status (Limit Bytes) (inr (j, asks, long, untouched), said) = absurd (not_too_long c.left clear.text clear.input clear.short long)
+  node_status (Limit Bytes) (inr (j, asks, (long, untouched)), said) = absurd (not_too_long c.left clear.text clear.input clear.short long)
   node_status (Limit Events) (words, input, kept, said) = absurd (replay_or_node c.words k words clear.words)
   node_status (Limit Packets) (inl (words, input), kept, said) = absurd (replay_or_node c.words k words clear.words)
   node_status (Limit Packets) (inr (j, asks, passes), kept, said) = absurd (storm_or_node c.words j k asks clear.words)
-  node_status (TurnsSpent n) ((j, asks, text, input, stopped), said) =
-      inr (inl (refl, is_clients text n (meeting_of j c) input stopped, (n, (j, asks, text, input, stopped))))
+  node_status (TurnsSpent n) ((j, asks, (text, input, stopped)), said) =
+      inr (inl (refl, is_clients text n (meeting_of j c) input stopped, (n, (j, asks, (text, input, stopped)))))
   node_status OutOfMemory cause = inr (inr refl)
 
 -- ---- a node that stopped
@@ -103,5 +103,5 @@ stopped_status c k stop.OutOfMemory asks cause front said = (front, inl said)
 pub stop_settled : (c : Call) (k : NodeCommand) (r : Status) (why : Stop) → Settles r (stop_status why) c.err_old c.err_new c.err_before c.err_now → AsksNode c.words k
     → StopCause why c.left c.read_before c.read_now (meeting_of k c) → StatusCause r c
 stop_settled c k r why how asks cause =
-    let front : HasFront c = inr (inr (inr (inr (why, k, asks, cause)))) in
+    let front : HasFront c = inr (inr (inr (inr (why, (k, asks, cause))))) in
     settled c r (stop_status why) how (stopped_status c k why asks cause front) front

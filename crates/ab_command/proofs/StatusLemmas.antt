@@ -1,5 +1,5 @@
 -- What follows from the causes of statuses.
-use Rattle.std.proofs.Common.{◌≡◌, ◌↔◌, ℕ, ◌<◌, ◌⊎◌, List, Bool, true, false, IsTrue, Ok, Err, Result, if◌then◌else◌, length, arith, refl, sym, ap, ◌∙◌, subst, inl, inr}
+use Rattle.std.proofs.Common.{◌≡◌, ◌↔◌, ℕ, ◌<◌, ◌≤◌, ◌⊎◌, List, Bool, true, false, IsTrue, Ok, Err, Result, if◌then◌else◌, length, arith, refl, sym, ap, ◌∙◌, subst, inl, inr}
 use Rattle.std.proofs.Common.{Option, None, Some}
 use Rattle.std.specs.Io.KnownBytes.{Appends, Keeps}
 use Rattle.ab_num.specs.declared.plan.ServiceName.{ServiceName}
