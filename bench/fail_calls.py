@@ -1,0 +1,128 @@
+#!/usr/bin/env python3
+"""Runs the built program again and again, and lets one call to the outside fail in each: the first, the second and the last read
+of the input, write of the output, write of the faults' output, opening of the port, wait for a datagram and sending of one.
+
+    bench/fail_calls.py
+
+Each run has to end as the table of statuses says, with the text of its status, and with a front of what it writes without
+the fault. A datagram that couldn't be sent is a loss, and the node goes on. What is otherwise is told, and the status is then
+1. It needs a C compiler."""
+import os
+import subprocess
+import sys
+import tempfile
+
+HERE = os.path.dirname(os.path.abspath(__file__))
+PROGRAM = os.environ.get('ABSTRACT_BFT', os.path.join(HERE, '..', 'crates', 'abstract_bft', 'out', 'abstract_bft'))
+
+FAILER = r'''
+#define _GNU_SOURCE
+#include <dlfcn.h>
+#include <errno.h>
+#include <stdio.h>
+#include <stdlib.h>
+#include <string.h>
+#include <sys/socket.h>
+#include <sys/uio.h>
+#include <unistd.h>
+enum { IN, OUT, ERR, OPEN, RECV, SEND, KINDS };
+static const char *names[KINDS] = { "in", "out", "err", "open", "recv", "send" };
+static long counts[KINDS];
+static int fails(int kind) {
+    const char *which = getenv("FAIL_KIND"), *number = getenv("FAIL_NUMBER");
+    counts[kind]++;
+    return which && number && !strcmp(which, names[kind]) && counts[kind] == atol(number);
+}
+static int stream(int fd) { return fd == 0 ? IN : fd == 1 ? OUT : fd == 2 ? ERR : -1; }
+#define REAL(call) static __typeof__(call) *real; if (!real) real = dlsym(RTLD_NEXT, #call)
+ssize_t read(int fd, void *b, size_t n) {
+    REAL(read);
+    if (fd == 0 && fails(IN)) { errno = EIO; return -1; }
+    return real(fd, b, n);
+}
+ssize_t write(int fd, const void *b, size_t n) {
+    REAL(write);
+    if (stream(fd) > 0 && fails(stream(fd))) { errno = EIO; return -1; }
+    return real(fd, b, n);
+}
+int bind(int fd, const struct sockaddr *a, socklen_t n) {
+    REAL(bind);
+    if (fails(OPEN)) { errno = EADDRINUSE; return -1; }
+    return real(fd, a, n);
+}
+ssize_t recvfrom(int fd, void *b, size_t n, int flags, struct sockaddr *a, socklen_t *l) {
+    REAL(recvfrom);
+    if (fails(RECV)) { errno = EIO; return -1; }
+    return real(fd, b, n, flags, a, l);
+}
+ssize_t sendto(int fd, const void *b, size_t n, int flags, const struct sockaddr *a, socklen_t l) {
+    REAL(sendto);
+    if (fails(SEND)) { errno = EPERM; return -1; }
+    return real(fd, b, n, flags, a, l);
+}
+__attribute__((destructor)) static void tell(void) {
+    const char *path = getenv("COUNTS");
+    FILE *f;
+    if (path && (f = fopen(path, "w"))) { for (int i = 0; i < KINDS; i++) fprintf(f, "%ld ", counts[i]); fclose(f); }
+}
+'''
+KINDS = ('in', 'out', 'err', 'open', 'recv', 'send')
+SEED = '0' * 64
+KEYS = ['keys', '--plan', 'quorum', '--f', '1', '--clients', '1', '--service', 'kv', '--lms', '5', '--seed', SEED, '--party', 'c0']
+
+
+def built(folder):
+    source, library = os.path.join(folder, 'failer.c'), os.path.join(folder, 'failer.so')
+    with open(source, 'w') as f:
+        f.write(FAILER)
+    subprocess.run(['cc', '-shared', '-fPIC', '-O1', '-o', library, source, '-ldl'], check=True)
+    return library
+
+
+def ran(words, text, **env):
+    done = subprocess.run([PROGRAM, *words], input=text, capture_output=True, env=dict(os.environ, **env), timeout=600)
+    return done.returncode, done.stdout, done.stderr
+
+
+def wanted(kind, good, failed):
+    """Whether a run with a fault of this kind ended as it has to, and the run without."""
+    (status, out, err), (good_status, good_out, good_err) = failed, good
+    front = good_out.startswith(out)
+    if kind == 'in':
+        return (status, out, err) == (4, b'', b'read fault\n')
+    if kind == 'out':
+        return status == 5 and front and out != good_out and err == b'write fault\n'
+    if kind == 'err':
+        return status == 5 and out == good_out and good_err.startswith(err) and err != good_err
+    if kind in ('open', 'recv'):
+        return status == 6 and front and out != good_out and err == b'link fault\n'
+    events, sent, lost, spent = (int(n) for n in good_out.split()[1:])
+    return (status, out, err) == (good_status, b'end %d %d %d %d\n' % (events, sent, lost + 1, spent), good_err)
+
+
+def main():
+    folder = tempfile.mkdtemp()
+    library, counts = built(folder), os.path.join(folder, 'counts')
+    with open(os.path.join(HERE, '..', 'examples', 'two_clients_cross.sched'), 'rb') as f:
+        schedule = f.read()
+    node = subprocess.run([PROGRAM, *KEYS], capture_output=True, check=True).stdout + b'do put a 1\nend\n'
+    cases = [('replay', ['replay'], schedule), ('replay, a bad line', ['replay'], b'x'), ('keys', KEYS, b''),
+             ('node', ['node', '--base', '24000', '--wait', '20', '--turns', '3'], node)]
+    bad = runs = 0
+    for name, words, text in cases:
+        good = ran(words, text, LD_PRELOAD=library, COUNTS=counts)
+        with open(counts) as f:
+            made = [int(n) for n in f.read().split()]
+        for kind, last in zip(KINDS, made):
+            for number in sorted({1, 2, last} & set(range(1, last + 1))):
+                failed = ran(words, text, LD_PRELOAD=library, FAIL_KIND=kind, FAIL_NUMBER=str(number))
+                runs += 1
+                if not wanted(kind, good, failed):
+                    bad += 1
+                    print(f'{name}, {kind} {number} of {last}: {failed}, without the fault {good}')
+        print(f'{name}: status {good[0]}; calls {dict(zip(KINDS, made))}')
+    print(f'{runs} runs with a fault, {bad} of them not as they have to be')
+    sys.exit(1 if bad else 0)
+
+
+main()
