@@ -1,8 +1,9 @@
 #!/usr/bin/env python3
 """Runs the built program again and again, and refuses its first allocation, then its second, and so on to the last.
 
-    bench/refuse_memory.py SCHEDULE.. [--every K]
+    bench/refuse_memory.py TEXT.. [--every K]
 
+A text is a schedule, which is replayed, or one that sets up a node, which is served for three turns with nobody else there.
 Each run has to end with status 9, the line `out of memory` and nothing or a front of its report, or as it ends with
 memory, where the allocation that was refused could be done without. Anything else is told, and the status is then 1.
 `--every K` refuses each K-th allocation alone. It needs a C compiler."""
@@ -71,7 +72,9 @@ def run(library, schedule, number, asked=None):
     if asked:
         env['ASKED'] = asked
     with open(schedule, 'rb') as f:
-        done = subprocess.run([PROGRAM, 'replay'], stdin=f, capture_output=True, env=env, timeout=600)
+        words = ['node', '--base', '24200', '--wait', '20', '--turns', '3'] if f.read(4) == b'keys' else ['replay']
+        f.seek(0)
+        done = subprocess.run([PROGRAM, *words], stdin=f, capture_output=True, env=env, timeout=600)
     return done.returncode, done.stdout, done.stderr
 
 
