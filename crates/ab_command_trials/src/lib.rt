@@ -5,3 +5,7 @@
 mod calls;
 #[cfg(test)]
 mod nodes;
+#[cfg(test)]
+mod replays;
+#[cfg(test)]
+mod words;
