@@ -5,27 +5,17 @@ use Rattle.ab_io.specs.Causes.{Rose}
 use Rattle.ab_replay.specs.declared.running.ReplayFault.{ReplayFault}
 use Rattle.ab_replay.specs.declared.running.ReplayFault.TheVariants as replaying
 use Rattle.ab_replay.specs.Replays.{IsRefused, HasTooManyEvents, HasTooManyBytes}
-use Rattle.ab_replay.specs.Streams.{IsInput, IsTooLong, AppendsFront}
+use Rattle.ab_replay.specs.Streams.{IsInput, IsTooLong, AppendsFront, AppendsPart}
 use Rattle.ab_command.specs.declared.status.Bound.TheVariants.{Bytes, Events, Packets}
 use Rattle.ab_command.specs.declared.status.Status.{Status}
-use Rattle.ab_command.specs.declared.status.Status.TheVariants.{Done, Broken, Usage, Refused, ReadFault, WriteFault, Limit, OutOfMemory}
+use Rattle.ab_command.specs.declared.status.Status.TheVariants.{Done, Broken, Usage, Refused, ReadFault, WriteFault, LinkFault, Limit, TurnsSpent, OutOfMemory}
+use Rattle.ab_command.specs.Statuses.{SaysNoMemoryOn}
 use Rattle.ab_command.specs.Texts.{text_of}
 use Rattle.ab_draw.specs.Draws.{Draws}
 
 -- what is said where there are words
 abbrev pub usage_text : List ℕ
 usage_text = codes "usage: draw < SCHEDULE > PICTURE\n"
-
--- what is said of a status
-abbrev pub said_of : Status → List ℕ
-said_of Done = text_of Done
-said_of Broken = text_of Broken
-said_of Usage = usage_text
-said_of (Refused r) = text_of (Refused r)
-said_of ReadFault = text_of ReadFault
-said_of WriteFault = text_of WriteFault
-said_of (Limit b) = text_of (Limit b)
-said_of OutOfMemory = text_of OutOfMemory
 
 -- the status of a fault
 abbrev pub status_of : ReplayFault → Status
@@ -52,13 +42,25 @@ pub record Met : Type 0 where
   pub err_before : ℕ
   pub err_now : ℕ
 
+-- there were no words
+abbrev pub IsAlone : Met → Type 0
+IsAlone m = m.words ≡ false
+
 -- there were no words, and the input was read to its end, and its bytes are so
 abbrev pub HasInput : (List ℕ → Type 0) → Met → Type 0
-HasInput Is m = (m.words ≡ false) × ((text : List ℕ) × IsInput m.left text × Is text)
+HasInput Is m = IsAlone m × ((text : List ℕ) × IsInput m.left text × Is text)
 
--- the status was said on err, and nothing was written to out
-abbrev pub OnlySays : Status → Met → Type 0
-OnlySays s m = Keeps m.out_old m.out_new × Appends m.err_old m.err_new (said_of s)
+-- the text was said on err
+abbrev pub Says : List ℕ → Met → Type 0
+Says text m = Appends m.err_old m.err_new text
+
+-- it was, and nothing was written to out
+abbrev pub OnlySays : List ℕ → Met → Type 0
+OnlySays text m = Keeps m.out_old m.out_new × Says text m
+
+-- want of memory was said on err, unless err had no memory for all of what it was given
+abbrev pub SaysNoMemory : Met → Type 0
+SaysNoMemory m = SaysNoMemoryOn m.err_old m.err_new ⊎ (IsTrue m.words × AppendsPart m.err_old m.err_new usage_text)
 
 -- out got a front of the picture, or nothing
 abbrev pub HasFront : Met → Type 0
@@ -66,17 +68,19 @@ HasFront m = Keeps m.out_old m.out_new ⊎ ((svg : List ℕ) × HasInput (λ tex
 
 -- the usage line was to be said on err: it was, or err failed, or memory was refused
 abbrev pub SettlesUsage : Status → Option (List ℕ) → Option (List ℕ) → ℕ → ℕ → Type 0
-SettlesUsage r old new before now = ((r ≡ Usage) × Appends old new usage_text) ⊎ (((r ≡ WriteFault) × Rose before now) ⊎ (r ≡ OutOfMemory))
+SettlesUsage r old new before now = ((r ≡ Usage) × Appends old new usage_text) ⊎ (((r ≡ WriteFault) × Rose before now) ⊎ ((r ≡ OutOfMemory) × AppendsPart old new usage_text))
 
 -- when each status comes, and what it leaves on out and err
 abbrev pub DrawCause : Status → Met → Type 0
 DrawCause Done m = ((svg : List ℕ) × HasInput (λ text. Draws text svg) m × Appends m.out_old m.out_new svg) × Keeps m.err_old m.err_new
 DrawCause Broken m = ⊥
-DrawCause Usage m = IsTrue m.words × OnlySays Usage m
-DrawCause (Refused r) m = HasInput (λ text. IsRefused text r) m × OnlySays (Refused r) m
-DrawCause ReadFault m = Rose m.read_before m.read_now × OnlySays ReadFault m
-DrawCause WriteFault m = (Rose m.out_before m.out_now ⊎ Rose m.err_before m.err_now) × HasFront m
-DrawCause (Limit Bytes) m = IsTooLong m.left × OnlySays (Limit Bytes) m
-DrawCause (Limit Events) m = HasInput HasTooManyEvents m × OnlySays (Limit Events) m
-DrawCause (Limit Packets) m = HasInput HasTooManyBytes m × OnlySays (Limit Packets) m
-DrawCause OutOfMemory m = HasFront m
+DrawCause Usage m = IsTrue m.words × OnlySays usage_text m
+DrawCause (Refused r) m = HasInput (λ text. IsRefused text r) m × OnlySays (text_of (Refused r)) m
+DrawCause ReadFault m = IsAlone m × Rose m.read_before m.read_now × OnlySays (text_of ReadFault) m
+DrawCause WriteFault m = ((Rose m.out_before m.out_now × Says (text_of WriteFault) m) ⊎ Rose m.err_before m.err_now) × HasFront m
+DrawCause LinkFault m = ⊥
+DrawCause (Limit Bytes) m = IsAlone m × IsTooLong m.left × OnlySays (text_of (Limit Bytes)) m
+DrawCause (Limit Events) m = HasInput HasTooManyEvents m × OnlySays (text_of (Limit Events)) m
+DrawCause (Limit Packets) m = HasInput HasTooManyBytes m × OnlySays (text_of (Limit Packets)) m
+DrawCause (TurnsSpent n) m = ⊥
+DrawCause OutOfMemory m = HasFront m × SaysNoMemory m

@@ -1,6 +1,6 @@
 //! The picture of the run that a schedule spells.
 
-ghost use Rattle.std.specs.Prelude.{◌≡◌, ℕ, List, ◌+◌, ◌<◌, ◌≤◌, ◌^◌, All, IfErr, IfOk, IsTrue, OnOk, Ok, length, take};
+ghost use Rattle.std.specs.Prelude.{◌≡◌, ◌⊎◌, ℕ, List, ◌<◌, ◌≤◌, ◌^◌, All, IfErr, IfOk, IsTrue, OnOk, Ok, length, take};
 ghost use Rattle.ab_text.specs.Schedules.{script_of};
 ghost use Rattle.ab_abs.specs.Promises.{ServesAll};
 ghost use Rattle.ab_keys.specs.Keys.{is_party};
@@ -68,19 +68,23 @@ fn front_picture<S: Service>(
     Ok(compose(alloc, &head.cluster, head.faulty.as_slice(), &told)?)
 }
 
-/// Runs all events of a schedule, with a service.
+/// Runs all events of a schedule of more than are drawn, with a service.
 fn check<S: Service>(alloc: Global, schedule: &Schedule, line: u32) -> Result<(), ReplayFault>
     requires served { ServesAll is_served schedule.now.head.cluster }
     requires parties { All (λ e. IsTrue (is_party schedule.now.head.cluster.f schedule.now.head.cluster.clients e.0)) schedule.now.head.faulty }
     requires few { length schedule.now.events < 100001 }
     requires short { line < 2 ^ 31 }
-    ensures ok { OnOk result ((end : World Any) × (run_in (any S.machine) schedule.now.head.cluster (script_of schedule.now.head schedule.now.events) ≡ Ok end)) }
+    ensures ok { OnOk result ((length schedule.now.events ≤ most_drawn) ⊎ ((end : World Any) × (run_in (any S.machine) schedule.now.head.cluster (script_of schedule.now.head schedule.now.events) ≡ Ok end))) }
     ensures cause { IfErr result (λ e. EventsCause e line (run_in (any S.machine) schedule.now.head.cluster (script_of schedule.now.head schedule.now.events))) }
 {
     let head = &schedule.head;
+    let events = schedule.events.as_slice();
+    if events.len() <= MOST_DRAWN {
+        return Ok(());
+    }
     let setup = Setup::new(alloc, &head.cluster, head.faulty.as_slice(), head.lms)?;
     let mut world = AnyWorld::<S>::new(alloc, setup)?;
-    run_events(alloc, &mut world, schedule.events.as_slice(), line)
+    run_events(alloc, &mut world, events, line)
 }
 
 /// The text of the picture of a schedule's run, with a service: of its first events, where all events run.
@@ -97,11 +101,8 @@ fn perform<S: Service>(
     ensures cause { IfErr result (λ e. EventsCause e line (run_in (any S.machine) schedule.now.head.cluster (script_of schedule.now.head schedule.now.events))) }
 {
     let picture = front_picture::<S>(alloc, schedule, line)?;
-    let all = schedule.events.as_slice().len();
-    if all > MOST_DRAWN {
-        check::<S>(alloc, schedule, line)?;
-    }
-    Ok(svg(alloc, &picture, all as u32)?)
+    check::<S>(alloc, schedule, line)?;
+    Ok(svg(alloc, &picture, schedule.events.as_slice().len() as u32)?)
 }
 
 /// The text of the picture of the run that a text spells.
