@@ -2,6 +2,7 @@
 use Rattle.std.proofs.Common.{◌≡◌, ◌⊎◌, ℕ, ◌+◌, ◌≤◌, List, [], ◌∷◌, Result, Ok, Err, length, map, take, sym, ap, ◌∙◌, subst, inl, inr, arith}
 use Rattle.std.specs.Prelude.{OnOk}
 use Rattle.std.proofs.lemmas.List.{length-take, take_all}
+use Rattle.ab_num.specs.declared.cluster.Cluster.{Cluster}
 use Rattle.ab_num.specs.declared.party.Party.{Party}
 use Rattle.ab_text.specs.declared.event.Event.{Event}
 use Rattle.ab_text.specs.declared.line.Line.{Line}
@@ -10,6 +11,7 @@ use Rattle.ab_text.specs.declared.schedule.Head.{Head}
 use Rattle.ab_text.specs.Schedules.{script_of}
 use Rattle.ab_abs.specs.Ensembles.{Proto}
 use Rattle.ab_cast.specs.Setups.{Setup}
+use Rattle.ab_post.specs.Packets.{Packet}
 use Rattle.ab_world.specs.declared.fault.WorldFault.{WorldFault}
 use Rattle.ab_world.specs.Runs.{outcome}
 use Rattle.ab_world.specs.Steps.{stepped}
@@ -21,7 +23,7 @@ use Rattle.ab_replay.specs.Protocols.{Any}
 use Rattle.ab_replay.specs.declared.running.ReplayFault.{ReplayFault}
 use Rattle.ab_replay.specs.Replays.{EventsCause, run_in, setup_in}
 use Rattle.ab_replay.proofs.RunLemmas.{sized_so}
-use Rattle.ab_draw.specs.Draws.{counts_of, counts_or, most_drawn, parcel_of, told_between, IsFrontOf, IsPictureOf}
+use Rattle.ab_draw.specs.Draws.{counts_of, counts_or, most_drawn, parcel_of, told_at, told_between, IsFrontOf, IsPictureOf}
 use Rattle.ab_draw.proofs.Walks.{cause_front}
 
 few_or : (r : Result (World Any) WorldFault) (rest : World Any → List ℕ) (n : ℕ) → ((v : World Any) → length (rest v) ≤ n) → length (counts_or r rest) ≤ n
@@ -42,25 +44,22 @@ module _ (proto : Proto Any) where
       starts ∙ ap (start proto) (sets ∙ ap begins faulty)
 
   -- what is told of the first events makes the picture of them
-  pub front_is : (head : Head) (events fs : List Event) (found again : List (Party × ℕ)) (x : Setup) (w end : World Any) (counts : List ℕ) (parcels : List Parcel) (lines : List Line) (premise : Premise) (p : Picture)
-      → fs ≡ take most_drawn events → found ≡ head.faulty → again ≡ head.faulty
+  pub front_is : (head : Head) (events fs : List Event) (found : List (Party × ℕ)) (x : Setup) (w end : World Any) (counts : List ℕ) (p : Picture)
+      → fs ≡ take most_drawn events → found ≡ head.faulty
       → x ≡ record { cluster = head.cluster; faulty = found; lms = head.lms } → w ≡ start proto x
       → outcome proto 1 w fs ≡ Ok end
-      → counts ≡ counts_of proto w fs → parcels ≡ map parcel_of end.packets → lines ≡ end.lines → premise ≡ premise_of end
-      → IsPicture head.cluster again (record { events = fs; counts = counts; parcels = parcels; lines = lines; premise = premise }) p
+      → counts ≡ counts_of proto w fs
+      → IsPicture head.cluster head.faulty (told_at end fs counts) p
       → IsFrontOf proto head.cluster (script_of head events) p
-  front_is head events fs found again x w end counts parcels lines premise p first faulty same sets starts leads counted packed seen told pictured =
-      let s = script_of head events in
-      let begin : World Any = start proto (setup_in head.cluster s) in
+  front_is head events fs found x w end counts p first faulty sets starts leads counted pictured =
+      let begin : World Any = start proto (setup_in head.cluster (script_of head events)) in
       let begins : w ≡ begin = begins_so head events x found w faulty sets starts in
       let counted_so : counts ≡ counts_of proto begin (take most_drawn events) = counted ∙ (λ j. counts_of proto (begins j) (first j)) in
-      let tale : Tale = record { events = fs; counts = counts; parcels = parcels; lines = lines; premise = premise } in
-      let tells : tale ≡ told_between proto begin (take most_drawn events) end =
-      λ j. record { events = first j; counts = counted_so j; parcels = packed j; lines = seen j; premise = told j } in
+      let tells : told_at end fs counts ≡ told_between proto begin (take most_drawn events) end = λ j. told_at end (first j) (counted_so j) in
       record {
         end = end;
         leads = sym (λ j. outcome proto 1 (begins j) (first j)) ∙ leads;
-        is = subst (λ (t : Tale). IsPicture head.cluster head.faulty t p) tells (subst (λ (ys : List (Party × ℕ)). IsPicture head.cluster ys tale p) same pictured);
+        is = subst (λ (t : Tale). IsPicture head.cluster head.faulty t p) tells pictured;
       }
 
   -- what is refused among the first events is refused in the run
@@ -100,3 +99,14 @@ few_drawn events fs first = omega (arith, ap length first, length-take most_draw
 pub on_ok_then : {T E : Type 0} (r : Result T E) (P Q : Type 0) → (P → Q) → OnOk r P → OnOk r Q
 on_ok_then (Ok t) P Q each is = each is
 on_ok_then (Err e) P Q each is = tt
+
+-- what is told of a world makes the picture of it
+pub pictured : (c : Cluster) (faulty found : List (Party × ℕ)) (end : World Any) (events : List Event) (counts : List ℕ) (sent : List Packet) (parcels : List Parcel) (lines : List Line) (premise : Premise) (p : Picture)
+    → found ≡ faulty → sent ≡ end.packets → parcels ≡ map parcel_of sent → lines ≡ end.lines → premise ≡ premise_of end
+    → IsPicture c found (record { events = events; counts = counts; parcels = parcels; lines = lines; premise = premise }) p
+    → IsPicture c faulty (told_at end events counts) p
+pictured c faulty found end events counts sent parcels lines premise p same packets packed seen told is =
+    let packed_so : parcels ≡ map parcel_of end.packets = packed ∙ ap (map parcel_of) packets in
+    let tale : Tale = record { events = events; counts = counts; parcels = parcels; lines = lines; premise = premise } in
+    let tells : tale ≡ told_at end events counts = λ j. record { events = events; counts = counts; parcels = packed_so j; lines = seen j; premise = told j } in
+    subst (λ (t : Tale). IsPicture c faulty t p) tells (subst (λ (ys : List (Party × ℕ)). IsPicture c ys tale p) same is)

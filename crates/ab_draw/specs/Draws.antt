@@ -36,15 +36,19 @@ counts_of proto w (e ∷ es) = counts_or (stepped proto w e) (λ v. length v.pac
 abbrev pub parcel_of : Packet → Parcel
 parcel_of p = record { to = p.to; code = unwrap_or (slice_get p.bytes 0) 0 }
 
--- what is told of the events that lead from one world to another
-abbrev pub told_between : Proto Any → World Any → List Event → World Any → Tale
-told_between proto w es end = record {
+-- what is told of a world to which these events led, where this tells how many packets there were after each
+abbrev pub told_at : World Any → List Event → List ℕ → Tale
+told_at end es counts = record {
   events = es;
-  counts = counts_of proto w es;
+  counts = counts;
   parcels = map parcel_of end.packets;
   lines = end.lines;
   premise = premise_of end;
 }
+
+-- what is told of the events that lead from one world to another
+abbrev pub told_between : Proto Any → World Any → List Event → World Any → Tale
+told_between proto w es end = told_at end es (counts_of proto w es)
 
 -- ---- its picture
 

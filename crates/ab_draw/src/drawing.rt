@@ -8,20 +8,21 @@ ghost use Rattle.ab_replay.specs.Protocols.{Any, any, is_served};
 ghost use Rattle.ab_replay.specs.Replays.{run_in, EventsCause, TextCause, ReplayCause};
 ghost use Rattle.ab_replay.specs.Streams.{IsInput};
 ghost use Rattle.ab_world.specs.Worlds.{World};
-ghost use Rattle.ab_draw.specs.Draws.{most_drawn, IsFrontOf, DrawsRun, Draws};
+ghost use Rattle.ab_picture.specs.Composed.{IsPicture};
+ghost use Rattle.ab_draw.specs.Draws.{most_drawn, told_at, IsFrontOf, DrawsRun, Draws};
 
 use crate::walking::{parcels, walk};
 use ab_cast::Setup;
 use ab_io::Source;
 use ab_kv::Kv;
-use ab_num::ServiceName;
+use ab_num::{OutOfMemory, ServiceName};
 use ab_picture::{Picture, Told, compose};
 use ab_replay::{
     AnyWorld, MOST_EVENTS, ReadFault, ReplayFault, fault_of, read_all, refusal_of_text, run_events,
 };
 use ab_svc::{Echo, Service};
 use ab_svg::svg;
-use ab_text::{Event, Schedule, read_is_in_form, read_schedule};
+use ab_text::{Event, Head, Schedule, read_is_in_form, read_schedule};
 use std::alloc::Global;
 
 /// How many events are drawn.
@@ -36,6 +37,30 @@ fn front(events: &[Event]) -> &[Event]
     } else {
         &events[..MOST_DRAWN]
     }
+}
+
+/// The picture of what led to a world: these events, with how many packets there were after each of them.
+fn picture_of<S: Service>(
+    alloc: Global,
+    world: &AnyWorld<S>,
+    head: &Head,
+    events: &[Event],
+    counts: &[u64],
+) -> Result<Picture, OutOfMemory>
+    requires events { length events.now ≤ most_drawn }
+    requires counts { length counts.now ≤ most_drawn }
+    ensures picture { IfOk result (λ p. IsPicture head.now.cluster head.now.faulty (told_at world.now events.now counts.now) p) }
+    ensures count { IfOk result (λ p. length p.moments.items ≡ length events.now) }
+{
+    let parcels = parcels(alloc, world.sent())?;
+    let told = Told {
+        events,
+        counts,
+        parcels: parcels.as_slice(),
+        lines: world.seen(),
+        premise: world.premise(),
+    };
+    compose(alloc, &head.cluster, head.faulty.as_slice(), &told)
 }
 
 /// The picture of the first events of a schedule, with a service. The first event stands in the line after this one.
@@ -57,15 +82,7 @@ fn front_picture<S: Service>(
     let setup = Setup::new(alloc, &head.cluster, head.faulty.as_slice(), head.lms)?;
     let mut world = AnyWorld::<S>::new(alloc, setup)?;
     let counts = walk(alloc, &mut world, events, line)?;
-    let parcels = parcels(alloc, world.sent())?;
-    let told = Told {
-        events,
-        counts: counts.as_slice(),
-        parcels: parcels.as_slice(),
-        lines: world.seen(),
-        premise: world.premise(),
-    };
-    Ok(compose(alloc, &head.cluster, head.faulty.as_slice(), &told)?)
+    Ok(picture_of(alloc, &world, head, events, counts.as_slice())?)
 }
 
 /// Runs all events of a schedule of more than are drawn, with a service.
