@@ -1,29 +1,24 @@
 -- The picture of the first events of a schedule.
-use Rattle.std.proofs.Common.{◌≡◌, ◌⊎◌, ℕ, ◌+◌, ◌≤◌, List, [], ◌∷◌, Result, Ok, Err, length, map, take, sym, ap, ◌∙◌, subst, inl, inr, arith}
-use Rattle.std.specs.Prelude.{OnOk}
+use Rattle.std.proofs.Common.{◌≡◌, ◌⊎◌, ℕ, ◌+◌, ◌≤◌, List, [], ◌∷◌, Result, Ok, Err, length, take, sym, ap, ◌∙◌, subst, inl, inr, arith}
+use Rattle.std.specs.Prelude.{IfOk, OnOk}
 use Rattle.std.proofs.lemmas.List.{length-take, take_all}
-use Rattle.ab_num.specs.declared.cluster.Cluster.{Cluster}
 use Rattle.ab_num.specs.declared.party.Party.{Party}
 use Rattle.ab_text.specs.declared.event.Event.{Event}
-use Rattle.ab_text.specs.declared.line.Line.{Line}
-use Rattle.ab_text.specs.declared.line.Premise.{Premise}
 use Rattle.ab_text.specs.declared.schedule.Head.{Head}
 use Rattle.ab_text.specs.Schedules.{script_of}
 use Rattle.ab_abs.specs.Ensembles.{Proto}
 use Rattle.ab_cast.specs.Setups.{Setup}
-use Rattle.ab_post.specs.Packets.{Packet}
 use Rattle.ab_world.specs.declared.fault.WorldFault.{WorldFault}
 use Rattle.ab_world.specs.Runs.{outcome}
 use Rattle.ab_world.specs.Steps.{stepped}
-use Rattle.ab_world.specs.Worlds.{World, premise_of, start}
-use Rattle.ab_picture.specs.declared.picture.Parcel.{Parcel}
+use Rattle.ab_world.specs.Worlds.{World, start}
 use Rattle.ab_picture.specs.declared.picture.Picture.{Picture}
 use Rattle.ab_picture.specs.Composed.{IsPicture, Tale}
 use Rattle.ab_replay.specs.Protocols.{Any}
 use Rattle.ab_replay.specs.declared.running.ReplayFault.{ReplayFault}
 use Rattle.ab_replay.specs.Replays.{EventsCause, run_in, setup_in}
 use Rattle.ab_replay.proofs.RunLemmas.{sized_so}
-use Rattle.ab_draw.specs.Draws.{counts_of, counts_or, most_drawn, parcel_of, told_at, told_between, IsFrontOf, IsPictureOf}
+use Rattle.ab_draw.specs.Draws.{counts_of, counts_or, most_drawn, told_at, told_between, IsFrontOf, IsPictureOf}
 use Rattle.ab_draw.proofs.Walks.{cause_front}
 
 few_or : (r : Result (World Any) WorldFault) (rest : World Any → List ℕ) (n : ℕ) → ((v : World Any) → length (rest v) ≤ n) → length (counts_or r rest) ≤ n
@@ -61,6 +56,14 @@ module _ (proto : Proto Any) where
         leads = sym (λ j. outcome proto 1 (begins j) (first j)) ∙ leads;
         is = subst (λ (t : Tale). IsPicture head.cluster head.faulty t p) tells pictured;
       }
+
+  pub front_made : (head : Head) (events fs : List Event) (found : List (Party × ℕ)) (x : Setup) (w end : World Any) (p : Picture)
+      → fs ≡ take most_drawn events → found ≡ head.faulty
+      → x ≡ record { cluster = head.cluster; faulty = found; lms = head.lms } → w ≡ start proto x
+      → (outcome proto 1 w fs ≡ Ok end) × IsPicture head.cluster head.faulty (told_between proto w fs end) p
+      → IsFrontOf proto head.cluster (script_of head events) p
+  front_made head events fs found x w end p first faulty sets starts (leads, pictured) =
+      front_is head events fs found x w end (counts_of proto w fs) p first faulty sets starts leads (λ j. counts_of proto w fs) pictured
 
   -- what is refused among the first events is refused in the run
   pub front_cause : (fault : ReplayFault) (line : ℕ) (head : Head) (events fs : List Event) (found : List (Party × ℕ)) (x : Setup) (w : World Any)
@@ -100,13 +103,6 @@ pub on_ok_then : {T E : Type 0} (r : Result T E) (P Q : Type 0) → (P → Q) �
 on_ok_then (Ok t) P Q each is = each is
 on_ok_then (Err e) P Q each is = tt
 
--- what is told of a world makes the picture of it
-pub pictured : (c : Cluster) (faulty found : List (Party × ℕ)) (end : World Any) (events : List Event) (counts : List ℕ) (sent : List Packet) (parcels : List Parcel) (lines : List Line) (premise : Premise) (p : Picture)
-    → found ≡ faulty → sent ≡ end.packets → parcels ≡ map parcel_of sent → lines ≡ end.lines → premise ≡ premise_of end
-    → IsPicture c found (record { events = events; counts = counts; parcels = parcels; lines = lines; premise = premise }) p
-    → IsPicture c faulty (told_at end events counts) p
-pictured c faulty found end events counts sent parcels lines premise p same packets packed seen told is =
-    let packed_so : parcels ≡ map parcel_of end.packets = packed ∙ ap (map parcel_of) packets in
-    let tale : Tale = record { events = events; counts = counts; parcels = parcels; lines = lines; premise = premise } in
-    let tells : tale ≡ told_at end events counts = λ j. record { events = events; counts = counts; parcels = packed_so j; lines = seen j; premise = told j } in
-    subst (λ (t : Tale). IsPicture c faulty t p) tells (subst (λ (ys : List (Party × ℕ)). IsPicture c ys tale p) same is)
+pub if_ok_then : {T E : Type 0} (r : Result T E) (P Q : T → Type 0) → ((t : T) → P t → Q t) → IfOk r P → IfOk r Q
+if_ok_then (Ok t) P Q each is = each t is
+if_ok_then (Err e) P Q each is = tt

@@ -1,15 +1,16 @@
 //! The picture of the run that a schedule spells.
 
-ghost use Rattle.std.specs.Prelude.{◌≡◌, ◌⊎◌, ℕ, List, ◌<◌, ◌≤◌, ◌^◌, All, IfErr, IfOk, IsTrue, OnOk, Ok, length, take};
+ghost use Rattle.std.specs.Prelude.{◌≡◌, ◌⊎◌, ℕ, List, ◌<◌, ◌≤◌, ◌^◌, All, IfErr, IfOk, IsTrue, None, OnOk, Ok, length, take};
 ghost use Rattle.ab_text.specs.Schedules.{script_of};
 ghost use Rattle.ab_abs.specs.Promises.{ServesAll};
 ghost use Rattle.ab_keys.specs.Keys.{is_party};
 ghost use Rattle.ab_replay.specs.Protocols.{Any, any, is_served};
 ghost use Rattle.ab_replay.specs.Replays.{run_in, EventsCause, TextCause, ReplayCause};
 ghost use Rattle.ab_replay.specs.Streams.{IsInput};
+ghost use Rattle.ab_world.specs.Runs.{outcome};
 ghost use Rattle.ab_world.specs.Worlds.{World};
 ghost use Rattle.ab_picture.specs.Composed.{IsPicture};
-ghost use Rattle.ab_draw.specs.Draws.{most_drawn, told_at, IsFrontOf, DrawsRun, Draws};
+ghost use Rattle.ab_draw.specs.Draws.{most_drawn, told_at, told_between, IsFrontOf, DrawsRun, Draws};
 
 use crate::walking::{parcels, walk};
 use ab_cast::Setup;
@@ -63,6 +64,25 @@ fn picture_of<S: Service>(
     compose(alloc, &head.cluster, head.faulty.as_slice(), &told)
 }
 
+/// The picture of the run of these events, the first of which stands in the line after this one, from a world that begins.
+fn picture_in<S: Service>(
+    alloc: Global,
+    world: &mut AnyWorld<S>,
+    head: &Head,
+    events: &[Event],
+    line: u32,
+) -> Result<Picture, ReplayFault>
+    requires few { length events.now ≤ most_drawn }
+    requires begins { (world.old.cast.events ≡ 0) × (world.old.ended ≡ None) }
+    requires short { line < 2 ^ 31 }
+    ensures ok { IfOk result (λ p. (outcome (any S.machine) 1 world.old events.now ≡ Ok world.new) × IsPicture head.now.cluster head.now.faulty (told_between (any S.machine) world.old events.now world.new) p) }
+    ensures count { IfOk result (λ p. length p.moments.items ≡ length events.now) }
+    ensures cause { IfErr result (λ e. EventsCause e line (outcome (any S.machine) 1 world.old events.now)) }
+{
+    let counts = walk(alloc, world, events, line)?;
+    Ok(picture_of(alloc, world, head, events, counts.as_slice())?)
+}
+
 /// The picture of the first events of a schedule, with a service. The first event stands in the line after this one.
 fn front_picture<S: Service>(
     alloc: Global,
@@ -81,8 +101,7 @@ fn front_picture<S: Service>(
     let events = front(schedule.events.as_slice());
     let setup = Setup::new(alloc, &head.cluster, head.faulty.as_slice(), head.lms)?;
     let mut world = AnyWorld::<S>::new(alloc, setup)?;
-    let counts = walk(alloc, &mut world, events, line)?;
-    Ok(picture_of(alloc, &world, head, events, counts.as_slice())?)
+    picture_in(alloc, &mut world, head, events, line)
 }
 
 /// Runs all events of a schedule of more than are drawn, with a service.

@@ -1,6 +1,6 @@
 //! A world is stepped, and what is told of it is kept.
 
-ghost use Rattle.std.specs.Prelude.{◌≡◌, ◌<◌, ◌^◌, IfErr, IfOk, None, Ok, length, map};
+ghost use Rattle.std.specs.Prelude.{◌≡◌, ◌<◌, ◌^◌, [], ◌∷◌, ◌++◌, IfErr, IfOk, None, Ok, OnOk, length, map};
 ghost use Rattle.ab_world.specs.Runs.{outcome};
 ghost use Rattle.ab_replay.specs.Protocols.{any};
 ghost use Rattle.ab_replay.specs.Replays.{EventsCause};
@@ -14,6 +14,14 @@ use ab_svc::Service;
 use ab_text::Event;
 use ab_world::WorldFault;
 use std::alloc::Global;
+
+/// Keeps a count behind others.
+fn keep(counts: &mut Vec<u64>, count: u64) -> Result<(), OutOfMemory>
+    ensures { OnOk result (counts.new.items ≡ counts.old.items ++ count ∷ []) }
+{
+    counts.push(count)?;
+    Ok(())
+}
 
 /// Steps through the events, the first of which stands in the line after this one, and gives how many packets
 /// there were after each of them.
@@ -38,9 +46,7 @@ pub(crate) fn walk<S: Service>(
             Err(WorldFault::PacketLimit) => return Err(ReplayFault::TooManyPackets),
             Err(fault) => return Err(fault_of(refusal_of_step(line + 1 + i as u32, fault))),
         }
-        if counts.push(world.packets()).is_err() {
-            return Err(ReplayFault::OutOfMemory);
-        }
+        keep(&mut counts, world.packets())?;
     }
     Ok(counts)
 }

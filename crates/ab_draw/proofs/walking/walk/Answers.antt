@@ -6,7 +6,9 @@ use Rattle.ab_world.specs.declared.fault.WorldFault.TheVariants.{PacketLimit}
 use Rattle.ab_world.specs.Steps.{Cause, stepped}
 use Rattle.ab_world.specs.Runs.{outcome, refused_or}
 use Rattle.ab_replay.specs.Protocols.{any}
-use Rattle.ab_replay.proofs.RunLemmas.{no_limit, step_steps}
+use Rattle.ab_replay.specs.declared.running.ReplayFault.TheVariants.{OutOfMemory}
+use Rattle.ab_replay.specs.Replays.{EventsCause}
+use Rattle.ab_replay.proofs.RunLemmas.{kept_err, no_limit, step_steps}
 use Rattle.ab_draw.specs.Draws.{counts_of}
 use Rattle.ab_draw.proofs.Walks.{counted}
 use Rattle.ab_draw.proofs.walking.walk.Goals as goal
@@ -24,8 +26,8 @@ loop-i-preserved g c =
           ap (λ r. refused_or proto (i + 1) r (λ v. outcome proto (i + 1 + 1) v (drop (i + 1) events))) (sym c.in-Ok.ensures.ok)
           ∙ ap (outcome proto (i + 1) c.loop-i.world) (sym next)
           ∙ c.loop-i.invariant.rest;
-      told = counted proto c.loop-i.world c.step.new.self e (drop i events) (drop (i + 1) events) c.loop-i.counts.items c.push.new.self.items
-          (counts_of proto c.args.world.now events) c.packets.result c.in-Ok.ensures.ok next c.packets.ensures c.push.ensures.items c.loop-i.invariant.told;
+      told = counted proto c.loop-i.world c.step.new.self e (drop i events) (drop (i + 1) events) c.loop-i.counts.items c.keep.new.counts.items
+          (counts_of proto c.args.world.now events) c.packets.result c.in-Ok.ensures.ok next c.packets.ensures c.in_ok-keep.ensures c.loop-i.invariant.told;
       counted = omega (arith, steps.0, c.loop-i.invariant.counted);
       goes = steps.1 ∙ c.loop-i.invariant.goes;
     }
@@ -50,3 +52,7 @@ returns-in-Err-PacketLimit-clause-cause g c =
           ∙ ap (outcome proto (i + 1) c.loop-i.world) next
           ∙ ap (λ r. refused_or proto (i + 1) r (λ v. outcome proto (i + 1 + 1) v (drop (i + 1) events))) refused,
     )
+
+pub returns-in_err-keep-clause-cause : goal.returns-in_err-keep-clause-cause
+returns-in_err-keep-clause-cause g c =
+    kept_err c.from_residual.result OutOfMemory (λ e. EventsCause e c.args.line (outcome (any g.S.Service.machine) 1 c.args.world.now c.args.events.now)) c.from_residual.ensures.1 tt
