@@ -10,7 +10,7 @@ use Rattle.ab_replay.specs.declared.running.ReplayFault.TheVariants.{OutOfMemory
 use Rattle.ab_replay.specs.Replays.{EventsCause}
 use Rattle.ab_replay.proofs.RunLemmas.{kept_err, no_limit, step_steps}
 use Rattle.ab_draw.specs.Draws.{counts_of}
-use Rattle.ab_draw.proofs.Walks.{counted}
+use Rattle.ab_draw.proofs.Walks.{counted, refused_at}
 use Rattle.ab_draw.proofs.walking.walk.Goals as goal
 
 pub loop-i-preserved : goal.loop-i-preserved
@@ -56,3 +56,21 @@ returns-in-Err-PacketLimit-clause-cause g c =
 pub returns-in_err-keep-clause-cause : goal.returns-in_err-keep-clause-cause
 returns-in_err-keep-clause-cause g c =
     kept_err c.from_residual.result OutOfMemory (λ e. EventsCause e c.args.line (outcome (any g.S.Service.machine) 1 c.args.world.now c.args.events.now)) c.from_residual.ensures.1 tt
+
+pub returns-in-Err : goal.returns-in-Err
+returns-in-Err g c =
+    let proto = any g.S.Service.machine in
+    let i = c.loop-i.i in
+    let e = c.index-events-i.result in
+    let events = c.args.events.now in
+    let fault = c.in-Err.fault in
+    let next : drop i events ≡ e ∷ drop (i + 1) events = at_drop_more (λ t. t) events i e c.loop-i-test.true ∙ ap (λ x. x ∷ drop (i + 1) events) (sym c.index-events-i.is) in
+    record {
+      ok = tt;
+      counts = tt;
+      cause = refused_at proto c.loop-i.world e c.args.line i (c.args.line + 1 + i) fault c.refusal_of_step.result c.fault_of.result (outcome proto 1 c.args.world.now events)
+          c.fault_of.ensures c.refusal_of_step.ensures (omega arith) c.in-Err.ensures.cause
+          (λ refused. sym c.loop-i.invariant.rest
+          ∙ ap (outcome proto (i + 1) c.loop-i.world) next
+          ∙ ap (λ r. refused_or proto (i + 1) r (λ v. outcome proto (i + 1 + 1) v (drop (i + 1) events))) refused);
+    }
