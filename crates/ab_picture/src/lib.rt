@@ -9,3 +9,6 @@ mod picture;
 
 pub use composing::compose;
 pub use picture::{Arrow, Cue, Lane, Mark, Moment, Parcel, Picture, Sign, Stub, Told};
+
+#[cfg(test)]
+mod tests;
