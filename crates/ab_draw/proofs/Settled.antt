@@ -18,11 +18,11 @@ settled m r s (inr (inl (e, rose))) make front = subst (λ (x : Status). DrawCau
 settled m r s (inr (inr (e, says))) make front = subst (λ (x : Status). DrawCause x m) (sym e) (front, inl says)
 
 fault_said : (m : Met) (fault : ReplayFault) → IsAlone m → ReplayCause fault m.left m.read_before m.read_now → Keeps m.out_old m.out_new → Says (text_of (status_of fault)) m → DrawCause (status_of fault) m
-fault_said m Read alone rose kept said = (alone, rose, kept, said)
-fault_said m TooLong alone long kept said = (alone, long, kept, said)
-fault_said m (Refused r) alone refused kept said = ((alone, refused), kept, said)
-fault_said m TooManyEvents alone many kept said = ((alone, many), kept, said)
-fault_said m TooManyPackets alone many kept said = ((alone, many), kept, said)
+fault_said m Read alone rose kept said = (alone, rose, (kept, said))
+fault_said m TooLong alone long kept said = (alone, long, (kept, said))
+fault_said m (Refused r) alone refused kept said = ((alone, refused), (kept, said))
+fault_said m TooManyEvents alone many kept said = ((alone, many), (kept, said))
+fault_said m TooManyPackets alone many kept said = ((alone, many), (kept, said))
 fault_said m OutOfMemory alone cause kept said = (inl kept, inl (inl said))
 
 -- why there is no picture
@@ -40,6 +40,6 @@ memory_settled m r how front = settled m r status.OutOfMemory how (λ said. (fro
 
 -- words where none are taken
 pub usage_settled : (m : Met) (r : Status) → SettlesUsage r m.err_old m.err_new m.err_before m.err_now → IsTrue m.words → Keeps m.out_old m.out_new → DrawCause r m
-usage_settled m r (inl (e, said)) words kept = subst (λ (x : Status). DrawCause x m) (sym e) (words, kept, said)
+usage_settled m r (inl (e, said)) words kept = subst (λ (x : Status). DrawCause x m) (sym e) (words, (kept, said))
 usage_settled m r (inr (inl (e, rose))) words kept = subst (λ (x : Status). DrawCause x m) (sym e) (inr rose, inl kept)
 usage_settled m r (inr (inr (e, part))) words kept = subst (λ (x : Status). DrawCause x m) (sym e) (inl kept, inr (words, part))

@@ -7,6 +7,8 @@ use Rattle.ab_replay.specs.Replays.{run_in, proto_of, EventsCause, TextCause}
 use Rattle.ab_replay.proofs.RunLemmas.{if_err_then, sized_so, stops_text}
 use Rattle.ab_text.specs.Schedules.{script_of}
 use Rattle.ab_replay.proofs.TextLemmas.{all_served}
+use Rattle.ab_draw.specs.Draws.{Draws, DrawsRun}
+use Rattle.ab_draw.proofs.Fronts.{if_ok_then}
 use Rattle.ab_draw.proofs.drawing.draw_text.Goals as goal
 
 pub perform-requires-clause-served : goal.perform-requires-clause-served
@@ -36,3 +38,23 @@ returns-clause-cause c =
     if_err_then c.perform-in-Kv.result (λ e. EventsCause e line (run_in (any kv_machine) head.cluster s)) (λ e. TextCause e text)
     (λ e at. stops_text e text s head.cluster line (sized_so head events) c.in-Ok.ensures (omega (arith, c.if-as_slice-gt-MOST_EVENTS.false, ap length c.as_slice.ensures)) (ap (λ l. 7 + length l) c.as_slice-2.ensures)
     (subst (λ (v : ServiceName). EventsCause e line (run_in (proto_of v) head.cluster s)) (sym c.in-Kv.is) at)) c.perform-in-Kv.ensures.cause
+
+pub returns-in-Echo-clause-ok : goal.returns-in-Echo-clause-ok
+returns-in-Echo-clause-ok c =
+    let s = script_of c.in-Ok.schedule.head c.in-Ok.schedule.events in
+    if_ok_then c.perform.result (λ v. DrawsRun (any echo_machine) s v.items) (λ v. Draws c.args.text.now v.items)
+    (λ v draws. record {
+      schedule = s;
+      reads = c.in-Ok.ensures;
+      draws = subst (λ (m : ServiceName). DrawsRun (proto_of m) s v.items) (sym c.in-Echo.is) draws;
+    }) c.perform.ensures.ok
+
+pub returns-clause-ok : goal.returns-clause-ok
+returns-clause-ok c =
+    let s = script_of c.in-Ok.schedule.head c.in-Ok.schedule.events in
+    if_ok_then c.perform-in-Kv.result (λ v. DrawsRun (any kv_machine) s v.items) (λ v. Draws c.args.text.now v.items)
+    (λ v draws. record {
+      schedule = s;
+      reads = c.in-Ok.ensures;
+      draws = subst (λ (m : ServiceName). DrawsRun (proto_of m) s v.items) (sym c.in-Kv.is) draws;
+    }) c.perform-in-Kv.ensures.ok

@@ -38,5 +38,5 @@ pub returns-clause-cause : goal.returns-clause-cause
 returns-clause-cause g c =
     let old = g.O.Sink.contents c.args.out.now in
     let new = g.O.Sink.contents c.write_all.new.sink in
-    let front = subst (λ (bytes : List ℕ). AppendsFront old new bytes) c.as_slice.ensures.value c.in-Err-OutOfMemory-write_all.ensures.front in
+    let front = subst (λ (bytes : List ℕ). AppendsFront old new bytes) c.as_slice.ensures.value c.in-Err-OutOfMemory.ensures.front in
     memory_settled _ c.say_no_memory.result c.say_no_memory.ensures.status (inr (c.in-Ok.text.items, (c.if-is_called_with_words.false, c.in-Ok.ensures.ok), front))
