@@ -192,8 +192,8 @@ const REPLICAS: [(u16, &str); 4] = [
     (9003, "--party=r3"),
 ];
 
-/// What the nodes of all replicas answer to what the client's sent.
-fn replies(rt: &impl Abort, alloc: Global, asked: &MemLink) -> Result<Vec<Vec<u8>>, Fail> {
+/// What the nodes of all replicas answer to what was sent over a link.
+fn all_answers(rt: &impl Abort, alloc: Global, asked: &MemLink) -> Result<Vec<Vec<u8>>, Fail> {
     let mut replies = Vec::new(alloc);
     for (port, party) in REPLICAS {
         let requests = sent_to(alloc, asked, port)?;
@@ -204,13 +204,28 @@ fn replies(rt: &impl Abort, alloc: Global, asked: &MemLink) -> Result<Vec<Vec<u8
     Ok(replies)
 }
 
+/// What they answer to the node that this text sets up.
+fn replies(rt: &impl Abort, alloc: Global, text: &[u8]) -> Result<Vec<Vec<u8>>, Fail> {
+    let asked = call(alloc, NODE, text, &NOTHING)?;
+    all_answers(rt, alloc, &asked.link)
+}
+
+/// Runs the node that this text sets up again, now with these replies.
+fn expect_commit(
+    rt: &impl Abort,
+    alloc: Global,
+    text: &[u8],
+    replies: Vec<Vec<u8>>,
+) -> Result<(), AllocError> {
+    let told = call_over(alloc, NODE, text, replies, &NOTHING)?;
+    expect(rt, &told, 0, "reply 1 1 1 ok\nend 5 4 0 0\n", "");
+    Ok(())
+}
+
 #[test]
 fn a_cluster_commits(rt: HostRuntime) -> Result<(), Fail> {
     let alloc = rt.alloc();
     let text = node_text(alloc, CLIENT, "do put a 1\nend\n")?;
-    let asked = call(alloc, NODE, &text, &NOTHING)?;
-    let replies = replies(&rt, alloc, &asked.link)?;
-    let told = call_over(alloc, NODE, &text, replies, &NOTHING)?;
-    expect(&rt, &told, 0, "reply 1 1 1 ok\nend 5 4 0 0\n", "");
-    Ok(())
+    let replies = replies(&rt, alloc, &text)?;
+    Ok(expect_commit(&rt, alloc, &text, replies)?)
 }
