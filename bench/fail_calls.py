@@ -8,12 +8,11 @@ Each run has to end as the table of statuses says, with the text of its status, 
 the fault. A datagram that couldn't be sent is a loss, and the node goes on. What is otherwise is told, and the status is then
 1. It needs a C compiler."""
 import os
-import subprocess
 import sys
 import tempfile
 
-HERE = os.path.dirname(os.path.abspath(__file__))
-PROGRAM = os.environ.get('ABSTRACT_BFT', os.path.join(HERE, '..', 'crates', 'abstract_bft', 'out', 'abstract_bft'))
+from preload import built, ran
+from timing import TOP
 
 FAILER = r'''
 #define _GNU_SOURCE
@@ -71,19 +70,6 @@ SEED = '0' * 64
 KEYS = ['keys', '--plan', 'quorum', '--f', '1', '--clients', '1', '--service', 'kv', '--lms', '5', '--seed', SEED, '--party', 'c0']
 
 
-def built(folder):
-    source, library = os.path.join(folder, 'failer.c'), os.path.join(folder, 'failer.so')
-    with open(source, 'w') as f:
-        f.write(FAILER)
-    subprocess.run(['cc', '-shared', '-fPIC', '-O1', '-o', library, source, '-ldl'], check=True)
-    return library
-
-
-def ran(words, text, **env):
-    done = subprocess.run([PROGRAM, *words], input=text, capture_output=True, env=dict(os.environ, **env), timeout=600)
-    return done.returncode, done.stdout, done.stderr
-
-
 def wanted(kind, good, failed):
     """Whether a run with a fault of this kind ended as it has to, and the run without."""
     (status, out, err), (good_status, good_out, good_err) = failed, good
@@ -102,10 +88,10 @@ def wanted(kind, good, failed):
 
 def main():
     folder = tempfile.mkdtemp()
-    library, counts = built(folder), os.path.join(folder, 'counts')
-    with open(os.path.join(HERE, '..', 'examples', 'two_clients_cross.sched'), 'rb') as f:
+    library, counts = built(folder, FAILER), os.path.join(folder, 'counts')
+    with open(TOP / 'examples' / 'two_clients_cross.sched', 'rb') as f:
         schedule = f.read()
-    node = subprocess.run([PROGRAM, *KEYS], capture_output=True, check=True).stdout + b'do put a 1\nend\n'
+    node = ran(KEYS, b'')[1] + b'do put a 1\nend\n'
     cases = [('replay', ['replay'], schedule), ('replay, a bad line', ['replay'], b'x'), ('keys', KEYS, b''),
              ('node', ['node', '--base', '24000', '--wait', '20', '--turns', '3'], node)]
     bad = runs = 0

@@ -8,12 +8,10 @@ Each run has to end with status 9, the line `out of memory` and nothing or a fro
 memory, where the allocation that was refused could be done without. Anything else is told, and the status is then 1.
 `--every K` refuses each K-th allocation alone. It needs a C compiler."""
 import os
-import subprocess
 import sys
 import tempfile
 
-HERE = os.path.dirname(os.path.abspath(__file__))
-PROGRAM = os.path.join(HERE, '..', 'crates', 'abstract_bft', 'out', 'abstract_bft')
+from preload import built, ran
 
 REFUSER = r'''
 #define _GNU_SOURCE
@@ -59,23 +57,12 @@ __attribute__((destructor)) static void tell(void) {
 '''
 
 
-def built(folder):
-    source, library = os.path.join(folder, 'refuser.c'), os.path.join(folder, 'refuser.so')
-    with open(source, 'w') as f:
-        f.write(REFUSER)
-    subprocess.run(['cc', '-shared', '-fPIC', '-O1', '-o', library, source, '-ldl'], check=True)
-    return library
-
-
-def run(library, schedule, number, asked=None):
-    env = dict(os.environ, LD_PRELOAD=library, REFUSE=str(number))
-    if asked:
-        env['ASKED'] = asked
-    with open(schedule, 'rb') as f:
-        words = ['node', '--base', '24200', '--wait', '20', '--turns', '3'] if f.read(4) == b'keys' else ['replay']
-        f.seek(0)
-        done = subprocess.run([PROGRAM, *words], stdin=f, capture_output=True, env=env, timeout=600)
-    return done.returncode, done.stdout, done.stderr
+def run(library, path, number, **environment):
+    """A run in which the allocation of this number is refused; 0 refuses none."""
+    with open(path, 'rb') as f:
+        text = f.read()
+    words = ['node', '--base', '24200', '--wait', '20', '--turns', '3'] if text.startswith(b'keys') else ['replay']
+    return ran(words, text, LD_PRELOAD=library, REFUSE=str(number), **environment)
 
 
 def main():
@@ -86,9 +73,9 @@ def main():
         del words[at:at + 2]
     bad = 0
     with tempfile.TemporaryDirectory() as folder:
-        library, asked = built(folder), os.path.join(folder, 'asked')
+        library, asked = built(folder, REFUSER), os.path.join(folder, 'asked')
         for schedule in words:
-            whole = run(library, schedule, 0, asked)
+            whole = run(library, schedule, 0, ASKED=asked)
             with open(asked) as f:
                 count = int(f.read())
             spared = refused = 0
