@@ -9,9 +9,8 @@ use Rattle.ab_svc.specs.Machines.{Reply}
 use Rattle.ab_msg.specs.declared.content.Content.{Content}
 use Rattle.ab_msg.specs.declared.content.Content.TheVariants.{Resp, ChainTag}
 use Rattle.ab_msg.specs.declared.chain_tags.TagBetween.{TagBetween}
-use Rattle.ab_msg.specs.declared.message.Msg.{Msg}
 use Rattle.ab_msg.specs.declared.message.Msg.TheVariants as msg
-use Rattle.ab_msg.specs.Claims.{claims, claims_at, tail_claims, asked, each_before, tag_of_position}
+use Rattle.ab_msg.specs.Claims.{claims, claims_at, asked, each_before, tag_of_position}
 use Rattle.ab_num.specs.Places.{position_in}
 use Rattle.ab_abs.proofs.Counting.{Contains-head, Contains-tail}
 use Rattle.ab_abs.proofs.Lists.{Contains-cons_cases}

@@ -1,6 +1,5 @@
 -- An event of a replica of PBFT, once it is read and what came is on the shelf.
 use Rattle.std.specs.Prelude.{ℕ, ◌+◌, if◌then◌else◌, Option, Some, None, List, [], length}
-use Rattle.ab_msg.specs.declared.message.Out.{Out}
 use Rattle.ab_msg.specs.Pens.{Pen}
 use Rattle.ab_order.specs.Inputs.{Input}
 use Rattle.ab_pbft.specs.Rules.{done_by, pbft}

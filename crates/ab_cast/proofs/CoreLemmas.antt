@@ -2,12 +2,13 @@
 use Rattle.std.proofs.Common.{◌≡◌, ◌↔◌, ℕ, zero, suc, ◌⊎◌, inl, inr, ◌≤◌, ◌+◌, ◌-◌, Bool, true, false, not, ◌&&◌, ◌||◌, cond, eqb, ltb, IsTrue, IsSome, is_some, List, [], ◌∷◌, map, position, length, get_or, Option, Some, None, All, Contains, refl, sym, ◌∙◌, ap, subst, arith, add-one}
 use Rattle.std.specs.List.{list_any, range_with_len, position_or_len}
 use Rattle.std.specs.Option.{option_map}
-use Rattle.std.proofs.lemmas.Bool.{false≢true, and_from}
+use Rattle.std.proofs.lemmas.Bool.{and_from}
 use Rattle.std.proofs.lemmas.Bool.Decides.{Decides-eqb, nat_tests}
 use Rattle.std.proofs.lemmas.List.Folds.{list_any-append, list_any_at, Any-from_list_any}
 use Rattle.ab_num.specs.declared.party.Party.{Party}
 use Rattle.ab_num.specs.declared.party.Party.TheVariants.{Replica, Client}
 use Rattle.ab_num.specs.Parties.{party_eq}
+use Rattle.ab_num.proofs.PartyLemmas.{same_party, party_eq-refl}
 use Rattle.ab_keys.specs.Keys.{is_party}
 use Rattle.ab_cast.specs.declared.place.Place.{Place}
 use Rattle.ab_cast.specs.Setups.{Setup, is_bad, twins_of_replica, twins_of_client, replica_twins, client_twins, own_place, twin_place, numbered_place, place_of}
@@ -97,16 +98,6 @@ own_is x p =
     (λ h. sym e ∙ h, λ h. e ∙ h)
 
 -- ---- the same in words
-
-same_party : (p q : Party) → party_eq p q ≡ true → p ≡ q
-same_party (Replica r) (Replica s) e = ap Replica ((Decides-eqb r s).0 e)
-same_party (Client c) (Client d) e = ap Client ((Decides-eqb c d).0 e)
-same_party (Replica r) (Client d) e = absurd (false≢true e)
-same_party (Client c) (Replica s) e = absurd (false≢true e)
-
-party_eq-refl : (p : Party) → party_eq p p ≡ true
-party_eq-refl (Replica r) = (Decides-eqb r r).1 refl
-party_eq-refl (Client c) = (Decides-eqb c c).1 refl
 
 -- the entry of a party with a number of cores that passes
 entry : (p : Party) (faulty : List (Party × ℕ)) (test : ℕ → Bool) → list_any (λ e. party_eq p e.0 && test e.1) faulty ≡ true

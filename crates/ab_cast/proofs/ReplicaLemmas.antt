@@ -32,7 +32,7 @@ use Rattle.ab_replica.specs.Doings.{Hears, entries_in}
 use Rattle.ab_cast.specs.declared.given.Given.{Given}
 use Rattle.ab_cast.specs.declared.given.Given.TheVariants as given
 use Rattle.ab_cast.specs.Setups.{Setup, run_setup, keys_of}
-use Rattle.ab_cast.specs.Cores.{Core, replica, site_after, core_after, core_sends, core_marks, core_spends}
+use Rattle.ab_cast.specs.Cores.{replica, site_after, core_after, core_sends, core_marks, core_spends}
 use Rattle.ab_cast.specs.Hearing.{IsGiven, RepHears, call_of, taken_of}
 use Rattle.ab_cast.specs.Casts.{IsSite, first_site}
 

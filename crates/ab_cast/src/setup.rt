@@ -101,18 +101,6 @@ fn client_twins(alloc: Global, faulty: &[(Party, u8)]) -> Result<Vec<(u16, u8)>,
     Ok(twins)
 }
 
-/// Whether the two are one party.
-fn is_same(a: Party, b: Party) -> bool
-    ensures { result ≡ party_eq a b }
-{
-    match (a, b) {
-        (Party::Replica(r), Party::Replica(s)) => r == s,
-        (Party::Client(c), Party::Client(d)) => c == d,
-        (Party::Replica(_), Party::Client(_)) => false,
-        (Party::Client(_), Party::Replica(_)) => false,
-    }
-}
-
 /// Where a replica's core of this number stands among the further ones.
 fn replica_twin(twins: &[(u8, u8)], r: u8, number: u8) -> Option<usize>
     ensures { result ≡ position (λ k. (k.0 == r) && (k.1 == number)) twins.now }
@@ -147,7 +135,7 @@ fn client_twin_place(twins: &[(u16, u8)], c: u16, number: u8) -> Option<Place>
 fn has(faulty: &[(Party, u8)], party: Party) -> bool
     ensures { result ≡ list_any (λ e. party_eq party e.0) faulty.now }
 {
-    faulty.iter().any(|e| is_same(party, e.0))
+    faulty.iter().any(|e| party.is_same(e.0))
 }
 
 impl Setup {

@@ -1,10 +1,9 @@
 //! Which tags a position passes on.
 
-ghost use Rattle.std.specs.Prelude.{◌≡◌, ◌+◌, ◌*◌, ◌≤◌, [], ◌∷◌, ◌++◌, not, ◌&&◌, if◌then◌else◌, map, IfOk, OnOk, OnErr};
+ghost use Rattle.std.specs.Prelude.{◌≡◌, ◌+◌, ◌*◌, ◌≤◌, [], ◌∷◌, ◌++◌, not, ◌&&◌, if◌then◌else◌, map, IfOk, OnOk};
 ghost use Rattle.std.specs.List.{list_any};
-ghost use Rattle.ab_num.specs.Parties.{party_eq};
 ghost use Rattle.ab_wire.specs.Views.{chain_tags, tags as tags_of};
-ghost use Rattle.ab_chain.specs.Tags.{by_client, firsts, is_for_later, passed_on, passes_between, place_of, same_pair};
+ghost use Rattle.ab_chain.specs.Tags.{by_client, is_for_later, passed_on, passes_between, place_of, same_pair};
 
 use ab_form::ListRef;
 use ab_msg::{ChainTags, TagBetween};
@@ -22,27 +21,12 @@ pub(crate) struct Route {
     pub(crate) ghost begun: { 1 ≤ instance },
 }
 
-fn same_party(a: Party, b: Party) -> bool
-    ensures { result ≡ party_eq a b }
-{
-    match a {
-        Party::Replica(r) => match b {
-            Party::Replica(s) => r == s,
-            Party::Client(_) => false,
-        },
-        Party::Client(c) => match b {
-            Party::Replica(_) => false,
-            Party::Client(d) => c == d,
-        },
-    }
-}
-
 /// Whether there is a tag of the same maker for the same receiver.
 fn has_pair(kept: &[TagBetween], t: &TagBetween) -> bool
     ensures { result ≡ list_any (same_pair t.now) kept.now }
 {
     kept.iter()
-        .any(|s| same_party(s.by, t.by) && same_party(s.to, t.to))
+        .any(|s| s.by.is_same(t.by) && s.to.is_same(t.to))
 }
 
 /// Whether a position passes on the tag of one place for another.

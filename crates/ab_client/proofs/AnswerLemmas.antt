@@ -1,17 +1,16 @@
 -- What answers come to.
 use Rattle.std.proofs.Common.{◌≡◌, ℕ, zero, suc, ◌+◌, ◌*◌, ◌<◌, ◌≤◌, Bool, true, false, Option, Some, None, List, [], ◌∷◌, ◌++◌, length, map, arith, refl, sym, ap, ◌∙◌, subst, inl, inr}
 use Rattle.std.specs.Prelude.{◌==◌, ◌&&◌, ◌||◌, nat_lt, nat_eq, if◌then◌else◌, All, IsTrue, ◌≢◌, ◌⊎◌, Result, Ok, Err, IfOk, IsOk, IsOkAnd}
-use Rattle.std.proofs.lemmas.Bool.{cases_Bool, cases_order}
+use Rattle.std.proofs.lemmas.Bool.{cases_order}
 use Rattle.std.proofs.lemmas.Bool.Decides.{nat_tests}
 use Rattle.std.proofs.lemmas.Slice.Eq.{bytes_eq-Decides}
 use Rattle.std.specs.Str.{bytes_eq}
 use Rattle.arrayvec.specs.ArrayVec.{ArrayVec}
 use Rattle.ab_num.specs.declared.memory.OutOfMemory.{OutOfMemory}
 use Rattle.ab_msg.specs.declared.message.Out.{Out}
-use Rattle.ab_num.specs.declared.cluster.Cluster.{Cluster}
 use Rattle.ab_num.specs.declared.plan.Kind.{Kind}
 use Rattle.ab_num.specs.declared.plan.Kind.TheVariants as kind
-use Rattle.ab_num.specs.declared.party.Party.TheVariants.{Replica, Client}
+use Rattle.ab_num.specs.declared.party.Party.TheVariants.{Replica}
 use Rattle.ab_num.specs.Places.{kind_of}
 use Rattle.ab_hist.specs.declared.request.Request.{Request}
 use Rattle.ab_msg.specs.declared.content.Content.{Content}
@@ -26,7 +25,7 @@ use Rattle.ab_abs.specs.Votes.{has_voted, voted, same_vote, all_voted, is_full_b
 use Rattle.ab_abs.specs.Kinds.{rule_of}
 use Rattle.ab_run.specs.declared.phase.Phase.{Phase}
 use Rattle.ab_run.specs.declared.phase.Phase.TheVariants.{Idle, Waiting, Panicking}
-use Rattle.ab_run.specs.Clients.{Cli, Move, move_vote, move_commit, vote_claim, if_open, counting, counts_responses, hears_response}
+use Rattle.ab_run.specs.Clients.{Move, move_vote, move_commit, vote_claim, if_open, counting, counts_responses, hears_response}
 use Rattle.ab_run.specs.Local.{cue_message, marks_in_moves}
 use Rattle.ab_client.specs.Clients.{Seat, alone, is_waiting, moves_on, marks}
 use Rattle.ab_client.specs.Moved.{IsLastVote, IsMoved, is_answer}

@@ -9,9 +9,8 @@ use Rattle.std.proofs.lemmas.List.Elements.{All-nil}
 use Rattle.arrayvec.specs.ArrayVec.{ArrayVec}
 use Rattle.ab_num.specs.declared.memory.OutOfMemory.{OutOfMemory}
 use Rattle.ab_num.specs.declared.cluster.Cluster.{Cluster}
-use Rattle.ab_num.specs.declared.plan.Kind.{Kind}
 use Rattle.ab_num.specs.declared.plan.Kind.TheVariants as kind
-use Rattle.ab_num.specs.declared.party.Party.TheVariants.{Replica, Client}
+use Rattle.ab_num.specs.declared.party.Party.TheVariants.{Client}
 use Rattle.ab_num.specs.Places.{kind_of}
 use Rattle.ab_form.specs.Lists.{FitsInside}
 use Rattle.ab_hist.specs.declared.request.Request.{Request}
@@ -29,7 +28,6 @@ use Rattle.ab_abs.specs.declared.seen.Seen.TheVariants.{Invoked, Cert}
 use Rattle.ab_abs.specs.Certificates.{history_of}
 use Rattle.ab_run.specs.declared.phase.Phase.{Phase}
 use Rattle.ab_run.specs.declared.phase.Phase.TheVariants.{Idle, Waiting, Panicking}
-use Rattle.ab_run.specs.Setups.{last_instance}
 use Rattle.ab_run.specs.Replicas.{cert_instance}
 use Rattle.ab_run.specs.Clients.{Cli, Move, move_again, move_keep, move_panic, move_take, after_move, if_open, cert_out, request_out, to_all, own_cert, taking, taking_with, keeping, is_abort_of, panics_in}
 use Rattle.ab_run.specs.Local.{Cue, cue_message, cue_time}

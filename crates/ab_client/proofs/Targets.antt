@@ -18,7 +18,7 @@ use Rattle.ab_msg.specs.declared.message.Out.{Out}
 use Rattle.ab_form.specs.Lists.{FitsInside}
 use Rattle.ab_msg.specs.Certs.{AreAborts}
 use Rattle.ab_msg.specs.Fields.{IsInstance}
-use Rattle.ab_msg.specs.Claims.{fresh, maker_of}
+use Rattle.ab_msg.specs.Claims.{maker_of}
 use Rattle.ab_msg.specs.Messages.{IsDraft}
 use Rattle.ab_run.specs.Clients.{to_all, to_targets, request_out, cert_out}
 use Rattle.ab_num.specs.Places.{kind_of}

@@ -7,10 +7,8 @@ use Rattle.ab_text.specs.Lines.{lines_of}
 use Rattle.ab_key_text.specs.declared.fault.NodeFault.{NodeFault}
 use Rattle.ab_key_text.specs.Keys.{PartyKeys}
 use Rattle.ab_key_text.specs.Nodes.{Node, node_in}
-use Rattle.ab_words.specs.Commands.{KeysCommand, NodeCommand, StormCommand}
-use Rattle.ab_words.specs.declared.command.Command.{Command}
+use Rattle.ab_words.specs.Commands.{NodeCommand}
 use Rattle.ab_words.specs.declared.command.Command.TheVariants as command
-use Rattle.ab_loop.specs.declared.fault.ServeFault.{ServeFault}
 use Rattle.ab_loop.specs.declared.fault.ServeFault.TheVariants.{LinkFailed, WriteFailed, TurnsSpent as Unanswered}
 use Rattle.ab_loop.specs.declared.fault.ServeFault.TheVariants as serving
 use Rattle.ab_loop.specs.Nodes.{is_client}
@@ -25,7 +23,7 @@ use Rattle.ab_command.specs.declared.status.Status.TheVariants.{Done, Broken, Us
 use Rattle.ab_command.specs.Texts.{code_of, stop_status}
 use Rattle.ab_command.specs.Calls.{Call, meeting_of}
 use Rattle.ab_command.specs.Commands.{AsksNode}
-use Rattle.ab_command.specs.Statuses.{HasFront, IsClearForNode, IsServedOut, Says, Settles, StatusCause, StopsNode}
+use Rattle.ab_command.specs.Statuses.{HasFront, IsClearForNode, IsServedOut, Says, Settles, StatusCause}
 use Rattle.ab_command.proofs.StatusLemmas.{keys_or_node, not_none, not_too_long, replay_or_node, same_input, settled, storm_or_node}
 
 -- ---- whose counts rose, whatever the party

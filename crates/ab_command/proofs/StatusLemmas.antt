@@ -31,7 +31,7 @@ use Rattle.ab_replay.proofs.RunLemmas.{one_end}
 use Rattle.ab_kv.specs.KvMachines.{kv_machine}
 use Rattle.ab_replay.specs.declared.refusal.Refusal.{Refusal}
 use Rattle.ab_storm_run.specs.Runs.{Storms}
-use Rattle.ab_command.specs.Statuses.{StatusCause, Says, SaysNoMemoryOn, Settles, HasCauseOf, HasFront, HasReport, HasSummary, IsToldWhole, KeepsOut, Passes, kv, IsClear, IsClearForKeys, IsClearForStorm, premise_code}
+use Rattle.ab_command.specs.Statuses.{StatusCause, Says, SaysNoMemoryOn, Settles, HasFront, HasReport, HasSummary, IsToldWhole, KeepsOut, Passes, kv, IsClear, IsClearForKeys, IsClearForStorm, premise_code}
 
 -- a run has one end
 said_at : {S : Type 0} (machine : Machine S) (s : Script) (report : List ℕ) (held : Bool) (end : World Any) → Performs machine s report held → RunsTo (any machine) s (Ok end)

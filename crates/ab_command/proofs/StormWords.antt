@@ -9,7 +9,7 @@ use Rattle.ab_text.specs.Numbers.{number_of as number_text}
 use Rattle.ab_key_text.specs.Lines.{bounded}
 use Rattle.ab_words.specs.declared.command.Command.{Command}
 use Rattle.ab_words.specs.declared.command.Command.TheVariants.{Replay, Keys, Storm, Node}
-use Rattle.ab_words.specs.Commands.{KeysCommand, StormCommand, NodeCommand}
+use Rattle.ab_words.specs.Commands.{StormCommand}
 use Rattle.ab_words.specs.Uses.{Use, ◌>>=◌, uses_in}
 use Rattle.ab_words.specs.Values.{value_of, number_in, number_of, plan_name}
 use Rattle.ab_words.specs.Language.{only, empty, keys_in, node_in, storm_in, command_of, command_in}

@@ -3,7 +3,7 @@ use Rattle.std.proofs.Common.{◌≡◌, ℕ, zero, suc, ◌+◌, ◌*◌, Bool,
 use Rattle.std.specs.List.{filter, list_any, range_with_len}
 use Rattle.std.specs.Option.{option_map}
 use Rattle.std.proofs.lemmas.Bool.{false≢true, true≢false, and_from}
-use Rattle.std.proofs.lemmas.Bool.Decides.{Decides-eqb, nat_tests}
+use Rattle.std.proofs.lemmas.Bool.Decides.{nat_tests}
 use Rattle.std.proofs.lemmas.List.{map-append}
 use Rattle.std.proofs.lemmas.List.Elements.{filter-append}
 use Rattle.std.proofs.lemmas.List.Folds.{list_any-append}
@@ -12,15 +12,10 @@ use Rattle.ab_num.specs.declared.party.Party.{Party}
 use Rattle.ab_num.specs.declared.party.Party.TheVariants.{Replica, Client}
 use Rattle.ab_num.specs.declared.plan.Plan.{Plan}
 use Rattle.ab_num.specs.Parties.{party_eq}
+use Rattle.ab_num.proofs.PartyLemmas.{same_party}
 use Rattle.ab_mac.specs.Tags.{hmac}
 use Rattle.ab_keys.specs.Keys.{is_party, exchanges, key_of}
 use Rattle.ab_keys.specs.Rings.{Peer, parties, peer_of, peers_of, peer_in, ring_of, key_to, key_from, tag_to, tag_from, exchanges_in}
-
-same_party : (p q : Party) → party_eq p q ≡ true → p ≡ q
-same_party (Replica r) (Replica s) e = ap Replica ((Decides-eqb r s).0 e)
-same_party (Client c) (Client d) e = ap Client ((Decides-eqb c d).0 e)
-same_party (Replica r) (Client d) e = absurd (false≢true e)
-same_party (Client c) (Replica s) e = absurd (false≢true e)
 
 -- whether a list has the party
 abbrev has : List Party → Party → Bool

@@ -1,7 +1,6 @@
 //! Which parties exchange tags, and the keys that a seed gives.
 
-ghost use Rattle.std.specs.Prelude.{◌≡◌, ◌++◌, length};
-ghost use Rattle.ab_num.specs.Parties.{party_eq};
+ghost use Rattle.std.specs.Prelude.{◌≡◌};
 ghost use Rattle.ab_keys.specs.Keys.{exchanges, is_party, key_of, key_text, party_bytes};
 
 use ab_num::{Cluster, Party};
@@ -29,18 +28,6 @@ pub fn exchanges(a: Party, b: Party) -> bool
         (Party::Replica(_), Party::Client(_)) => true,
         (Party::Client(_), Party::Replica(_)) => true,
         (Party::Client(_), Party::Client(_)) => false,
-    }
-}
-
-/// Whether the two are one party.
-pub(crate) fn is_same(a: Party, b: Party) -> bool
-    ensures { result ≡ party_eq a b }
-{
-    match (a, b) {
-        (Party::Replica(r), Party::Replica(s)) => r == s,
-        (Party::Client(c), Party::Client(d)) => c == d,
-        (Party::Replica(_), Party::Client(_)) => false,
-        (Party::Client(_), Party::Replica(_)) => false,
     }
 }
 

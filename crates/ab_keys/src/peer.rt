@@ -5,7 +5,7 @@ ghost use Rattle.ab_mac.specs.Tags.{hmac};
 ghost use Rattle.ab_num.specs.Parties.{party_eq};
 ghost use Rattle.ab_keys.specs.Rings.{peer_of};
 
-use crate::keys::{is_same, key_of};
+use crate::keys::key_of;
 use ab_mac::Key;
 use ab_num::Party;
 use std::marker::Model;
@@ -53,7 +53,7 @@ impl Peer {
     pub(crate) fn is_for(&self, p: Party) -> bool
         ensures { result ≡ party_eq self.now.party p }
     {
-        is_same(self.party, p)
+        self.party.is_same(p)
     }
 
     /// The tag of a text for the other party.

@@ -9,9 +9,9 @@ use Rattle.std.proofs.lemmas.Bool.{leb-true, and_parts}
 use Rattle.std.proofs.lemmas.List.{length-append}
 use Rattle.ab_hist.specs.declared.request.Request.{Request}
 use Rattle.ab_svc.specs.Machines.{serve}
-use Rattle.ab_kv.specs.Commands.{Command, Put, Get, Del, Cas, is_symbol}
+use Rattle.ab_kv.specs.Commands.{Command, Put, Get, Del, Cas}
 use Rattle.ab_kv.specs.Readings.{is_word, parts, put_in, get_in, del_in, cas_of, cas_in, named, command_in}
-use Rattle.ab_kv.specs.Stores.{Store, is_full, after_command, answer_to, after_reading, answer_to_reading}
+use Rattle.ab_kv.specs.Stores.{Store, is_full, after_reading, answer_to_reading}
 use Rattle.ab_kv.specs.KvMachines.{kv_machine}
 
 -- ---- a value that is read has at most 64 bytes

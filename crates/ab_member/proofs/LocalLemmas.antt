@@ -9,17 +9,15 @@ use Rattle.ab_sign.specs.Signers.{pen_of}
 use Rattle.ab_abs.specs.Ensembles.{Proto}
 use Rattle.ab_abs.specs.Messages.{Call}
 use Rattle.ab_run.specs.Setups.{Setup}
-use Rattle.ab_run.specs.Replicas.{Rep}
-use Rattle.ab_run.specs.Clients.{Cli}
 use Rattle.ab_run.specs.Runs.{first_cli}
 use Rattle.ab_run.specs.Local.{Cue, cli_after, cli_local, cli_sends, rep_after, rep_local, rep_sends}
 use Rattle.ab_client.specs.Clients.{alone}
-use Rattle.ab_replica.specs.Sites.{IsSetupOf, Site, setup_of}
+use Rattle.ab_replica.specs.Sites.{IsSetupOf}
 use Rattle.ab_loop.specs.Cores.{Event}
 use Rattle.ab_loop.specs.Folds.{core_after, sends_in}
 use Rattle.ab_member.specs.Credentials.{sealed_all, sealed_for}
-use Rattle.ab_member.specs.Replicas.{ReplicaMember, call_of, own_setup, replica_after, replica_may_take, replica_rules, replica_step, replica_takes}
-use Rattle.ab_member.specs.Clients.{ClientMember, client_after, client_may_take, client_rules, client_step, client_takes, cue_of}
+use Rattle.ab_member.specs.Replicas.{ReplicaMember, call_of, own_setup, replica_after, replica_may_take, replica_rules, replica_takes}
+use Rattle.ab_member.specs.Clients.{ClientMember, client_after, client_may_take, client_rules, client_takes, cue_of}
 use Rattle.ab_member.specs.Locality.{IsLocalClient, IsLocalReplica, StartsIn, asked_locally, calls_in, cues_in, sent_locally}
 
 sealed_append : (ring : Ring) (a b : List Out) → sealed_all ring (a ++ b) ≡ sealed_all ring a ++ sealed_all ring b

@@ -8,10 +8,8 @@ use Rattle.std.proofs.lemmas.List.Elements.{All-nil}
 use Rattle.arrayvec.specs.ArrayVec.{ArrayVec}
 use Rattle.std.proofs.lemmas.List.{get_or-set_same, length-map, length-set}
 use Rattle.std.proofs.lemmas.Option.{slice_get-get_or}
-use Rattle.ab_form.specs.Formats.{IsBytes}
 use Rattle.ab_num.specs.declared.cluster.Cluster.{Cluster}
 use Rattle.ab_num.specs.declared.memory.OutOfMemory.{OutOfMemory}
-use Rattle.ab_num.specs.declared.party.Party.{Party}
 use Rattle.ab_num.specs.declared.party.Party.TheVariants.{Replica, Client}
 use Rattle.ab_num.specs.declared.plan.Height.{Height}
 use Rattle.ab_num.specs.declared.plan.Height.TheVariants.{Five, Ten}
@@ -36,8 +34,8 @@ use Rattle.ab_abs.specs.Messages.{Call, IsFormed}
 use Rattle.ab_abs.specs.Places.{KeepsForm}
 use Rattle.ab_abs.specs.Promises.{ServesAll}
 use Rattle.ab_abs.proofs.Certified.{all_of}
-use Rattle.ab_run.specs.Forms.{IsDraftOf, IsWrittenRep, IsWrittenSetup}
-use Rattle.ab_run.specs.Replicas.{due, is_spent}
+use Rattle.ab_run.specs.Forms.{IsDraftOf, IsWrittenSetup}
+use Rattle.ab_run.specs.Replicas.{due}
 use Rattle.ab_run.specs.Runs.{first_cli}
 use Rattle.ab_run.specs.Local.{after_turns, rep_sends}
 use Rattle.ab_run.proofs.Written.{call_goes, first_written}
@@ -54,7 +52,7 @@ use Rattle.ab_run.specs.declared.phase.Phase.TheVariants.{Idle, Waiting, Panicki
 use Rattle.ab_run.specs.Clients.{Cli, Move, asking}
 use Rattle.ab_run.specs.Local.{Cue, after_moves, marks_in_moves, sent_in_moves}
 use Rattle.ab_client.specs.Clients.{Seat, after, alone, marks, sends, told}
-use Rattle.ab_member.specs.Clients.{ClientMember, Does, Heard, IsClientMember, client_after, first_client, is_command}
+use Rattle.ab_member.specs.Clients.{ClientMember, Does, Heard, IsClientMember, first_client, is_command}
 
 -- ---- keys
 

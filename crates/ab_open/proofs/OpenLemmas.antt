@@ -2,11 +2,10 @@
 use Rattle.std.proofs.Common.{◌≡◌, ◌≢◌, ℕ, suc, Bool, true, false, cond, IsTrue, List, [], ◌∷◌, Option, Result, Ok, Err, refl, sym, ap, ◌∙◌, All}
 use Rattle.std.specs.List.{AllByRecursion, Contains}
 use Rattle.std.proofs.lemmas.Bool.{false≢true}
-use Rattle.std.proofs.lemmas.Bool.Decides.{Decides-eqb}
 use Rattle.std.proofs.lemmas.List.Elements.{All-from_recursion, All-contains}
 use Rattle.ab_num.specs.declared.party.Party.{Party}
-use Rattle.ab_num.specs.declared.party.Party.TheVariants.{Replica, Client}
 use Rattle.ab_num.specs.Parties.{party_eq}
+use Rattle.ab_num.proofs.PartyLemmas.{party_eq-refl}
 use Rattle.ab_form.specs.declared.bad.Bad.{Bad}
 use Rattle.ab_form.specs.Formats.{IsBytes}
 use Rattle.ab_msg.specs.declared.message.Msg.{Msg}
@@ -77,13 +76,9 @@ own_tags judge f clients me bytes m none e k tag here is own =
     ap (λ (t : Token). judge me (spell_content k.content) t) (sym is) ∙ (ap (λ (p : Party). judge p (spell_content k.content) k.token) (sym own) ∙ right) in
     false≢true (sym (none (spell_content k.content) tag) ∙ so)
 
-same_party : (p : Party) → party_eq p p ≡ true
-same_party (Replica r) = (Decides-eqb r r).1 refl
-same_party (Client c) = (Decides-eqb c c).1 refl
-
 pub own_prepares : (judge : Judge) (f clients : ℕ) (me : Party) (bytes : List ℕ) (s : Signed) → opening judge f clients me bytes ≡ Ok (msg.Prepare s) → maker_of s.content ≢ me
 own_prepares judge f clients me bytes s e own =
-    false≢true (sym (opened_not_refused judge f clients me bytes (msg.Prepare s) e) ∙ (ap (λ (p : Party). party_eq p me) own ∙ same_party me))
+    false≢true (sym (opened_not_refused judge f clients me bytes (msg.Prepare s) e) ∙ (ap (λ (p : Party). party_eq p me) own ∙ party_eq-refl me))
 
 -- ---- the grammar
 

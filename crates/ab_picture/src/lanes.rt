@@ -3,7 +3,6 @@
 ghost use Rattle.std.specs.Prelude.{◌≡◌, [], ◌∷◌, ◌++◌, IfOk, OnOk, map};
 ghost use Rattle.std.specs.List.{flat_map, range_with_len};
 ghost use Rattle.ab_num.specs.declared.party.Party.TheVariants.{Replica, Client};
-ghost use Rattle.ab_num.specs.Parties.{party_eq};
 ghost use Rattle.ab_picture.specs.Lanes.{cores_of, lane_of, lanes_of, party_lanes, twin_lane};
 
 use crate::picture::Lane;
@@ -11,25 +10,13 @@ use ab_num::{Cluster, OutOfMemory, Party};
 use ab_text::Core;
 use std::alloc::Global;
 
-/// Whether the two are one party.
-fn is_same(a: Party, b: Party) -> bool
-    ensures { result ≡ party_eq a b }
-{
-    match (a, b) {
-        (Party::Replica(r), Party::Replica(s)) => r == s,
-        (Party::Client(c), Party::Client(d)) => c == d,
-        (Party::Replica(_), Party::Client(_)) => false,
-        (Party::Client(_), Party::Replica(_)) => false,
-    }
-}
-
 /// How many cores a faulty party has. None for a correct one.
 fn cores_of(faulty: &[(Party, u8)], party: Party) -> Option<u8>
     ensures { result ≡ cores_of faulty.now party }
 {
     faulty
         .iter()
-        .find(|entry| is_same(entry.0, party))
+        .find(|entry| entry.0.is_same(party))
         .map(|entry| entry.1)
 }
 

@@ -11,13 +11,13 @@ use Rattle.std.proofs.lemmas.List.Sorted.{length_permutation, sum_by-IsPermutati
 use Rattle.std.proofs.lemmas.List.Sums.{sum_by-cons, sum_by-le, sum_by-set, sum_by_push}
 use Rattle.ab_num.specs.declared.party.Party.{Party}
 use Rattle.ab_num.specs.Parties.{party_eq}
+use Rattle.ab_num.proofs.PartyLemmas.{same_party, party_eq-refl}
 use Rattle.ab_piece.specs.Pieces.{IsCut, Piece, count_of, cut_at, each_from, part_at, piece_at}
 use Rattle.ab_piece.specs.Joining.{Answer, Opened, Step, is_from, is_of, message_of, missing, more, open_after, opened, step, step_of, whole, with_body, with_room, without}
 use Rattle.ab_piece.specs.Arrivals.{AllOfOthers, AreArrivals, Arrival, IsClosed, IsOfAnother, all_indices, answers, expected, indices, other, own}
-use Rattle.ab_piece.proofs.BoundLemmas.{party_eq-refl}
 use Rattle.ab_piece.proofs.CountLemmas.{contained, count-seam, count-yes, fails-front, place-front, place-seam, spread}
 use Rattle.ab_piece.proofs.CutLemmas.{cut_read}
-use Rattle.ab_piece.proofs.ChangeLemmas.{Change, Fills, alone, changes, completes, drops, extends, opens, party_same}
+use Rattle.ab_piece.proofs.ChangeLemmas.{Change, Fills, alone, changes, completes, drops, extends, opens}
 use Rattle.ab_piece.proofs.SlotLemmas.{length-slots, missing-none, missing-slots, slot_empty, slots, whole-slots}
 use Rattle.ab_piece.proofs.AmongLemmas.{Among, among_pushed, among_removed, among_set}
 use Rattle.ab_piece.proofs.NumberLemmas.{below_numbers, differ, length-numbers, once_numbers}
@@ -92,7 +92,7 @@ module _ (s : Party) (n : ℕ) (m : List ℕ) (cut : IsCut s n m) (others : List
         let o = get_or os at y in
         elim (cases_Bool (party_eq y.sender s)) [
           | inl mine ↦
-              (let from : y.sender ≡ s = party_same y.sender s mine in
+              (let from : y.sender ≡ s = same_party y.sender s mine in
               let less = few_behind os b a y from (known from) closed one in
               let seam = count-seam (is_from s) a.front (half b) a.behind in
               let full' : 8 ≤ count_by (is_from s) os = subst (λ (q : Party). 8 ≤ count_by (is_from q) os) from full in
@@ -106,7 +106,7 @@ module _ (s : Party) (n : ℕ) (m : List ℕ) (cut : IsCut s n m) (others : List
               let within : at < length a.front = omega (arith, early, place) in
               ap (λ (xs : List Opened). is_of s n (get_or xs at y)) a.split ∙ fails-front (is_of s n) a.front (half b ∷ a.behind) at y (none_before os b a one) within)
           | inr theirs ↦
-              (let sender : o.sender ≡ y.sender = party_same o.sender y.sender f.1 in
+              (let sender : o.sender ≡ y.sender = same_party o.sender y.sender f.1 in
               not_from s n o (ap (λ (q : Party). party_eq q s) sender ∙ theirs))
         ]
       where
@@ -128,7 +128,7 @@ module _ (s : Party) (n : ℕ) (m : List ℕ) (cut : IsCut s n m) (others : List
   -- ---- another datagram
 
   known_opened : (p : Piece) → (p.sender ≡ s → (p.number ≢ n) × Contains others p.number) → Known (opened p)
-  known_opened p apart from = contained others p.number (apart (party_same p.sender s from)).1
+  known_opened p apart from = contained others p.number (apart (same_party p.sender s from)).1
 
   apart_opened : (p : Piece) → (p.sender ≡ s → (p.number ≢ n) × Contains others p.number) → is_of s n (opened p) ≡ false
   apart_opened p apart = not_it s n (opened p) (λ from. (apart from).0)

@@ -2,7 +2,7 @@
 use Rattle.std.proofs.Common.{◌≡◌, inl, inr, ℕ, zero, suc, ◌+◌, ◌*◌, ◌<◌, ◌≤◌, List, [], ◌∷◌, ◌++◌, length, take, drop, set, get_or, replicate, Option, None, Some, Bool, true, false, unwrap_or, cond, refl, ap, sym, subst, ◌∙◌, arith, length-set}
 use Rattle.std.specs.Prelude.{nat_lt}
 use Rattle.std.specs.List.{All, count_by, sum_by, position, remove}
-use Rattle.std.proofs.lemmas.Bool.{cases_Bool, eq-eqb, ltb-false, ltb-true}
+use Rattle.std.proofs.lemmas.Bool.{cases_Bool, ltb-false, ltb-true}
 use Rattle.std.proofs.lemmas.List.{length-replicate}
 use Rattle.std.proofs.lemmas.List.Elements.{All-append, All-cons, All-drop, All-head, All-nil, All-push, All-set, All-tail, All-take}
 use Rattle.std.proofs.lemmas.List.Quantifiers.{position-Some}
@@ -10,13 +10,14 @@ use Rattle.std.proofs.lemmas.List.Sums.{sum_by-append, sum_by-cons, sum_by-le, s
 use Rattle.ab_num.specs.declared.party.Party.{Party}
 use Rattle.ab_num.specs.declared.party.Party.TheVariants.{Replica, Client}
 use Rattle.ab_num.specs.Parties.{party_eq}
+use Rattle.ab_num.proofs.PartyLemmas.{same_party, party_eq-refl}
 use Rattle.ab_msg.specs.Fields.{IsParty}
 use Rattle.ab_piece.specs.Pieces.{Piece, IsPiece, each_from}
 use Rattle.ab_piece.specs.Joining.{Opened, Step, crowded_out, is_from, open_after, opened, step_of, with_body, with_room, without}
 use Rattle.ab_piece.specs.Bounds.{IsShort, kept_from, kept_of}
 use Rattle.ab_piece.proofs.CountLemmas.{count-yes, count-no, spread}
 use Rattle.ab_piece.proofs.ReadLemmas.{body_short, piece_within}
-use Rattle.ab_piece.proofs.ChangeLemmas.{Change, alone, changes, completes, drops, extends, none_open, opens, party_same}
+use Rattle.ab_piece.proofs.ChangeLemmas.{Change, alone, changes, completes, drops, extends, none_open, opens}
 
 -- ---- messages of a sender
 
@@ -39,7 +40,7 @@ module _ (os : List Opened) (p : Piece) (few : Few os) where
       → many s (without (cond b None place) os) + cond c 1 0 ≤ 8
   roomy true lt place e s true same =
       let below = ltb-true (many p.sender os) 8 lt in
-      subst (λ (q : Party). many q os + 1 ≤ 8) (party_same p.sender s same) (omega (arith, below))
+      subst (λ (q : Party). many q os + 1 ≤ 8) (same_party p.sender s same) (omega (arith, below))
   roomy true lt place e s false other = omega (arith, few s)
   roomy false lt None e s c same =
       let none = none_open (is_from p.sender) os e in
@@ -48,7 +49,7 @@ module _ (os : List Opened) (p : Piece) (few : Few os) where
       let f = position-Some (is_from p.sender) os at (opened p) e in
       let r = sum_by-remove (λ (o : Opened). cond (is_from p.sender o) 1 0) os at (opened p) f.0 in
       let here : ◌≡◌ {A = ℕ} (cond (is_from p.sender (get_or os at (opened p))) 1 0) 1 = ap (λ (b : Bool). cond b 1 0) f.1 in
-      subst (λ (q : Party). many q (remove os at) + 1 ≤ 8) (party_same p.sender s same) (omega (arith, r, here, few p.sender))
+      subst (λ (q : Party). many q (remove os at) + 1 ≤ 8) (same_party p.sender s same) (omega (arith, r, here, few p.sender))
   roomy false lt (Some at) e s false other =
       let f = position-Some (is_from p.sender) os at (opened p) e in
       let less = few_removed os at (opened p) f.0 few s in omega (arith, less)
@@ -152,10 +153,6 @@ met test f i (suc n) k low high is =
           let at : k ≡ i = omega arith in
           let one : ◌≡◌ {A = ℕ} (cond (test (f i)) 1 0) 1 = ap (λ (b : Bool). cond b 1 0) (ap (λ (j : ℕ). test (f j)) (sym at) ∙ is) in omega (arith, sum, one))
     ]
-
-pub party_eq-refl : (p : Party) → party_eq p p ≡ true
-party_eq-refl (Replica r) = eq-eqb r r refl
-party_eq-refl (Client c) = eq-eqb c c refl
 
 listed : (p : Party) → IsParty p → 1 ≤ count_by (λ q. party_eq p q) all_parties
 listed (Replica r) h =

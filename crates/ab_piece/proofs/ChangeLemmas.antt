@@ -1,24 +1,17 @@
 -- What a datagram does to the open messages.
-use Rattle.std.proofs.Common.{◌≡◌, ℕ, ◌<◌, ◌==◌, List, [], ◌∷◌, ◌++◌, length, set, get_or, Option, None, Some, Result, Ok, Err, Bool, true, false, is_some, cond, refl, ap, eqb-true}
+use Rattle.std.proofs.Common.{◌≡◌, ℕ, ◌<◌, ◌==◌, List, [], ◌∷◌, ◌++◌, length, set, get_or, Option, None, Some, Result, Ok, Err, Bool, true, false, is_some, cond, refl, eqb-true}
 use Rattle.std.specs.Prelude.{nat_lt}
 use Rattle.std.specs.List.{count_by, position, position_or_len, remove}
 use Rattle.std.proofs.lemmas.Bool.{and_parts, ltb-false}
 use Rattle.std.proofs.lemmas.List.Quantifiers.{position-Some}
-use Rattle.ab_num.specs.declared.party.Party.{Party}
-use Rattle.ab_num.specs.declared.party.Party.TheVariants.{Replica, Client}
 use Rattle.ab_num.specs.Parties.{party_eq}
+use Rattle.ab_num.proofs.PartyLemmas.{same_party}
 use Rattle.ab_form.specs.declared.bad.Bad.{Bad}
 use Rattle.ab_piece.specs.declared.taken.Cause.{Cause}
 use Rattle.ab_piece.specs.declared.taken.Cause.TheVariants as cause
 use Rattle.ab_piece.specs.Pieces.{Piece, piece_of}
 use Rattle.ab_piece.specs.Joining.{Opened, Step, further_step, is_of, message_of, missing, dropped, more, opened, opening_step, piece_step, step, step_of, whole, with_body, with_room}
 use Rattle.ab_piece.proofs.CountLemmas.{nowhere}
-
-pub party_same : (a b : Party) → party_eq a b ≡ true → a ≡ b
-party_same (Replica r) (Replica s) e = ap Replica (eqb-true r s e)
-party_same (Client c) (Client d) e = ap Client (eqb-true c d e)
-party_same (Replica r) (Client d) e = cc
-party_same (Client c) (Replica s) e = cc
 
 -- the piece belongs to the open message at this place, and isn't there yet
 pub record Fills (p : Piece) (os : List Opened) (at : ℕ) : Type 0 where
@@ -70,7 +63,7 @@ module _ (os : List Opened) (bytes : List ℕ) (p : Piece) (is : piece_of bytes 
       let o = get_or os at (opened p) in
       let f = position-Some (is_of p.sender p.number) os at (opened p) e in
       let t = and_parts (party_eq o.sender p.sender) (o.number == p.number) f.1 in
-      further at f.0 (party_same o.sender p.sender t.0) (eqb-true o.number p.number t.1) (length o.bodies == p.count) (is_some (get_or o.bodies p.index None)) (missing o.bodies == 1) refl refl refl
+      further at f.0 (same_party o.sender p.sender t.0) (eqb-true o.number p.number t.1) (length o.bodies == p.count) (is_some (get_or o.bodies p.index None)) (missing o.bodies == 1) refl refl refl
 
 by_bytes : (os : List Opened) (bytes : List ℕ) (r : Result Piece Bad) → piece_of bytes ≡ r
     → Change bytes os (elim r [ Ok p ↦ piece_step os p | Err bad ↦ step (dropped cause.Header) os ])

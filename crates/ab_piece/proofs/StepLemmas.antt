@@ -5,12 +5,12 @@ use Rattle.std.specs.List.{count_by, position, position_or_len, remove}
 use Rattle.std.proofs.lemmas.Bool.{and_parts, cases_Bool, eq-eqb, ltb-true}
 use Rattle.ab_num.specs.declared.party.Party.{Party}
 use Rattle.ab_num.specs.Parties.{party_eq}
+use Rattle.ab_num.proofs.PartyLemmas.{same_party}
 use Rattle.ab_form.specs.declared.bad.Bad.{Bad}
 use Rattle.ab_piece.specs.declared.taken.Cause.TheVariants as cause
 use Rattle.ab_piece.specs.Pieces.{Piece, piece_of}
 use Rattle.ab_piece.specs.Joining.{Opened, dropped, further_step, is_from, is_of, message_of, missing, more, opened, opening_step, piece_step, step, step_of, whole, with_body}
 use Rattle.ab_piece.proofs.CountLemmas.{count-no, count-yes}
-use Rattle.ab_piece.proofs.ChangeLemmas.{party_same}
 
 -- none is of it
 pub not_it : (s : Party) (n : ℕ) (o : Opened) → (o.sender ≡ s → o.number ≢ n) → is_of s n o ≡ false
@@ -18,7 +18,7 @@ not_it s n o apart =
     elim (cases_Bool (is_of s n o)) [
       | inl same ↦
           (let parts = and_parts (party_eq o.sender s) (o.number == n) same in
-          absurd (apart (party_same o.sender s parts.0) (eqb-true o.number n parts.1)))
+          absurd (apart (same_party o.sender s parts.0) (eqb-true o.number n parts.1)))
       | inr differs ↦ differs
     ]
 

@@ -7,8 +7,9 @@ use Rattle.std.proofs.lemmas.List.Quantifiers.{position-Some}
 use Rattle.std.proofs.lemmas.List.Sums.{sum_by-remove, sum_by-set, sum_by_push}
 use Rattle.ab_num.specs.declared.party.Party.{Party}
 use Rattle.ab_num.specs.Parties.{party_eq}
+use Rattle.ab_num.proofs.PartyLemmas.{same_party}
 use Rattle.ab_piece.specs.Joining.{Opened, Step, is_from, is_of, open_after, opened, step_of, with_body, with_room, without}
-use Rattle.ab_piece.proofs.ChangeLemmas.{Change, alone, changes, completes, drops, extends, opens, party_same}
+use Rattle.ab_piece.proofs.ChangeLemmas.{Change, alone, changes, completes, drops, extends, opens}
 
 abbrev pub Unique : List Opened → Type 0
 Unique os = (s : Party) (n : ℕ) → count_by (is_of s n) os ≤ 1
@@ -34,7 +35,7 @@ unique_pushed os y closed one s n =
     elim (cases_Bool (is_of s n y)) [
       | inl same ↦
           (let parts = and_parts (party_eq y.sender s) (y.number == n) same in
-          let here : count_by (is_of s n) os ≡ 0 = ap (λ (t : Party). count_by (is_of t n) os) (sym (party_same y.sender s parts.0)) ∙ ap (λ (k : ℕ). count_by (is_of y.sender k) os) (sym (eqb-true y.number n parts.1)) ∙ closed in
+          let here : count_by (is_of s n) os ≡ 0 = ap (λ (t : Party). count_by (is_of t n) os) (sym (same_party y.sender s parts.0)) ∙ ap (λ (k : ℕ). count_by (is_of y.sender k) os) (sym (eqb-true y.number n parts.1)) ∙ closed in
           let is : one_if (is_of s n y) ≡ 1 = ap one_if same in omega (arith, sum, here, is))
       | inr differs ↦ (let is : one_if (is_of s n y) ≡ 0 = ap one_if differs in omega (arith, sum, before, is))
     ]

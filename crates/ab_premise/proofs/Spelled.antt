@@ -4,53 +4,46 @@ use Rattle.std.proofs.Math.Dec.{eqb-zero-suc}
 use Rattle.std.proofs.lemmas.Grind.{flat_map-append}
 use Rattle.std.specs.Prelude.{All, IsTrue, Contains, nat_le, nat_lt, ◌==◌, ◌&&◌, ◌^◌, if◌then◌else◌, flat_map, map}
 use Rattle.arrayvec.specs.ArrayVec.{ArrayVec}
-use Rattle.std.proofs.lemmas.Bool.{cases_Bool, cases_eq, and_parts, ltb-true, ltb-false}
+use Rattle.std.proofs.lemmas.Bool.{cases_Bool, cases_eq, and_parts, ltb-true}
 use Rattle.std.specs.List.{list_any}
-use Rattle.std.proofs.lemmas.List.Elements.{All-contains, All-nil, Contains-append_cases}
-use Rattle.ab_num.specs.declared.cluster.Cluster.{Cluster}
+use Rattle.std.proofs.lemmas.List.Elements.{All-contains, Contains-append_cases}
 use Rattle.ab_num.specs.declared.party.Party.{Party}
 use Rattle.ab_num.specs.declared.party.Party.TheVariants.{Replica, Client}
 use Rattle.ab_num.specs.declared.plan.Kind.{Kind}
 use Rattle.ab_num.specs.declared.plan.Kind.TheVariants as kind
-use Rattle.ab_num.specs.Places.{kind_of}
 use Rattle.ab_num.specs.Parties.{party_eq}
 use Rattle.ab_hist.specs.declared.request.Request.{Request}
-use Rattle.ab_hist.specs.Histories.{IsHistory}
 use Rattle.ab_svc.specs.Machines.{Reply}
 use Rattle.ab_msg.specs.declared.content.Content.{Content}
 use Rattle.ab_msg.specs.declared.content.Content.TheVariants as content
 use Rattle.ab_msg.specs.declared.signed.Signed.{Signed}
 use Rattle.ab_msg.specs.declared.message.Msg.{Msg}
 use Rattle.ab_msg.specs.declared.message.Msg.TheVariants as msg
-use Rattle.ab_msg.specs.declared.message.Offer.{Offer}
 use Rattle.ab_msg.specs.declared.message.Offer.TheVariants as offer
-use Rattle.ab_msg.specs.Claims.{fresh, maker_of, stated, claims, instance_in, tail_claims}
-use Rattle.ab_msg.specs.Fields.{IsInstance, IsRequest, IsSig, IsWritten}
-use Rattle.ab_msg.specs.Contents.{IsAbort, IsContent, spell_content}
-use Rattle.ab_msg.specs.Certs.{AreAborts, IsSigned}
-use Rattle.ab_msg.specs.Messages.{IsDraft, IsMessage, IsOffer, slot_in}
+use Rattle.ab_msg.specs.Claims.{fresh, maker_of, stated, claims, tail_claims}
+use Rattle.ab_msg.specs.Fields.{IsInstance, IsRequest}
+use Rattle.ab_msg.specs.Contents.{IsContent, spell_content}
+use Rattle.ab_msg.specs.Messages.{IsMessage}
 use Rattle.ab_abs.specs.declared.ballot.Ballot.{Ballot}
 use Rattle.ab_abs.specs.Faults.{is_faulty}
-use Rattle.ab_abs.specs.Kinds.{need_of, needs_equal, rule_in}
+use Rattle.ab_abs.specs.Kinds.{rule_in}
 use Rattle.ab_abs.specs.Votes.{has_voted, is_full_by}
-use Rattle.ab_abs.specs.Messages.{Call, took, timed, IsFormed, offered_cert}
-use Rattle.ab_abs.specs.Certificates.{history_of, held_in, history_held, history_by, is_whole}
-use Rattle.ab_abs.specs.Ensembles.{Proto, entry_of}
-use Rattle.ab_abs.specs.Promises.{ServesAll}
+use Rattle.ab_abs.specs.Messages.{Call, took, timed, IsFormed}
+use Rattle.ab_abs.specs.Certificates.{history_of}
+use Rattle.ab_abs.specs.Ensembles.{Proto}
 use Rattle.ab_abs.specs.Places.{KeepsForm}
 use Rattle.ab_run.specs.Forms.{IsWrittenRep, IsWrittenSetup}
 use Rattle.ab_run.proofs.Written.{IsGood, AllGood, good_if, due_good, first_written, abort_written, turn_keeps, turn_drafts}
-use Rattle.ab_abs.proofs.Certified.{certificate_written}
 use Rattle.ab_abs.proofs.Drafts.{few_replicas}
 use Rattle.ab_abs.proofs.Lists.{flat_map_cases, Contains-filter_cases}
 use Rattle.ab_links.proofs.ListLemmas.{Contains-cons_cases}
 use Rattle.ab_run.specs.Setups.{Setup, replicas, within, last_instance}
-use Rattle.ab_run.specs.Replicas.{Rep, Turn, turn_enter, turn_call, turn_halt, turn_sign, turn_bring, turn_abort, after_turn, made_in_turn, state_at, pen_of, client_of, cert_instance, brought, aborting, aborting_with, halting, late, here, taken, taken_in, due, due_by, due_with, is_spent, turns}
-use Rattle.ab_run.specs.Clients.{Cli, Move, move_ask, move_vote, move_commit, move_keep, move_take, move_panic, move_again, asking, after_move, made_in_move, hears, hears_response, hears_tail, counting, keeping, taking, taking_with, own_cert, keep, kind_at, panics, panics_in, if_open, moves, vote_claim, is_abort_of, is_chain, counts_responses}
+use Rattle.ab_run.specs.Replicas.{Rep, Turn, turn_enter, turn_call, turn_halt, turn_sign, turn_bring, turn_abort, after_turn, made_in_turn, state_at, pen_of, cert_instance, here, due, is_spent, turns}
+use Rattle.ab_run.specs.Clients.{Cli, Move, move_ask, move_vote, move_commit, move_keep, move_take, move_panic, move_again, asking, after_move, made_in_move, hears, hears_response, hears_tail, counting, keeping, taking, taking_with, own_cert, kind_at, panics, panics_in, if_open, moves, vote_claim, is_abort_of, is_chain}
 use Rattle.ab_run.specs.declared.phase.Phase.{Phase}
 use Rattle.ab_run.specs.declared.phase.Phase.TheVariants.{Idle, Waiting, Panicking}
 use Rattle.ab_run.specs.Runs.{Event, invoke, to_replica, to_client, replica_time, client_time, Run, run, step, start}
-use Rattle.ab_run.specs.Local.{after_turns, made_in_turns, rep_after, rep_makes, Cue, cue_command, cue_message, cue_time, after_moves, made_in_moves, moves_at, cli_after, cli_makes}
+use Rattle.ab_run.specs.Local.{after_turns, made_in_turns, rep_after, rep_makes, Cue, cue_command, cue_message, cue_time, after_moves, made_in_moves, moves_at, cli_makes}
 use Rattle.ab_run.specs.Premises.{checked}
 use Rattle.ab_run.specs.Inputs.{Input, told, came, rang, elsewhere, Opener, opened, event_in, events_in, all_checked, SpellsApart}
 use Rattle.ab_run.proofs.Effects.{at_call, at_cue, called, cued}

@@ -19,16 +19,16 @@ use Rattle.ab_abs.proofs.Lists.{flat_map_cases}
 use Rattle.ab_abs.proofs.Prefixes.{prefix_length}
 use Rattle.ab_abs.proofs.Statements.{one_of, none_of}
 use Rattle.ab_lock.proofs.Lists.{Contains-map_cases}
-use Rattle.ab_order.specs.Inputs.{Input, request, pre_prepare_base, pre_prepare, prepare, commit, view_change, new_view, timeout, other, handed, asked_by}
+use Rattle.ab_order.specs.Inputs.{Input, request, handed, asked_by}
 use Rattle.ab_order.specs.Orderers.{base_at}
-use Rattle.ab_order.specs.Backups.{Backing, keep_asked, answer_in, answer_of, asked_list, where_in, those_in, executed_now, unless_stopped, backup_state, answers_by, first_answers, later_answers}
+use Rattle.ab_order.specs.Backups.{Backing, keep_asked, answer_in, answer_of, asked_list, where_in, those_in, executed_now, unless_stopped, backup_state, first_answers, later_answers}
 use Rattle.ab_order.specs.Protos.{told, viewed, client_in, answer_out, backup}
 use Rattle.ab_order.proofs.BackupLaws.{keep_cases}
 use Rattle.ab_pbft.specs.Rules.{Pbft, pbft, base_of}
 use Rattle.ab_pbft.proofs.OrderlyOrderer.{pbft_orderly}
 use Rattle.ab_shelf.specs.Signing.{Signing, signing, signer_of, deeds_by, first_post}
 use Rattle.ab_receivers.proofs.Known.{AreKnown, IsInputNamed, IsMemoryKnown, begun_known, event_known, orders_known}
-use Rattle.ab_receivers.proofs.Lists.{Contains-drop, drop_behind}
+use Rattle.ab_receivers.proofs.Lists.{drop_behind}
 use Rattle.ab_receivers.proofs.Naming.{Names}
 use Rattle.ab_receivers.proofs.Orders.{told_named}
 use Rattle.ab_receivers.proofs.Posting.{posts_within}

@@ -23,15 +23,15 @@ use Rattle.ab_lock.specs.Events.{state_by, entered_peer}
 use Rattle.ab_lock.proofs.CertLemmas.{with_cert-last, with_cert-other}
 use Rattle.ab_lock.proofs.ChoosingLemmas.{chosen_of-IsChosen}
 use Rattle.ab_lock.proofs.KeptChanges.{put_in}
-use Rattle.ab_lock.proofs.Lists.{nth_grown, nth_map, Contains-nth, Contains-take, Contains-map_cases}
+use Rattle.ab_lock.proofs.Lists.{nth_grown, nth_map, Contains-take, Contains-map_cases}
 use Rattle.ab_lock.proofs.Settling.{state_by-last}
 use Rattle.ab_lock.proofs.ViewChangeLemmas.{listed, of_view_in}
 use Rattle.ab_lock.proofs.VoteLemmas.{IsNext, by_sign, by_prepare, by_execute, next_is}
-use Rattle.ab_order.specs.Inputs.{Input, request, pre_prepare_base, pre_prepare, prepare, commit, view_change, new_view, timeout, other, ProvedSlot, ChangeInput, change_values}
+use Rattle.ab_order.specs.Inputs.{Input, request, pre_prepare_base, pre_prepare, prepare, commit, view_change, new_view, timeout, other, ProvedSlot, ChangeInput}
 use Rattle.ab_order.proofs.BackupLaws.{keep_cases}
 use Rattle.ab_pbft.specs.Traces.{OrderStep}
-use Rattle.ab_pbft.specs.Rules.{Seat, Doing, Memory, Work, core_of, with_peer, does, idle, take_value, change_of, cert_of, settle, keep_request, keep_change, leave_to, without, work}
-use Rattle.ab_pbft.proofs.RuleInduction.{WhyTaken, own_base, waiting, base_brought, request_brought, WhyEntered, from_kept, from_new_view, WhySaid, MayEnter, WhyLeft, IsKept, work_kept}
+use Rattle.ab_pbft.specs.Rules.{Seat, Memory, Work, core_of, with_peer, does, idle, take_value, change_of, cert_of, settle, keep_request, keep_change, leave_to, without, work}
+use Rattle.ab_pbft.proofs.RuleInduction.{WhyTaken, own_base, waiting, base_brought, request_brought, WhyEntered, from_kept, from_new_view, IsKept, work_kept}
 
 -- a request of a client among so many
 abbrev pub IsKnown : ℕ → Value → Type 0

@@ -18,8 +18,8 @@ use Rattle.ab_msg.specs.Claims.{claims, maker_of}
 use Rattle.ab_check.specs.Checks.{Judge, checks}
 use Rattle.ab_read.specs.Messages.{message_of}
 use Rattle.ab_open.specs.declared.fault.OpenFault.{OpenFault}
-use Rattle.ab_open.specs.declared.fault.OpenFault.TheVariants.{NotMine, BadTag}
-use Rattle.ab_open.specs.Opening.{takes, verdict, judged, opening}
+use Rattle.ab_open.specs.declared.fault.OpenFault.TheVariants.{NotMine}
+use Rattle.ab_open.specs.Opening.{takes, verdict, judged}
 use Rattle.ab_abs.proofs.Counting.{Contains-head}
 use Rattle.ab_abs.proofs.Lists.{Contains-flat_map}
 use Rattle.ab_lock.proofs.Lists.{Contains-map}

@@ -2,7 +2,6 @@
 use Rattle.std.proofs.Common.{◌≡◌, ℕ, zero, suc, ◌<◌, ◌==◌, Bool, true, false, Some, None, Option, List, [], ◌∷◌, ◌++◌, ◌⊎◌, slice_get, map, refl, sym, subst, inl, inr}
 use Rattle.std.specs.Prelude.{Contains, flat_map, if◌then◌else◌}
 use Rattle.std.proofs.lemmas.Bool.{cases_Bool}
-use Rattle.std.proofs.lemmas.List.Elements.{Contains-append_left, Contains-append_right}
 use Rattle.std.proofs.lemmas.Option.{none-some, same_Some}
 use Rattle.ab_num.specs.declared.cluster.Cluster.{Cluster}
 use Rattle.ab_num.specs.declared.party.Party.{Party}
@@ -11,7 +10,6 @@ use Rattle.ab_hist.specs.declared.request.Request.{Request}
 use Rattle.ab_msg.specs.declared.content.Content.{Content}
 use Rattle.ab_msg.specs.declared.content.Content.TheVariants.{Req, PrePrepare, Prepare, Commit, ViewChange, NewView}
 use Rattle.ab_msg.specs.declared.change.Proof.{Proof}
-use Rattle.ab_msg.specs.declared.signed.Signed.{Signed}
 use Rattle.ab_msg.specs.declared.value.Value.{Value}
 use Rattle.ab_msg.specs.declared.value.Value.TheVariants.{Base, Request as Order}
 use Rattle.ab_msg.specs.declared.message.Msg.{Msg}
@@ -24,7 +22,7 @@ use Rattle.ab_abs.proofs.Counting.{Contains-head, Contains-tail}
 use Rattle.ab_abs.proofs.Lists.{Contains-cons_cases, Contains-flat_map}
 use Rattle.ab_abs.proofs.Statements.{none_of}
 use Rattle.ab_lock.proofs.Lists.{Contains-nth}
-use Rattle.ab_order.specs.Inputs.{Input, request, other, ProvedSlot, ChangeInput}
+use Rattle.ab_order.specs.Inputs.{ProvedSlot, ChangeInput}
 use Rattle.ab_order.specs.Readings.{is_own_request, slots_of, with_slots, is_ours, change_by, change_of, with_change, changes_of, read_request, base_offered, read_base, read_offer, read_pre_prepare, read_prepare, read_commit, read_change, read_new_view_of, read_new_view, read_message, read}
 use Rattle.ab_order.proofs.ReadingLaws.{slots_are}
 use Rattle.ab_receivers.proofs.Known.{IsKnown, IsChangeNamed, IsInputNamed}

@@ -1,19 +1,16 @@
 -- Quorum, ZLight and Chain send to replicas, and to the client whose request came.
 use Rattle.std.proofs.Common.{◌≡◌, ℕ, zero, suc, ◌+◌, ◌*◌, ◌<◌, ◌≤◌, ◌==◌, Bool, true, false, not, Some, None, Option, List, [], ◌∷◌, ◌++◌, length, refl, sym, ap, ◌∙◌, subst, inl, inr, arith}
 use Rattle.std.specs.Prelude.{Contains, ◌&&◌, if◌then◌else◌, unwrap_or, map}
-use Rattle.std.proofs.lemmas.Bool.{cases_Bool}
 use Rattle.std.proofs.lemmas.List.Elements.{Contains-append_cases}
 use Rattle.std.proofs.lemmas.Option.{none-some, same_Some}
 use Rattle.ab_num.specs.declared.cluster.Cluster.{Cluster}
-use Rattle.ab_num.specs.declared.party.Party.{Party}
 use Rattle.ab_num.specs.declared.party.Party.TheVariants.{Replica, Client}
 use Rattle.ab_num.specs.Parties.{party_eq}
 use Rattle.ab_num.specs.Places.{at_position_of}
 use Rattle.ab_hist.specs.declared.request.Request.{Request}
 use Rattle.ab_hist.specs.Histories.{place_in}
 use Rattle.ab_svc.specs.Machines.{Machine, Reply}
-use Rattle.ab_msg.specs.declared.content.Content.{Content}
-use Rattle.ab_msg.specs.declared.content.Content.TheVariants.{Req, Order, Resp}
+use Rattle.ab_msg.specs.declared.content.Content.TheVariants.{Req, Order}
 use Rattle.ab_msg.specs.declared.chain_tags.TagBetween.{TagBetween}
 use Rattle.ab_msg.specs.declared.message.Msg.{Msg}
 use Rattle.ab_msg.specs.declared.message.Msg.TheVariants as msg

@@ -5,8 +5,7 @@ use Rattle.std.proofs.lemmas.List.Elements.{Contains-append_cases}
 use Rattle.ab_num.specs.declared.cluster.Cluster.{Cluster}
 use Rattle.ab_num.specs.declared.plan.Kind.{Kind}
 use Rattle.ab_num.specs.declared.plan.Kind.TheVariants as kind
-use Rattle.ab_num.specs.declared.party.Party.TheVariants.{Replica, Client}
-use Rattle.ab_num.specs.Places.{primary_of, at_position_of}
+use Rattle.ab_num.specs.declared.party.Party.TheVariants.{Replica}
 use Rattle.ab_hist.specs.declared.request.Request.{Request}
 use Rattle.ab_msg.specs.declared.content.Content.TheVariants.{Req, Panic}
 use Rattle.ab_msg.specs.declared.message.Msg.{Msg}
@@ -20,10 +19,10 @@ use Rattle.ab_abs.specs.Kinds.{kind_in}
 use Rattle.ab_abs.specs.Messages.{Call, took, timed}
 use Rattle.ab_abs.proofs.Statements.{one_of, none_of}
 use Rattle.ab_run.specs.Setups.{Setup, within, last_instance}
-use Rattle.ab_run.specs.Replicas.{Rep, Turn, turn_enter, turn_call, turn_halt, turn_sign, turn_bring, turn_abort, brought, cert_instance, client_of, cert_to, abort_to, aborting, aborting_with, late, here, halting, taken, taken_in, due, due_by, due_with, is_spent, pen_of, state_at, after_turn, sent_in_turn, turns}
+use Rattle.ab_run.specs.Replicas.{Rep, Turn, turn_enter, turn_call, turn_halt, turn_sign, turn_bring, turn_abort, brought, cert_instance, client_of, cert_to, abort_to, aborting_with, late, here, halting, taken, taken_in, due, due_by, due_with, is_spent, pen_of, state_at, after_turn, sent_in_turn, turns}
 use Rattle.ab_run.specs.Clients.{Cli, Move, move_ask, move_vote, move_commit, move_keep, move_take, move_panic, move_again, after_move, to_all, to_targets, cert_out, request_out, sent_in_move}
 use Rattle.ab_run.specs.Local.{after_turns, rep_after, rep_sends, sent_in_turns, sent_in_moves, Cue, moves_at, cli_sends}
-use Rattle.ab_receivers.proofs.Naming.{asker, NamesClients, Names}
+use Rattle.ab_receivers.proofs.Naming.{NamesClients, Names}
 use Rattle.ab_receivers.proofs.Within.{IsWithin, AreWithin, StaysWithin, client_within, replica_within, primary_within, position_within}
 
 both_within : (c : Cluster) (some more : List Out) → AreWithin c some → AreWithin c more → AreWithin c (some ++ more)

@@ -7,9 +7,7 @@ use Rattle.ab_num.specs.declared.cluster.Cluster.{Cluster}
 use Rattle.ab_num.specs.declared.party.Party.{Party}
 use Rattle.ab_num.specs.declared.party.Party.TheVariants.{Replica, Client}
 use Rattle.ab_num.specs.Places.{primary_of, at_position_of}
-use Rattle.ab_hist.specs.declared.request.Request.{Request}
 use Rattle.ab_keys.specs.Keys.{is_party}
-use Rattle.ab_msg.specs.declared.message.Msg.{Msg}
 use Rattle.ab_msg.specs.declared.message.Out.{Out}
 use Rattle.ab_msg.specs.Pens.{Pen}
 use Rattle.ab_abs.specs.declared.entry.Entry.{Entry}

@@ -22,7 +22,7 @@ use Rattle.ab_cast.specs.Cores.{Core, replica, client, Taken, command, message, 
 use Rattle.ab_cast.specs.Casts.{Cast, core_at, first_site, first_sites, with_core}
 use Rattle.ab_world.specs.declared.fault.WorldFault.{WorldFault}
 use Rattle.ab_world.specs.declared.fault.WorldFault.TheVariants.{PacketLimit}
-use Rattle.ab_world.specs.Steps.{Happening, posted, taken_from, moved, moved_at, after_taking, after, within_limit, stepped, stepped_by, ready}
+use Rattle.ab_world.specs.Steps.{Happening, posted, taken_from, moved, moved_at, after_taking, after, stepped, stepped_by, ready}
 use Rattle.ab_world.specs.Runs.{outcome, refused_or}
 use Rattle.ab_world.specs.Worlds.{World, start}
 use Rattle.ab_storm_run.specs.Runs.{SendsToParties}

@@ -6,7 +6,6 @@ use Rattle.std.specs.Result.{IsErrAnd}
 use Rattle.ab_num.specs.Bounds.{IsInBounds}
 use Rattle.ab_num.specs.declared.party.Party.{Party}
 use Rattle.ab_text.specs.declared.event.Event.{Event}
-use Rattle.ab_text.specs.declared.line.Premise.TheVariants.{Held}
 use Rattle.ab_text.specs.Heads.{Script}
 use Rattle.ab_text.specs.Schedules.{ReadsText, script_of}
 use Rattle.ab_text.specs.declared.schedule.Head.{Head}
@@ -14,7 +13,6 @@ use Rattle.ab_open.specs.declared.fault.OpenFault.{OpenFault}
 use Rattle.ab_abs.specs.Ensembles.{Proto}
 use Rattle.ab_num.specs.declared.cluster.Cluster.{Cluster}
 use Rattle.ab_num.specs.declared.plan.Plan.{Plan}
-use Rattle.ab_svc.specs.Machines.{Machine}
 use Rattle.std.proofs.lemmas.List.{length-append}
 use Rattle.std.proofs.lemmas.Bool.{lt-ltb}
 use Rattle.arrayvec.specs.ArrayVec.{ArrayVec}

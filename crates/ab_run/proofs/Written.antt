@@ -17,11 +17,11 @@ use Rattle.ab_msg.specs.declared.message.Msg.{Msg}
 use Rattle.ab_msg.specs.declared.message.Msg.TheVariants as msg
 use Rattle.ab_msg.specs.declared.message.Offer.TheVariants as offer
 use Rattle.ab_msg.specs.declared.message.Out.{Out}
-use Rattle.ab_msg.specs.Claims.{fresh, maker_of, instance_in}
+use Rattle.ab_msg.specs.Claims.{maker_of, instance_in}
 use Rattle.ab_msg.specs.Fields.{IsInstance, IsRequest, IsWritten}
 use Rattle.ab_msg.specs.Contents.{IsAbort}
 use Rattle.ab_msg.specs.Certs.{AreAborts, IsSigned}
-use Rattle.ab_msg.specs.Messages.{IsDraft, IsMessage}
+use Rattle.ab_msg.specs.Messages.{IsMessage}
 use Rattle.ab_abs.specs.Kinds.{need_of, needs_equal}
 use Rattle.ab_abs.specs.Messages.{Call, took, timed, IsFormed}
 use Rattle.ab_abs.specs.Certificates.{history_of, history_held, history_by, is_whole}

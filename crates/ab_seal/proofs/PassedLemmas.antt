@@ -7,6 +7,7 @@ use Rattle.std.proofs.lemmas.List.Elements.{All-cons, All-head, All-tail}
 use Rattle.ab_num.specs.declared.party.Party.{Party}
 use Rattle.ab_num.specs.declared.party.Party.TheVariants.{Replica, Client}
 use Rattle.ab_num.specs.Parties.{party_eq}
+use Rattle.ab_num.proofs.PartyLemmas.{party_eq-refl}
 use Rattle.ab_keys.specs.Rings.{Ring}
 use Rattle.ab_msg.specs.declared.chain_tags.TagBetween.{TagBetween}
 use Rattle.ab_msg.specs.declared.content.Content.{Content}
@@ -19,10 +20,6 @@ there tag = Some tag
 
 abbrev pub missing : Option (List ℕ)
 missing = None
-
-pub same-party : (p : Party) → party_eq p p ≡ true
-same-party (Replica r) = (Decides-eqb r r).1 refl
-same-party (Client c) = (Decides-eqb c c).1 refl
 
 -- ---- the first of two lists counts
 
@@ -57,12 +54,12 @@ in-forward ring text g s zero a j lt at = absurd (omega arith)
 in-forward ring text g s (suc n) a zero lt at =
     let rest = tag_between ring.me (Replica s) (map (λ q. tag_for ring text (Replica (g q))) (range_with_len (a + 1) n)) in
     let here : g a ≡ s = ap g (let e : a ≡ a + zero = omega arith in e) ∙ at in
-    ap (λ b. first_of_two (b && eqb (g a) s) (tag_made ring (Replica (g a)) text) rest) (same-party ring.me)
+    ap (λ b. first_of_two (b && eqb (g a) s) (tag_made ring (Replica (g a)) text) rest) (party_eq-refl ring.me)
     ∙ in-first (g a) s (λ x. tag_made ring (Replica x) text) rest (eqb (g a) s) refl (λ other. absurd (false≢true (sym other ∙ (Decides-eqb (g a) s).1 here)))
 in-forward ring text g s (suc n) a (suc j) lt at =
     let rest = tag_between ring.me (Replica s) (map (λ q. tag_for ring text (Replica (g q))) (range_with_len (a + 1) n)) in
     let next : g (a + 1 + j) ≡ s = ap g (let e : a + 1 + j ≡ a + suc j = omega arith in e) ∙ at in
-    ap (λ b. first_of_two (b && eqb (g a) s) (tag_made ring (Replica (g a)) text) rest) (same-party ring.me)
+    ap (λ b. first_of_two (b && eqb (g a) s) (tag_made ring (Replica (g a)) text) rest) (party_eq-refl ring.me)
     ∙ in-first (g a) s (λ x. tag_made ring (Replica x) text) rest (eqb (g a) s) refl (λ other. in-forward ring text g s n (a + 1) j (omega arith) next)
 
 never-both : (b : Bool) (tag : List ℕ) (rest : Option (List ℕ)) → first_of_two (b && false) tag rest ≡ rest
@@ -78,7 +75,7 @@ not-forward ring text g c (q ∷ qs) =
 -- the tag for a client
 pub for-client : (ring : Ring) (text : List ℕ) (c x : ℕ) → eqb c x ≡ true → tag_between ring.me (Client x) (tag_for ring text (Client c) ∷ []) ≡ there (tag_made ring (Client x) text)
 for-client ring text c x e =
-    ap (λ b. first_of_two (b && eqb c x) (tag_made ring (Client c) text) None) (same-party ring.me)
+    ap (λ b. first_of_two (b && eqb c x) (tag_made ring (Client c) text) None) (party_eq-refl ring.me)
     ∙ ap (λ b. first_of_two b (tag_made ring (Client c) text) None) e
     ∙ ap (λ n. there (tag_made ring (Client n) text)) ((Decides-eqb c x).0 e)
 

@@ -30,6 +30,7 @@ use Rattle.ab_slots.specs.Deeds.{deeds_of, prepared_in, told_in}
 use Rattle.ab_shelf.specs.declared.signer.Signer.{Signer}
 use Rattle.ab_shelf.specs.Posts.{Post, to_others, own_change_of, offer_message, commit_message, lead_message, posts, posts_all, signed_by, signed_in_all}
 use Rattle.ab_shelf.specs.Signing.{signing, signer_of, input_of, deeds_by, first_post}
+use Rattle.ab_shelf.proofs.PenLemmas.{pen_by}
 
 -- ---- to the others
 
@@ -188,17 +189,6 @@ module _ (by : Signer) where
 
   -- ---- signatures
 
-  moved_none : (pen : Pen) → pen ≡ moved pen 0
-  moved_none pen = let at : ℕ → Pen = λ n. record { used = n; sig = pen.sig } in ap at (let e : pen.used ≡ pen.used + 0 = omega arith in e)
-
-  pen_by : (d : Deed) (p : Post) → (posts by d p).pen ≡ moved p.pen (length (signed_by by d))
-  pen_by (Signs view slot x) p = refl
-  pen_by (Prepares view slot value) p = moved_none p.pen
-  pen_by (Changes view entries) p = refl
-  pen_by (Enters view) p = moved_none p.pen
-  pen_by (Offers view slot value) p = moved_none p.pen
-  pen_by (Leads view) p = moved_none p.pen
-
   behind : {X : Type 0} (xs ys : List X) (n : ℕ) → slice_get (xs ++ ys) (length xs + n) ≡ slice_get ys n
   behind [] ys n = ap (λ m. slice_get ys m) (let e : 0 + n ≡ n = omega arith in e)
   behind (x ∷ xs) ys n =
@@ -225,7 +215,7 @@ module _ (by : Signer) where
   placed_later : (d : Deed) (p : Post) (rest : List Content) (w : Signed) → IsPlaced (posts by d p).pen rest w → IsPlaced p.pen (signed_by by d ++ rest) w
   placed_later d p rest w is =
       let now = signed_by by d in
-      let after : IsPlaced (moved p.pen (length now)) rest w = subst (λ (pen : Pen). IsPlaced pen rest w) (pen_by d p) is in
+      let after : IsPlaced (moved p.pen (length now)) rest w = subst (λ (pen : Pen). IsPlaced pen rest w) (pen_by by d p) is in
       (length now + after.0, behind now rest after.0 ∙ after.1, after.2 ∙ ap (λ n. p.pen.sig w.content n) (let e : p.pen.used + length now + after.0 ≡ p.pen.used + (length now + after.0) = omega arith in e))
 
   all_signed : (deeds : List Deed) (p : Post) (o : Out) (w : Signed) → Contains (posts_all by deeds p).sent o → Contains (signed_in o.msg) w → Contains p.sent o ⊎ IsPlaced p.pen (signed_in_all by deeds) w

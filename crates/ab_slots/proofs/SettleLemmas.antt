@@ -6,10 +6,10 @@ use Rattle.ab_msg.specs.declared.value.Value.{Value}
 use Rattle.ab_msg.specs.Slots.{slot_digest}
 use Rattle.ab_abs.specs.Values.{goes}
 use Rattle.ab_lock.specs.Steps.{State, after}
-use Rattle.ab_lock.specs.Votes.{Vote, next, votes_after, commits_after, onward, settled}
-use Rattle.ab_lock.specs.Events.{Peer, peer_by, state_by, votes_by, commits_by}
+use Rattle.ab_lock.specs.Votes.{Vote, votes_after, commits_after, onward, settled}
+use Rattle.ab_lock.specs.Events.{peer_by, state_by, votes_by, commits_by}
 use Rattle.ab_pbft.specs.Traces.{OrderStep}
-use Rattle.ab_pbft.specs.Rules.{Seat, Work, Doing, takes_step, core_of, with_peer, oldest_first, settle, settle_with}
+use Rattle.ab_pbft.specs.Rules.{Seat, Work, takes_step, with_peer, oldest_first, settle}
 use Rattle.ab_slots.specs.Turns.{takes, next_in, by_steps, goes_by}
 
 oldest_pushed : (more : List OrderStep) (step : OrderStep) → oldest_first (more ++ step ∷ []) ≡ step ∷ oldest_first more

@@ -15,11 +15,10 @@ use Rattle.ab_order.specs.Backups.{keep as keep_last}
 use Rattle.ab_pbft.specs.Traces.{OrderStep, pair_of}
 use Rattle.ab_abs.specs.Values.{goes}
 use Rattle.ab_pbft.specs.Rules.{Seat, Memory, Doing, takes_step, offers, offer, Work, take_value, does, keep_request, keep_change, change_of, without, keep_own}
-use Rattle.ab_slots.specs.declared.deed.Deed.{Deed}
 use Rattle.ab_slots.specs.declared.deed.Deed.TheVariants.{Prepares, Changes, Enters, Offers}
 use Rattle.ab_slots.specs.declared.turn.Turn.{Turn}
 use Rattle.ab_slots.specs.Deeds.{prepared_in, deeds_of, told_in}
-use Rattle.ab_slots.specs.Turns.{memory_of, Shows, Does, takes, votes_for, commits_for, without_votes_below, enters_from, leaves}
+use Rattle.ab_slots.specs.Turns.{memory_of, Does, takes, votes_for, commits_for, without_votes_below, enters_from, leaves}
 
 pub told_append : (ds es : List Doing) → told_in (ds ++ es) ≡ told_in ds ++ told_in es
 told_append [] es = refl

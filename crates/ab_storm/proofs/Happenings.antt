@@ -1,11 +1,10 @@
 -- What a storm draws can happen.
 use Rattle.std.proofs.Common.{◌≡◌, ℕ, zero, suc, ◌+◌, ◌-◌, ◌*◌, ◌/◌, ◌%◌, ◌^◌, ◌<◌, ◌≤◌, ◌==◌, Bool, true, false, Option, Some, None, List, [], ◌∷◌, ◌++◌, length, refl, sym, ap, ◌∙◌, subst, arith}
 use Rattle.std.specs.Prelude.{unwrap_or, slice_get, min, nat_lt, codes, decimal, if◌then◌else◌}
-use Rattle.std.proofs.lemmas.Bool.{ltb-true, eqb-false}
+use Rattle.std.proofs.lemmas.Bool.{ltb-true}
 use Rattle.std.proofs.lemmas.Nat.{mod_below}
 use Rattle.std.proofs.lemmas.List.{length-append}
 use Rattle.std.proofs.lemmas.Fmt.{length-decimal-le}
-use Rattle.ab_num.specs.declared.party.Party.TheVariants.{Replica, Client}
 use Rattle.ab_text.specs.declared.event.Event.{Event}
 use Rattle.ab_storm.specs.Storms.{Storm, deliver, stepped, drawn, turned, client_timeout, replica_timeout, in_turn, put_text, put, put_or, first_idle, fresh, any_packet, late_packet, chosen, next_of, CanHappen}
 

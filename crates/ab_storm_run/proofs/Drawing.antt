@@ -17,7 +17,7 @@ use Rattle.ab_text.specs.declared.event.Core.{Core as CoreName}
 use Rattle.ab_text.specs.declared.event.Event.{Event}
 use Rattle.ab_text.specs.declared.event.Event.TheVariants.{Invoke, Deliver, Timeout, Inject}
 use Rattle.ab_storm.specs.Storms as storms
-use Rattle.ab_storm.specs.Storms.{Storm, CanHappen, IsAsked, IsParty, next_of, turned, drawn, deliver, client_timeout, replica_timeout, in_turn, put, put_or, fresh, first_idle, any_packet, late_packet, chosen}
+use Rattle.ab_storm.specs.Storms.{Storm, CanHappen, IsAsked, IsParty, next_of, turned, drawn, deliver, client_timeout, in_turn, put_or, fresh, first_idle, any_packet, chosen}
 use Rattle.ab_storm.proofs.Happenings.{next_can}
 use Rattle.ab_abs.specs.Ensembles.{Proto}
 use Rattle.ab_client.specs.Clients.{Seat}
@@ -25,7 +25,7 @@ use Rattle.ab_post.specs.Packets.{Packet, nth}
 use Rattle.ab_cast.specs.declared.fault.CommandFault.TheVariants as command_fault
 use Rattle.ab_cast.specs.Setups.{Setup, own_place, numbered_place, place_of}
 use Rattle.ab_cast.specs.Cores.{client}
-use Rattle.ab_cast.specs.Casts.{is_free, first_seat, first_seats}
+use Rattle.ab_cast.specs.Casts.{is_free, first_seats}
 use Rattle.ab_world.specs.declared.fault.WorldFault.{WorldFault}
 use Rattle.ab_world.specs.declared.fault.WorldFault.TheVariants.{EventLimit, PacketLimit, BadCommand}
 use Rattle.ab_world.specs.Steps.{Happening, Given, ask, hand, ring, refuse_command, asked_at, asked, handed, rung, delivered, happening, ready_in, ready, after, within_limit, stepped_by, stepped}

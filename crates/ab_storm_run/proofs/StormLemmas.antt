@@ -19,9 +19,9 @@ use Rattle.ab_world.specs.Worlds.{World, start}
 use Rattle.ab_storm_run.specs.declared.running.StormFault.{StormFault}
 use Rattle.ab_storm_run.specs.declared.running.StormFault.TheVariants.{TooManyPackets, OutOfMemory}
 use Rattle.ab_storm_run.specs.Standing.{Goes}
-use Rattle.ab_storm_run.specs.Runs.{end_of, idle_of, drawn_at, drawn_behind, drawn_events, storm_setup, storm_of, events_in, run_in, IsClusterOf, StormsTo, SendsToParties, SendsWithin, StepCause, EndCause, StormCause}
+use Rattle.ab_storm_run.specs.Runs.{end_of, idle_of, drawn_at, drawn_behind, drawn_events, storm_setup, storm_of, run_in, IsClusterOf, StormsTo, SendsToParties, SendsWithin, StepCause, EndCause, StormCause}
 use Rattle.ab_storm_run.proofs.Drawing.{refused_for, goes_on, storm_goes}
-use Rattle.ab_storm_run.proofs.Leading.{ok_same, err_ok}
+use Rattle.ab_storm_run.proofs.Leading.{err_ok}
 
 -- ---- clusters of one size
 

@@ -14,7 +14,7 @@ use Rattle.ab_run.specs.Setups.{Setup as RunSetup}
 use Rattle.ab_run.specs.Clients.{Cli}
 use Rattle.ab_run.specs.Replicas.{Rep}
 use Rattle.ab_replica.specs.Sites.{Site}
-use Rattle.ab_run.specs.Stages.{Stage, stage_call, stage_cue, stage_still, stage_opened, stage_timed, stage_after}
+use Rattle.ab_run.specs.Stages.{Stage, stage_call, stage_cue, stage_still, stage_opened, stage_after}
 use Rattle.ab_run.proofs.Listed.{set_length}
 use Rattle.ab_client.specs.Clients.{Seat}
 use Rattle.ab_cast.specs.declared.place.Place.{Place}

@@ -1,6 +1,5 @@
 use Rattle.std.proofs.Common.{◌≡◌, ◌+◌, [], ◌∷◌, arith, sym, ap, ◌∙◌}
 use Rattle.ab_wire.specs.Views.{message as message_of}
-use Rattle.ab_client.specs.Clients.{Seat}
 use Rattle.ab_cast.specs.Hearing.{taken_of}
 use Rattle.ab_cast.proofs.CastLemmas.{the_same, message_commits, time_commits}
 use Rattle.ab_cast.proofs.cores.hear_client.Goals.{in-Message+in_ok-on-in-Message, in-Time+in_ok-outs-in-Time}

@@ -4,7 +4,7 @@ use Rattle.ab_io.specs.Causes.{Rose}
 use Rattle.ab_replay.specs.Streams.{AppendsFront}
 use Rattle.ab_replay.proofs.TextLemmas.{all_served}
 use Rattle.ab_storm_run.specs.Runs.{storm_setup}
-use Rattle.ab_command.proofs.StatusLemmas.{memory_settled, settled, summary_written, write_settled}
+use Rattle.ab_command.proofs.StatusLemmas.{memory_settled, summary_written, write_settled}
 use Rattle.ab_command.proofs.top.serve_storm.Goals as goal
 
 pub storm-requires-clause-served : goal.storm-requires-clause-served

@@ -1,7 +1,5 @@
 use Rattle.std.proofs.Common.{◌≡◌, ◌≤◌, ℕ, List, length, ap, ◌∙◌, subst, arith}
 use Rattle.ab_replay.specs.Protocols.{any}
-use Rattle.ab_picture.specs.Composed.{IsPicture}
-use Rattle.ab_draw.specs.Draws.{told_at}
 use Rattle.ab_draw.proofs.Fronts.{counts_few}
 use Rattle.ab_draw.proofs.drawing.picture_in.Goals as goal
 

@@ -2,7 +2,6 @@ use Rattle.std.proofs.Common.{◌≡◌, sym, ap, ◌∙◌, subst}
 use Rattle.std.specs.Prelude.{IfOk}
 use Rattle.ab_wire.specs.Views.{message}
 use Rattle.ab_abs.specs.Messages.{Call, took, timed}
-use Rattle.ab_replica.specs.Sites.{Site}
 use Rattle.ab_replica.specs.Doings.{Hears}
 use Rattle.ab_member.specs.Given.{given_call}
 use Rattle.ab_member.specs.Replicas.{ReplicaMember, own_setup}

@@ -1,6 +1,5 @@
 use Rattle.std.proofs.Common.{◌≡◌, ◌+◌, ◌<◌, ◌∷◌, ℕ, List, Ok, Err, arith, sym, ap, ◌∙◌, drop, subst}
 use Rattle.std.proofs.lemmas.List.{at_drop_more}
-use Rattle.ab_text.specs.declared.event.Event.{Event}
 use Rattle.ab_world.specs.declared.fault.WorldFault.{WorldFault}
 use Rattle.ab_world.specs.declared.fault.WorldFault.TheVariants.{PacketLimit}
 use Rattle.ab_world.specs.Steps.{Cause, stepped}

@@ -3,7 +3,6 @@ use Rattle.ab_num.specs.Places.{kind_of}
 use Rattle.ab_num.specs.declared.plan.Plan.{Plan}
 use Rattle.ab_text.specs.declared.line.Premise.{Premise}
 use Rattle.ab_text.specs.declared.line.Premise.TheVariants.{Held}
-use Rattle.ab_cast.specs.Setups.{Setup}
 use Rattle.ab_world.specs.Runs.{outcome}
 use Rattle.ab_world.specs.Worlds.{start}
 use Rattle.ab_abs.specs.Promises.{ServesAll}

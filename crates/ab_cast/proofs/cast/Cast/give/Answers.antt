@@ -1,6 +1,6 @@
 use Rattle.std.proofs.Common.{◌≡◌, ◌<◌, ◌+◌, [], ◌∷◌, IsOkAnd, arith, sym, ap}
 use Rattle.ab_cast.specs.declared.place.Place.TheVariants as place
-use Rattle.ab_cast.specs.Cores.{client, replica}
+use Rattle.ab_cast.specs.Cores.{client}
 use Rattle.ab_cast.specs.Hearing.{taken_of}
 use Rattle.ab_cast.specs.Casts.{Cast, IsTaken}
 use Rattle.ab_cast.proofs.CastLemmas.{WhereCommits, no_replica_commits, client_commits, at_core, at_there, replica_core, client_core, replica_stays, replica_taken, replica_twin_stays, replica_twin_taken, twin_of, DoesAt, client_stays, client_taken, client_twin_stays, client_twin_taken, client_twin_within, spends_nothing}

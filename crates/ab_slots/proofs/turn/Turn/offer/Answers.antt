@@ -1,5 +1,4 @@
 use Rattle.std.proofs.Common.{◌∙◌, ◌++◌, ◌∷◌, [], refl, ap}
-use Rattle.ab_msg.specs.declared.value.Value.{Value}
 use Rattle.ab_slots.specs.declared.deed.Deed.TheVariants.{Offers}
 use Rattle.ab_slots.proofs.TurnLemmas.{offers_does}
 use Rattle.ab_slots.specs.Turns.{memory_of}

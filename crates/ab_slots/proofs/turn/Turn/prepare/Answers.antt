@@ -4,8 +4,8 @@ use Rattle.std.proofs.lemmas.List.{length-take-le}
 use Rattle.ab_hist.proofs.KeptLemmas.{slice_get-take}
 use Rattle.ab_msg.specs.declared.value.Value.{Value}
 use Rattle.ab_msg.specs.Slots.{slot_digest}
-use Rattle.ab_lock.specs.Steps.{Cert, prepares, set_cert, with_cert}
-use Rattle.ab_lock.specs.Votes.{Vote, keep, keep_commit}
+use Rattle.ab_lock.specs.Steps.{Cert, prepares, set_cert}
+use Rattle.ab_lock.specs.Votes.{Vote, keep}
 use Rattle.ab_slots.specs.declared.deed.Deed.TheVariants.{Prepares}
 use Rattle.ab_slots.proofs.TurnLemmas.{step_does, prepared_certs, prepared_commits, prepared_told}
 use Rattle.ab_slots.specs.Turns.{memory_of}

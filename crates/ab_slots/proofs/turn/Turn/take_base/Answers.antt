@@ -2,9 +2,7 @@ use Rattle.std.proofs.Common.{◌≡◌, ◌∙◌, ◌&&◌, ◌==◌, true, fa
 use Rattle.std.proofs.lemmas.Grind.{common_steps}
 use Rattle.std.specs.Prelude.{nat_le}
 use Rattle.std.specs.Str.{bytes_eq}
-use Rattle.ab_msg.specs.Slots.{slot_digest}
-use Rattle.ab_abs.specs.Values.{goes}
-use Rattle.ab_msg.specs.declared.value.Value.TheVariants.{Base, Request as Order}
+use Rattle.ab_msg.specs.declared.value.Value.TheVariants.{Base}
 use Rattle.ab_pbft.specs.Rules as rules
 use Rattle.ab_slots.specs.Turns.{seat_of, memory_of}
 use Rattle.ab_slots.proofs.TurnLemmas.{when_does, unless_does}

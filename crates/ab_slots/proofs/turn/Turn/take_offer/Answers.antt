@@ -4,7 +4,7 @@ use Rattle.std.specs.Prelude.{nat_le}
 use Rattle.std.specs.Str.{bytes_eq}
 use Rattle.ab_msg.specs.Slots.{slot_digest}
 use Rattle.ab_abs.specs.Values.{goes}
-use Rattle.ab_msg.specs.declared.value.Value.TheVariants.{Base, Request as Order}
+use Rattle.ab_msg.specs.declared.value.Value.TheVariants.{Request as Order}
 use Rattle.ab_pbft.specs.Rules as rules
 use Rattle.ab_slots.specs.Turns.{seat_of, memory_of}
 use Rattle.ab_slots.proofs.TurnLemmas.{when_does, unless_does}

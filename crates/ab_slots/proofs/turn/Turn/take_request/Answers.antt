@@ -1,4 +1,3 @@
-use Rattle.ab_slots.specs.Turns.{seat_of}
 use Rattle.ab_pbft.specs.Rules.{keep_request}
 use Rattle.ab_slots.proofs.turn.Turn.take_request.Goals as goal
 

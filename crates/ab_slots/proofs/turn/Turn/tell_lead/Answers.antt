@@ -1,7 +1,6 @@
 use Rattle.std.proofs.Common.{refl}
 use Rattle.ab_pbft.specs.Rules.{leads}
 use Rattle.ab_slots.proofs.TurnLemmas.{says_does}
-use Rattle.ab_slots.specs.Turns.{memory_of}
 use Rattle.ab_slots.proofs.turn.Turn.tell_lead.Goals as goal
 
 pub returns : goal.returns

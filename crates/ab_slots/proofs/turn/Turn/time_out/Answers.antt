@@ -1,7 +1,7 @@
 use Rattle.std.proofs.Common.{◌≡◌, ◌∙◌, ◌+◌, suc, true, false, sym, subst, arith}
 use Rattle.std.proofs.lemmas.Grind.{common_steps}
 use Rattle.ab_pbft.specs.Rules as rules
-use Rattle.ab_slots.specs.Turns.{seat_of, memory_of, Does}
+use Rattle.ab_slots.specs.Turns.{seat_of, Does}
 use Rattle.ab_slots.proofs.RuleLemmas.{time_out_does, time_out_not}
 use Rattle.ab_slots.proofs.turn.Turn.time_out.Goals as goal
 

@@ -1,0 +1,2 @@
+-- Lemmas on parties.
+pub mod PartyLemmas
