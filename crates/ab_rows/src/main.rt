@@ -1,5 +1,6 @@
-//! Reads lines of a digit and hexadecimal bytes, and tells where the bytes give another answer: 0 is a
-//! message, which is also owned and written again, and 1 to 5 the first defect.
+//! Reads lines of a mark and hexadecimal bytes. Where the mark is a digit it tells whether the bytes give another answer: 0 is a
+//! message, which is also owned and written again, and 1 to 5 the first defect. `r` reads the bytes 1,000 times and `c` copies
+//! them as often, for a script that takes the time; `n` does neither.
 #![tactic(auto)]
 
 ghost use Rattle.ab_wire.specs.Views.{IsReceived};
@@ -9,6 +10,9 @@ use ab_read::{Bad, MsgRef, read};
 use ab_write::write;
 use std::alloc::Global;
 use std::io;
+
+/// How often the bytes of a line are read or copied.
+const TIMES: u32 = 1000;
 
 fn digit(c: u8) -> u8 {
     match c {
@@ -55,13 +59,34 @@ fn answer(alloc: Global, bytes: &[u8]) -> Result<u8, OutOfMemory> {
     }
 }
 
-/// Whether a line's bytes give the answer of its digit.
+/// Whether the bytes are a message each time that they are read.
+fn is_read_often(bytes: &[u8]) -> bool {
+    (0..TIMES).all(|_| read(bytes).is_ok())
+}
+
+/// Whether each copy of the bytes ends as they do.
+fn is_copied_often(alloc: Global, bytes: &[u8]) -> Result<bool, OutOfMemory> {
+    let mut is_same = true;
+    for _ in 0..TIMES {
+        let mut copy = Vec::with_capacity(alloc, bytes.len())?;
+        copy.extend_from_slice(bytes)?;
+        is_same = is_same && copy.last() == bytes.last();
+    }
+    Ok(is_same)
+}
+
+/// Whether a line's bytes do what its mark asks for.
 fn is_as_told(alloc: Global, line: &[u8]) -> io::Result<bool> {
     match line {
         [] => Ok(true),
         [told, hex @ ..] => {
             let bytes = decoded(alloc, hex)?;
-            Ok(matches!(answer(alloc, bytes.as_slice()), Ok(found) if found == digit(*told)))
+            match told {
+                b'r' => Ok(is_read_often(bytes.as_slice())),
+                b'c' => Ok(is_copied_often(alloc, bytes.as_slice())?),
+                b'n' => Ok(true),
+                _ => Ok(matches!(answer(alloc, bytes.as_slice()), Ok(found) if found == digit(*told))),
+            }
         }
     }
 }

@@ -1,0 +1,84 @@
+#!/usr/bin/env python3
+"""Times the reading of three messages beside a plain copy of their bytes: a CHAIN, an INIT, and a NEW-VIEW of three million bytes.
+
+The bytes are of the grammar, with tags and signatures that nobody made: reading looks at none. Each message is read and copied
+1,000 times in a process of its own (`ab_rows`), and what the same process takes without either is taken off. Prints
+microseconds and bytes per second, the best of five runs each, and how many times as long as a copy the reading takes.
+"""
+
+import struct
+import subprocess
+import time
+
+from timing import TOP
+
+PROGRAM = TOP / "crates" / "ab_rows" / "out" / "ab_rows"
+TIMES = 1000
+TAG = b"\x5a" * 32
+SIGNATURE = struct.pack(">H", 2508) + b"\xa5" * 2508
+DIGEST = b"\x3c" * 32
+
+
+def of_replica(code, replica, instance=1):
+    """A content's code, its maker and its instance."""
+    return struct.pack(">BBHI", code, 0, replica, instance)
+
+
+def request(stamp, command):
+    return struct.pack(">HQH", 0, stamp, len(command)) + command
+
+
+def history(length, command):
+    return struct.pack(">H", length) + b"".join(request(1 + i, command) for i in range(length))
+
+
+def chain():
+    """Four tags between positions, and no reply yet."""
+    tags = b"".join(struct.pack(">BHBH", 0, maker, 0, maker + 1) + TAG for maker in range(4))
+    return struct.pack(">BI", 4, 1) + request(1, b"put a 1") + struct.pack(">H", 1) + DIGEST + b"\0\4" + tags
+
+
+def init():
+    """Three signed histories of 100 requests."""
+    aborts = (of_replica(6, maker) + history(100, b"put a 1") + SIGNATURE for maker in range(3))
+    return b"\7\3" + b"".join(aborts)
+
+
+def view_change(maker):
+    """Seventeen entries, each prepared by seven signatures, on a base of 900 requests."""
+    entries = b"\x11" + (struct.pack(">I", 0) + DIGEST) * 17
+    signed = of_replica(10, maker) + struct.pack(">I", 1) + entries + SIGNATURE
+    values = history(900, b"p" * 128) + b"".join(request(901 + i, b"put a 1") for i in range(16))
+    signers = b"\7" + b"".join(struct.pack(">B", by) + SIGNATURE for by in range(7))
+    return signed + values + signers * 17
+
+
+def new_view():
+    """Seven view changes."""
+    return b"\x0c" + of_replica(11, 1) + struct.pack(">I", 1) + TAG + b"\7" + b"".join(view_change(m) for m in range(7))
+
+
+def seconds(mark, message):
+    """What a process takes for the line, the best of five."""
+    line = mark + message.hex().encode() + b"\n"
+    best = float("inf")
+    for _ in range(5):
+        begin = time.perf_counter()
+        done = subprocess.run([PROGRAM], input=line, capture_output=True, check=True)
+        best = min(best, time.perf_counter() - begin)
+        assert done.stdout == b"1 as told, 0 not\n", done.stdout
+    return best
+
+
+def main():
+    if not PROGRAM.exists():
+        subprocess.run(["rt", "run"], cwd=TOP / "crates" / "ab_rows", stdin=subprocess.DEVNULL, check=True)
+    for name, message in (("CHAIN", chain()), ("INIT", init()), ("NEW-VIEW", new_view())):
+        idle = seconds(b"n", message)
+        read, copied = ((seconds(mark, message) - idle) / TIMES for mark in (b"r", b"c"))
+        rates = ", ".join(f"{what} {1e6 * took:.2f} us, {len(message) / took:.3g} bytes/s" for what, took in (("read", read), ("copied", copied)))
+        print(f"{name}, {len(message)} bytes: {rates}, {read / copied:.2f} times a copy")
+
+
+if __name__ == "__main__":
+    main()
