@@ -15,7 +15,7 @@ use Rattle.ab_key_text.specs.declared.fault.NodeFault.{NodeFault}
 use Rattle.ab_key_text.specs.declared.fault.NodeFault.TheVariants.{BadLine, NoEnd}
 use Rattle.ab_key_text.specs.Hex.{bytes_in}
 use Rattle.ab_key_text.specs.Keys.{Secret, PartyKeys, peers_in, replicas}
-use Rattle.ab_key_text.specs.Lines.{line_at, form_in, number_in, party_in, bytes_after, key_in}
+use Rattle.ab_key_text.specs.Lines.{◌>>=◌, line_at, form_in, number_in, party_in, bytes_after, key_in}
 
 -- lines 1 to 7
 pub record Setting : Type 0 where
