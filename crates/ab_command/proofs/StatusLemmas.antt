@@ -14,7 +14,7 @@ use Rattle.ab_replay.specs.Protocols.{Any, any}
 use Rattle.ab_command.specs.declared.status.Bound.TheVariants.{Bytes, Events, Packets}
 use Rattle.ab_command.specs.declared.status.Status.{Status}
 use Rattle.ab_command.specs.declared.status.Status.TheVariants.{Done, Broken, Usage, Refused, ReadFault, WriteFault, LinkFault, Limit, TurnsSpent, OutOfMemory}
-use Rattle.ab_command.specs.Texts.{code_of}
+use Rattle.ab_command.specs.Texts.{code_of, fault_status}
 use Rattle.ab_replay.specs.Streams.{IsAllOf, IsInput, IsTooLong}
 use Rattle.ab_words.specs.declared.command.Command.{Command}
 use Rattle.ab_words.specs.declared.command.Command.TheVariants.{Replay, Keys, Storm, Node}
@@ -26,10 +26,12 @@ use Rattle.ab_io.specs.Causes.{Rose}
 use Rattle.ab_world.specs.declared.fault.WorldFault.{WorldFault}
 use Rattle.ab_world.specs.declared.fault.WorldFault.TheVariants.{PacketLimit}
 use Rattle.ab_world.specs.Worlds.{World, premise_of}
-use Rattle.ab_replay.specs.Replays.{Performs, PerformsAs, IsRefused, RunsTo, proto_of, Runs}
+use Rattle.ab_replay.specs.Replays.{Performs, PerformsAs, IsRefused, ReplayCause, RunsTo, proto_of, Runs}
 use Rattle.ab_replay.proofs.RunLemmas.{one_end}
 use Rattle.ab_kv.specs.KvMachines.{kv_machine}
 use Rattle.ab_replay.specs.declared.refusal.Refusal.{Refusal}
+use Rattle.ab_replay.specs.declared.running.ReplayFault.{ReplayFault}
+use Rattle.ab_replay.specs.declared.running.ReplayFault.TheVariants as replaying
 use Rattle.ab_storm_run.specs.Runs.{Storms}
 use Rattle.ab_command.specs.Statuses.{StatusCause, Says, SaysNoMemoryOn, Settles, HasFront, HasReport, HasSummary, IsToldWhole, KeepsOut, Passes, kv, IsClear, IsClearForKeys, IsClearForStorm, premise_code}
 
@@ -233,6 +235,19 @@ pub settled : (c : Call) (r s : Status) → Settles r s c.err_old c.err_new c.er
 settled c r s (inl (e, said)) make front = subst (λ (x : Status). StatusCause x c) (sym e) (make said)
 settled c r s (inr (inl (e, rose))) make front = subst (λ (x : Status). StatusCause x c) (sym e) (inr rose, front)
 settled c r s (inr (inr (e, says))) make front = subst (λ (x : Status). StatusCause x c) (sym e) (front, says)
+
+fault_said : (c : Call) (fault : ReplayFault) → IsReplay c.words → ReplayCause fault c.left c.read_before c.read_now → KeepsOut c → Says (fault_status fault) c → StatusCause (fault_status fault) c
+fault_said c replaying.Read replay rose kept said = (inl (replay, rose, kept), said)
+fault_said c replaying.TooLong replay long kept said = (inl (replay, long, kept), said)
+fault_said c (replaying.Refused r) replay refused kept said = (inl (replay, refused, kept), said)
+fault_said c replaying.TooManyEvents replay many kept said = (replay, many, kept, said)
+fault_said c replaying.TooManyPackets replay many kept said = (inl (replay, many), kept, said)
+fault_said c replaying.OutOfMemory replay cause kept said = (inl kept, inl said)
+
+-- why a schedule isn't replayed
+pub replay_settled : (c : Call) (r : Status) (fault : ReplayFault) → Settles r (fault_status fault) c.err_old c.err_new c.err_before c.err_now → IsReplay c.words
+    → ReplayCause fault c.left c.read_before c.read_now → KeepsOut c → StatusCause r c
+replay_settled c r fault how replay cause kept = settled c r (fault_status fault) how (fault_said c fault replay cause kept) (inl kept)
 
 -- a storm that passes the limit of bytes
 pub limit_settled : (c : Call) (k : StormCommand) (r : Status) → Settles r (Limit Packets) c.err_old c.err_new c.err_before c.err_now → AsksStorm c.words k → Passes k → KeepsOut c → StatusCause r c

@@ -5,6 +5,8 @@ use Rattle.ab_loop.specs.declared.fault.ServeFault.{ServeFault}
 use Rattle.ab_loop.specs.declared.fault.ServeFault.TheVariants as serving
 use Rattle.ab_node.specs.declared.stop.Stop.{Stop}
 use Rattle.ab_node.specs.declared.stop.Stop.TheVariants as stop
+use Rattle.ab_replay.specs.declared.running.ReplayFault.{ReplayFault}
+use Rattle.ab_replay.specs.declared.running.ReplayFault.TheVariants as replaying
 use Rattle.ab_replay.specs.Refusals.{refusal_text}
 use Rattle.ab_command.specs.declared.status.Bound.TheVariants.{Bytes, Events, Packets}
 use Rattle.ab_command.specs.declared.status.Status.{Status}
@@ -41,6 +43,15 @@ text_of (Limit Events) = codes "limit events\n"
 text_of (Limit Packets) = codes "limit packets\n"
 text_of (TurnsSpent n) = turns_text n
 text_of OutOfMemory = codes "out of memory\n"
+
+-- the status of a schedule that wasn't replayed, by its fault
+abbrev pub fault_status : ReplayFault → Status
+fault_status replaying.Read = ReadFault
+fault_status replaying.TooLong = Limit Bytes
+fault_status (replaying.Refused r) = Refused r
+fault_status replaying.TooManyEvents = Limit Events
+fault_status replaying.TooManyPackets = Limit Packets
+fault_status replaying.OutOfMemory = OutOfMemory
 
 -- the status of a node that was served, by why it stopped
 abbrev pub status_of : ServeFault → Status

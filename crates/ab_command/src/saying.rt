@@ -1,12 +1,12 @@
 //! What is said of how a call ends.
 
 ghost use Rattle.std.specs.Prelude.{◌≡◌, ◌≤◌};
-ghost use Rattle.ab_command.specs.Texts.{text_of};
+ghost use Rattle.ab_command.specs.Texts.{fault_status, text_of};
 ghost use Rattle.ab_command.specs.Statuses.{Settles};
 
-use crate::status::Status;
+use crate::status::{Bound, Status};
 use ab_io::Sink;
-use ab_replay::{Refusal, WriteFault, refusal_line, write_all};
+use ab_replay::{Refusal, ReplayFault, WriteFault, refusal_line, write_all};
 use std::alloc::Global;
 
 /// Writes the text of a status, and gives the status, or that of the fault of writing it.
@@ -31,12 +31,27 @@ pub fn say_no_memory<E: Sink>(err: &mut E) -> Status
 }
 
 /// Says which line is refused.
-pub fn say_refusal<E: Sink>(alloc: Global, err: &mut E, refusal: Refusal) -> Status
+pub(crate) fn say_refusal<E: Sink>(alloc: Global, err: &mut E, refusal: Refusal) -> Status
     ensures status { Settles result (Status.Refused refusal) (E.contents err.old) (E.contents err.new) (E.faults err.old) (E.faults err.new) }
     ensures later { E.faults err.old ≤ E.faults err.new }
 {
     match refusal_line(alloc, refusal) {
         Ok(line) => say(err, line.as_str(), Status::Refused(refusal)),
         Err(_) => say_no_memory(err),
+    }
+}
+
+/// Says why a schedule isn't replayed.
+pub fn say_replay_fault<E: Sink>(alloc: Global, err: &mut E, fault: ReplayFault) -> Status
+    ensures status { Settles result (fault_status fault) (E.contents err.old) (E.contents err.new) (E.faults err.old) (E.faults err.new) }
+    ensures later { E.faults err.old ≤ E.faults err.new }
+{
+    match fault {
+        ReplayFault::Read => say(err, "read fault\n", Status::ReadFault),
+        ReplayFault::TooLong => say(err, "limit bytes\n", Status::Limit(Bound::Bytes)),
+        ReplayFault::Refused(refusal) => say_refusal(alloc, err, refusal),
+        ReplayFault::TooManyEvents => say(err, "limit events\n", Status::Limit(Bound::Events)),
+        ReplayFault::TooManyPackets => say(err, "limit packets\n", Status::Limit(Bound::Packets)),
+        ReplayFault::OutOfMemory => say_no_memory(err),
     }
 }

@@ -8,14 +8,14 @@ ghost use Rattle.ab_command.specs.Commands.{AsksKeys, AsksNode, AsksStorm, IsNod
 ghost use Rattle.ab_command.specs.Statuses.{SaysNoMemoryOn, Settles, StatusCause, HasCauseOf};
 
 use crate::keys::key_text;
-use crate::saying::{say, say_no_memory, say_refusal};
+use crate::saying::{say, say_no_memory, say_refusal, say_replay_fault};
 use crate::status::{Bound, Status, turns_line};
 use ab_io::{Clock, Link, Sink, Source};
 use ab_kv::Kv;
 use ab_loop::ServeFault;
 use ab_node::{Stop, serve_text};
 use ab_receivers::packets_go_to_parties;
-use ab_replay::{AnyProtocol, ReplayFault, WriteFault, replay, write_all};
+use ab_replay::{AnyProtocol, WriteFault, replay, write_all};
 use ab_storm_run::{StormFault, storm};
 use ab_text::one_reading;
 use ab_words::{Command, KeysCommand, NodeCommand, StormCommand, command_in};
@@ -55,18 +55,7 @@ fn serve_replay<I: Source, O: Sink, E: Sink>(
 {
     let replayed = match replay(alloc, input) {
         Ok(replayed) => replayed,
-        Err(ReplayFault::Read) => return say(err, "read fault\n", Status::ReadFault),
-        Err(ReplayFault::TooLong) => {
-            return say(err, "limit bytes\n", Status::Limit(Bound::Bytes));
-        }
-        Err(ReplayFault::Refused(refusal)) => return say_refusal(alloc, err, refusal),
-        Err(ReplayFault::TooManyEvents) => {
-            return say(err, "limit events\n", Status::Limit(Bound::Events));
-        }
-        Err(ReplayFault::TooManyPackets) => {
-            return say(err, "limit packets\n", Status::Limit(Bound::Packets));
-        }
-        Err(ReplayFault::OutOfMemory) => return say_no_memory(err),
+        Err(fault) => return say_replay_fault(alloc, err, fault),
     };
     match write_all(out, replayed.report.as_slice()) {
         Ok(()) => done(replayed.held),

@@ -8,8 +8,8 @@ use Rattle.ab_replay.specs.Replays.{ReplayCause}
 use Rattle.ab_command.specs.declared.status.Status.{Status}
 use Rattle.ab_command.specs.declared.status.Status.TheVariants as status
 use Rattle.ab_command.specs.Statuses.{Settles}
-use Rattle.ab_command.specs.Texts.{text_of}
-use Rattle.ab_draw.specs.Endings.{DrawCause, HasFront, IsAlone, Met, Says, SettlesUsage, status_of}
+use Rattle.ab_command.specs.Texts.{fault_status, text_of}
+use Rattle.ab_draw.specs.Endings.{DrawCause, HasFront, IsAlone, Met, Says, SettlesUsage}
 
 -- it has its cause, where it has it once it is said
 settled : (m : Met) (r s : Status) → Settles r s m.err_old m.err_new m.err_before m.err_now → (Says (text_of s) m → DrawCause s m) → HasFront m → DrawCause r m
@@ -17,7 +17,7 @@ settled m r s (inl (e, said)) make front = subst (λ (x : Status). DrawCause x m
 settled m r s (inr (inl (e, rose))) make front = subst (λ (x : Status). DrawCause x m) (sym e) (inr rose, front)
 settled m r s (inr (inr (e, says))) make front = subst (λ (x : Status). DrawCause x m) (sym e) (front, inl says)
 
-fault_said : (m : Met) (fault : ReplayFault) → IsAlone m → ReplayCause fault m.left m.read_before m.read_now → Keeps m.out_old m.out_new → Says (text_of (status_of fault)) m → DrawCause (status_of fault) m
+fault_said : (m : Met) (fault : ReplayFault) → IsAlone m → ReplayCause fault m.left m.read_before m.read_now → Keeps m.out_old m.out_new → Says (text_of (fault_status fault)) m → DrawCause (fault_status fault) m
 fault_said m Read alone rose kept said = (alone, rose, (kept, said))
 fault_said m TooLong alone long kept said = (alone, long, (kept, said))
 fault_said m (Refused r) alone refused kept said = ((alone, refused), (kept, said))
@@ -26,9 +26,9 @@ fault_said m TooManyPackets alone many kept said = ((alone, many), (kept, said))
 fault_said m OutOfMemory alone cause kept said = (inl kept, inl (inl said))
 
 -- why there is no picture
-pub fault_settled : (m : Met) (r : Status) (fault : ReplayFault) → Settles r (status_of fault) m.err_old m.err_new m.err_before m.err_now → IsAlone m
+pub fault_settled : (m : Met) (r : Status) (fault : ReplayFault) → Settles r (fault_status fault) m.err_old m.err_new m.err_before m.err_now → IsAlone m
     → ReplayCause fault m.left m.read_before m.read_now → Keeps m.out_old m.out_new → DrawCause r m
-fault_settled m r fault how alone cause kept = settled m r (status_of fault) how (fault_said m fault alone cause kept) (inl kept)
+fault_settled m r fault how alone cause kept = settled m r (fault_status fault) how (fault_said m fault alone cause kept) (inl kept)
 
 -- a fault of out
 pub write_settled : (m : Met) (r : Status) → Settles r status.WriteFault m.err_old m.err_new m.err_before m.err_now → Rose m.out_before m.out_now → HasFront m → DrawCause r m

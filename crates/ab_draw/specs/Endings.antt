@@ -2,8 +2,6 @@
 use Rattle.std.specs.Prelude.{◌≡◌, ℕ, Bool, false, IsTrue, List, Option, ◌⊎◌, codes}
 use Rattle.std.specs.Io.KnownBytes.{Appends, Keeps}
 use Rattle.ab_io.specs.Causes.{Rose}
-use Rattle.ab_replay.specs.declared.running.ReplayFault.{ReplayFault}
-use Rattle.ab_replay.specs.declared.running.ReplayFault.TheVariants as replaying
 use Rattle.ab_replay.specs.Replays.{IsRefused, HasTooManyEvents, HasTooManyBytes}
 use Rattle.ab_replay.specs.Streams.{IsInput, IsTooLong, AppendsFront, AppendsPart}
 use Rattle.ab_command.specs.declared.status.Bound.TheVariants.{Bytes, Events, Packets}
@@ -16,15 +14,6 @@ use Rattle.ab_draw.specs.Draws.{Draws}
 -- what is said where there are words
 abbrev pub usage_text : List ℕ
 usage_text = codes "usage: draw < SCHEDULE > PICTURE\n"
-
--- the status of a fault
-abbrev pub status_of : ReplayFault → Status
-status_of replaying.Read = ReadFault
-status_of replaying.TooLong = Limit Bytes
-status_of (replaying.Refused r) = Refused r
-status_of replaying.TooManyEvents = Limit Events
-status_of replaying.TooManyPackets = Limit Packets
-status_of replaying.OutOfMemory = OutOfMemory
 
 -- what a call met: whether there were words, what was left of the input, what out and err held before and after, and the counts of
 -- faults before and after

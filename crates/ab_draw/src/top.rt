@@ -1,13 +1,12 @@
 //! What the program does.
 
 ghost use Rattle.std.specs.Prelude.{◌≡◌, IsTrue};
-ghost use Rattle.ab_command.specs.Statuses.{Settles};
-ghost use Rattle.ab_draw.specs.Endings.{DrawCause, SettlesUsage, status_of};
+ghost use Rattle.ab_draw.specs.Endings.{DrawCause, SettlesUsage};
 
 use crate::drawing::draw;
-use ab_command::{Bound, Status, say, say_no_memory, say_refusal};
+use ab_command::{Status, say, say_no_memory, say_replay_fault};
 use ab_io::{Sink, Source};
-use ab_replay::{ReplayFault, WriteFault, write_all};
+use ab_replay::{WriteFault, write_all};
 use std::alloc::Global;
 
 const USAGE: &str = "usage: draw < SCHEDULE > PICTURE\n";
@@ -20,20 +19,6 @@ fn say_usage<E: Sink>(err: &mut E) -> Status
         Ok(()) => Status::Usage,
         Err(WriteFault::Failed) => Status::WriteFault,
         Err(WriteFault::OutOfMemory) => Status::OutOfMemory,
-    }
-}
-
-/// Says why there is no picture.
-fn say_fault<E: Sink>(alloc: Global, err: &mut E, fault: ReplayFault) -> Status
-    ensures { Settles result (status_of fault) (E.contents err.old) (E.contents err.new) (E.faults err.old) (E.faults err.new) }
-{
-    match fault {
-        ReplayFault::Read => say(err, "read fault\n", Status::ReadFault),
-        ReplayFault::TooLong => say(err, "limit bytes\n", Status::Limit(Bound::Bytes)),
-        ReplayFault::Refused(refusal) => say_refusal(alloc, err, refusal),
-        ReplayFault::TooManyEvents => say(err, "limit events\n", Status::Limit(Bound::Events)),
-        ReplayFault::TooManyPackets => say(err, "limit packets\n", Status::Limit(Bound::Packets)),
-        ReplayFault::OutOfMemory => say_no_memory(err),
     }
 }
 
@@ -66,7 +51,7 @@ pub fn serve<I: Source, O: Sink, E: Sink>(
     }
     let text = match draw(alloc, input) {
         Ok(text) => text,
-        Err(fault) => return say_fault(alloc, err, fault),
+        Err(fault) => return say_replay_fault(alloc, err, fault),
     };
     match write_all(out, text.as_slice()) {
         Ok(()) => Status::Done,

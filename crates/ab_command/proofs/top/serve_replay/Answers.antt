@@ -1,7 +1,13 @@
 use Rattle.std.proofs.Common.{List, ℕ, subst, rules}
 use Rattle.std.specs.Io.KnownBytes.{Appends, Keeps}
-use Rattle.ab_command.proofs.StatusLemmas.{report_written}
+use Rattle.ab_command.proofs.StatusLemmas.{replay_settled, report_written}
 use Rattle.ab_command.proofs.top.serve_replay.Goals as goal
+
+pub returns-in-Err : goal.returns-in-Err
+returns-in-Err g c =
+    let out = g.O.Sink.contents c.args.out.now in
+    let kept : Keeps out out = search rules in
+    record { cause = λ words network is. replay_settled _ c.say_replay_fault.result c.in-Err.fault c.say_replay_fault.ensures.status is c.in-Err.ensures.cause kept }
 
 pub returns-in-Ok-write_all : goal.returns-in-Ok-write_all
 returns-in-Ok-write_all g c =

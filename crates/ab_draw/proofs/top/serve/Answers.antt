@@ -15,7 +15,7 @@ pub returns-in-Err-clause-cause : goal.returns-in-Err-clause-cause
 returns-in-Err-clause-cause g c =
     let out = g.O.Sink.contents c.args.out.now in
     let kept : Keeps out out = search rules in
-    fault_settled _ c.say_fault.result c.in-Err.fault c.say_fault.ensures c.if-is_called_with_words.false c.in-Err.ensures.cause kept
+    fault_settled _ c.say_replay_fault.result c.in-Err.fault c.say_replay_fault.ensures.status c.if-is_called_with_words.false c.in-Err.ensures.cause kept
 
 pub returns-in-Ok-write_all-clause-cause : goal.returns-in-Ok-write_all-clause-cause
 returns-in-Ok-write_all-clause-cause g c =
