@@ -11,3 +11,6 @@ mod parts;
 mod whole;
 
 pub use whole::svg;
+
+#[cfg(test)]
+mod tests;
