@@ -2,18 +2,19 @@
 """Times the reading of three messages beside a plain copy of their bytes: a CHAIN, an INIT, and a NEW-VIEW of three million bytes.
 
 The bytes are of the grammar, with tags and signatures that nobody made: reading looks at none. Each message is read and copied
-1,000 times in a process of its own (`ab_rows`), and what the same process takes without either is taken off. Prints
-microseconds and bytes per second, the best of five runs each, and how many times as long as a copy the reading takes.
+10,000 times for each of its lines in a process of its own (`ab_rows`), and the processor time that the same process takes without
+either is taken off. Prints microseconds and bytes per second, the best of five runs each, and how many times as long as a copy the
+reading takes.
 """
 
+import resource
 import struct
 import subprocess
-import time
 
 from timing import TOP
 
 PROGRAM = TOP / "crates" / "ab_rows" / "out" / "ab_rows"
-TIMES = 1000
+TIMES = 10_000
 TAG = b"\x5a" * 32
 SIGNATURE = struct.pack(">H", 2508) + b"\xa5" * 2508
 DIGEST = b"\x3c" * 32
@@ -58,24 +59,30 @@ def new_view():
     return b"\x0c" + of_replica(11, 1) + struct.pack(">I", 1) + TAG + b"\7" + b"".join(view_change(m) for m in range(7))
 
 
-def seconds(mark, message):
-    """What a process takes for the line, the best of five."""
-    line = mark + message.hex().encode() + b"\n"
+def processor_time():
+    """What the processes that ended took so far."""
+    used = resource.getrusage(resource.RUSAGE_CHILDREN)
+    return used.ru_utime + used.ru_stime
+
+
+def seconds(mark, message, lines):
+    """The processor time of a process for so many lines, the best of five."""
+    text = (mark + message.hex().encode() + b"\n") * lines
     best = float("inf")
     for _ in range(5):
-        begin = time.perf_counter()
-        done = subprocess.run([PROGRAM], input=line, capture_output=True, check=True)
-        best = min(best, time.perf_counter() - begin)
-        assert done.stdout == b"1 as told, 0 not\n", done.stdout
+        begin = processor_time()
+        done = subprocess.run([PROGRAM], input=text, capture_output=True, check=True)
+        best = min(best, processor_time() - begin)
+        assert done.stdout == b"%d as told, 0 not\n" % lines, done.stdout
     return best
 
 
 def main():
     if not PROGRAM.exists():
         subprocess.run(["rt", "run"], cwd=TOP / "crates" / "ab_rows", stdin=subprocess.DEVNULL, check=True)
-    for name, message in (("CHAIN", chain()), ("INIT", init()), ("NEW-VIEW", new_view())):
-        idle = seconds(b"n", message)
-        read, copied = ((seconds(mark, message) - idle) / TIMES for mark in (b"r", b"c"))
+    for name, message, lines in (("CHAIN", chain(), 300), ("INIT", init(), 30), ("NEW-VIEW", new_view(), 1)):
+        idle = seconds(b"n", message, lines)
+        read, copied = ((seconds(mark, message, lines) - idle) / (TIMES * lines) for mark in (b"r", b"c"))
         rates = ", ".join(f"{what} {1e6 * took:.2f} us, {len(message) / took:.3g} bytes/s" for what, took in (("read", read), ("copied", copied)))
         print(f"{name}, {len(message)} bytes: {rates}, {read / copied:.2f} times a copy")
 

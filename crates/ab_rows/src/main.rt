@@ -1,5 +1,5 @@
 //! Reads lines of a mark and hexadecimal bytes. Where the mark is a digit it tells whether the bytes give another answer: 0 is a
-//! message, which is also owned and written again, and 1 to 5 the first defect. `r` reads the bytes 1,000 times and `c` copies
+//! message, which is also owned and written again, and 1 to 5 the first defect. `r` reads the bytes 10,000 times and `c` copies
 //! them as often, for a script that takes the time; `n` does neither.
 #![tactic(auto)]
 
@@ -12,7 +12,7 @@ use std::alloc::Global;
 use std::io;
 
 /// How often the bytes of a line are read or copied.
-const TIMES: u32 = 1000;
+const TIMES: u32 = 10000;
 
 fn digit(c: u8) -> u8 {
     match c {
