@@ -1,4 +1,4 @@
-use Rattle.std.proofs.Common.{◌≤◌, ◌<◌, ◌+◌, ◌*◌, length, arith}
+use Rattle.std.proofs.Common.{◌+◌, length, arith}
 use Rattle.ab_size.proofs.SizeLemmas.{each_more, one_fits}
 use Rattle.ab_size.proofs.measured.size_each.Goals as goal
 
