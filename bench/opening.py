@@ -6,6 +6,7 @@ these deliveries is taken off, so what is left is opening, with tags checked and
 a step of the party that changes nothing. Prints microseconds and bytes per second for each, the best of five runs by processor time.
 """
 
+import bisect
 import subprocess
 import sys
 
@@ -68,7 +69,8 @@ def init():
 
 
 def new_view():
-    """Three view changes with sixteen requests each that are prepared on a base, each entry with three signatures."""
+    """Three view changes with sixteen requests each that are prepared on a base, each entry with three signatures. The new primary
+    sends it as soon as enough of the replicas' view changes came, which is found by halving."""
     made = begun()
     base = made.requests
     made.invoke()
@@ -76,13 +78,11 @@ def new_view():
         made.deliver(packets_of(made.lines) - made.delivered)
     made.delivered = packets_of(made.lines)
     made.lines.extend(f"timeout r{replica}" for replica in range(4))
-    while True:
-        before = packets_of(made.lines)
-        made.deliver(1)
-        if packets_of(made.lines) - before >= 3:
-            break
+    before = packets_of(made.lines)
+    changes = [f"deliver {packet}" for packet in range(made.delivered + 1, before + 1)]
+    enough = bisect.bisect_left(range(len(changes)), True, key=lambda k: packets_of(made.lines + changes[:k]) > before)
     packet = before + 1
-    made.lines.append(f"deliver {packet}")
+    made.lines += [*changes[:enough], f"deliver {packet}"]
     commands = [f"put k{r % 16} v{r + 1}" for r in range(made.requests)]
     view_change = 1 + 3 + 4 + 4 + 1 + 17 * 36 + SIGNATURE + 2 + of_requests(commands) + 17 * (1 + 3 * (1 + SIGNATURE))
     tell(f"NEW-VIEW on a base of {base} requests", 1 + 12 + 32 + 1 + 3 * view_change, made.lines, packet)

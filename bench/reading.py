@@ -1,5 +1,6 @@
 #!/usr/bin/env python3
-"""Times the reading of three messages beside a plain copy of their bytes: a CHAIN, an INIT, and a NEW-VIEW of three million bytes.
+"""Times the reading of three messages beside a plain copy of their bytes: a CHAIN, an INIT of histories with one request and
+with 100, and a NEW-VIEW of three million bytes.
 
 The bytes are of the grammar, with tags and signatures that nobody made: reading looks at none. Each message is read and copied
 10,000 times for each of its lines in a process of its own (`ab_rows`), and the processor time that the same process takes without
@@ -39,9 +40,9 @@ def chain():
     return struct.pack(">BI", 4, 1) + request(1, b"put a 1") + struct.pack(">H", 1) + DIGEST + b"\0\4" + tags
 
 
-def init():
-    """Three signed histories of 100 requests."""
-    aborts = (of_replica(6, maker) + history(100, b"put a 1") + SIGNATURE for maker in range(3))
+def init(length):
+    """Three signed histories of so many requests."""
+    aborts = (of_replica(6, maker) + history(length, b"put a 1") + SIGNATURE for maker in range(3))
     return b"\7\3" + b"".join(aborts)
 
 
@@ -80,7 +81,8 @@ def seconds(mark, message, lines):
 def main():
     if not PROGRAM.exists():
         subprocess.run(["rt", "run"], cwd=TOP / "crates" / "ab_rows", stdin=subprocess.DEVNULL, check=True)
-    for name, message, lines in (("CHAIN", chain(), 300), ("INIT", init(), 30), ("NEW-VIEW", new_view(), 1)):
+    messages = (("CHAIN", chain(), 300), ("INIT", init(1), 30), ("INIT", init(100), 30), ("NEW-VIEW", new_view(), 1))
+    for name, message, lines in messages:
         idle = seconds(b"n", message, lines)
         read, copied = ((seconds(mark, message, lines) - idle) / (TIMES * lines) for mark in (b"r", b"c"))
         rates = ", ".join(f"{what} {1e6 * took:.2f} us, {len(message) / took:.3g} bytes/s" for what, took in (("read", read), ("copied", copied)))
