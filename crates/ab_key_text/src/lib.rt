@@ -23,6 +23,3 @@ pub use laws::{keys_are_whole, spelled_is_read, written_is_read};
 pub use node::{Commands, read_node};
 pub use parts::party_in;
 pub use secret::Secret;
-
-#[cfg(test)]
-mod tests;

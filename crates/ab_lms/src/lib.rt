@@ -14,6 +14,3 @@ pub use public::public_key;
 pub use signer::{SignFault, Signer, signature_verifies};
 pub use tree::Tree;
 pub use verification::verify;
-
-#[cfg(test)]
-mod tests;

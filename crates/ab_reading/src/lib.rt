@@ -6,6 +6,3 @@ mod change;
 mod reading;
 
 pub use reading::read;
-
-#[cfg(test)]
-mod tests;

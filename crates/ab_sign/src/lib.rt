@@ -15,6 +15,3 @@ pub use pen::Pen;
 pub use secret::SecretKey;
 pub use signers::Signers;
 pub use verifier::Verifier;
-
-#[cfg(test)]
-mod tests;

@@ -33,6 +33,3 @@ pub use reading::{
 };
 pub use report::{party_string, write_end, write_log, write_premise, write_seen};
 pub use schedule::{Head, Schedule};
-
-#[cfg(test)]
-mod tests;

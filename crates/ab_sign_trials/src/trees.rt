@@ -1,6 +1,6 @@
 //! Keys and signatures that others made.
 
-use crate::{SignFault, Signer, public_key, verify};
+use ab_lms::{SignFault, Signer, public_key, verify};
 use ab_mac::hash;
 use ab_num::Height;
 use std::test::Fail;

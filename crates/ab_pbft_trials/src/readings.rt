@@ -1,6 +1,6 @@
 //! What messages tell, with one faulty replica of four.
 
-use super::*;
+use ab_reading::read;
 use ab_hist::{History, Request};
 use ab_msg::{
     AbortCert, Content, Msg, NO_TAG, Offer, Prepares, Proof, Proofs, Sig, Signed, SlotPrepares,

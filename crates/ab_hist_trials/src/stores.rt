@@ -1,6 +1,6 @@
 //! The store, through the trait.
 
-use super::*;
+use ab_kv::Kv;
 use ab_hist::Request;
 use ab_num::OutOfMemory;
 use ab_svc::{Reply, Service};

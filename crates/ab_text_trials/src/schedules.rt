@@ -2,7 +2,7 @@
 
 ghost use Rattle.std.specs.Prelude.{◌≡◌, ◌<◌, ◌^◌};
 
-use crate::{
+use ab_text::{
     Breach, Cause, Core, Event, Items, Line, Premise, TextFault, fault_is_first, one_reading,
     read_is_in_form, read_is_spelled, read_schedule, spelled_is_read, write_end, write_log,
     write_premise, write_seen,

@@ -1,6 +1,6 @@
 //! Key texts that another implementation made, and the faults of altered ones.
 
-use crate::{KeyFault, NodeFault, PartyKeys, read_node};
+use ab_key_text::{KeyFault, NodeFault, PartyKeys, read_node};
 use ab_keys::{KeyRing, is_party};
 use ab_num::{Cluster, Height, Party, Plan, ServiceName};
 use std::test::Fail;

@@ -1,6 +1,6 @@
 //! Values from another implementation of SHA-256, and what happens at the bounds of a history.
 
-use super::*;
+use ab_hist::{History, PushFault, Request};
 use arrayvec::ArrayVec;
 use std::test::Fail;
 

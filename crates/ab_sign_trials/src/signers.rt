@@ -1,6 +1,6 @@
 //! A replica signs, and another finds it right.
 
-use crate::{Pen, SecretKey, SignKey, Signers, Verifier};
+use ab_sign::{Pen, SecretKey, SignKey, Signers, Verifier};
 use ab_check::Checker;
 use ab_keys::KeyRing;
 use ab_lms::verify;
