@@ -7,7 +7,7 @@ use Rattle.ab_abs.proofs.Counting.{Contains-head}
 use Rattle.ab_lock.specs.Steps.{Cert, Entry, Change, Step, signs, prepares, changes, cert_at, state_of, entry_of, Lists, IsChosen, Follows}
 use Rattle.ab_lock.specs.Quorums.{IsOlder, AreReplicas}
 use Rattle.ab_lock.specs.Acts.{Content, Prepare, Commit, ViewChange, WasMade, Knows, its_own, KnowsQuorum, KnowsChanges, Backs, made}
-use Rattle.ab_lock.specs.Promises.{MeetsPremises}
+use Rattle.ab_lock.specs.Promises.{LockPremises}
 use Rattle.ab_lock.specs.SmallActs.{digest, goes, may_stand, cert, change, first_view, second_view, small_acts}
 use Rattle.ab_abs.proofs.Lists.{Contains-cons_cases}
 use Rattle.ab_abs.proofs.Statements.{none_of}
@@ -121,7 +121,7 @@ rests =
     all_in Rests second_view
     (many (λ q. Commit q 1 0 7) committed_1, (prepared_rests 1 signed_1, (tt, (changes_rest, (tt, (prepared_rests 0 signed_0, (tt, (refl, tt))))))))
 
-pub met : MeetsPremises digest may_stand goes 1 0 [] small_acts
+pub met : LockPremises digest may_stand goes 1 0 [] small_acts
 met = record {
   few = omega arith;
   honest = ((λ c is ok. absurd (none_of c is)), tt);

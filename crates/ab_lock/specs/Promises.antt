@@ -8,7 +8,7 @@ use Rattle.ab_lock.specs.Quorums.{IsCorrect, IsCommitted, Lock, NoCollision}
 use Rattle.ab_lock.specs.Acts.{Act, steps_of, IsHonest, AreLawful}
 
 -- the acts of one instance whose values in slot n are those that may_stand n allows
-pub record MeetsPremises {V X : Type 0} (digest : V → X) (may_stand : ℕ → V → Bool) (goes : List V → V → Bool) (k f : ℕ) (faulty : List Party) (acts : List (Act V X)) : Type 0 where
+pub record LockPremises {V X : Type 0} (digest : V → X) (may_stand : ℕ → V → Bool) (goes : List V → V → Bool) (k f : ℕ) (faulty : List Party) (acts : List (Act V X)) : Type 0 where
   pub few : count_by is_replica faulty ≤ f
   pub honest : IsHonest digest faulty acts
   pub lawful : AreLawful digest f (λ n value. IsTrue (may_stand n value)) goes k acts

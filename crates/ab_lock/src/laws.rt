@@ -4,24 +4,24 @@ ghost use Rattle.std.specs.Prelude.{◌≡◌, ℕ, suc, ◌*◌, Bool, None, Li
 ghost use Rattle.ab_num.specs.declared.party.Party.{Party};
 ghost use Rattle.ab_lock.specs.Steps.{Step, state_of, Follows};
 ghost use Rattle.ab_lock.specs.Acts.{Act};
-ghost use Rattle.ab_lock.specs.Promises.{MeetsPremises, ViewsLock, ExecutedAgree, ExecutedMayStand};
+ghost use Rattle.ab_lock.specs.Promises.{LockPremises, ViewsLock, ExecutedAgree, ExecutedMayStand};
 ghost use Rattle.ab_lock.specs.Votes.{Vote, next, settled};
 ghost use Rattle.ab_lock.specs.Events.{state_by, votes_by, commits_by};
 
 /// Where f + 1 correct replicas prepared a value in a slot, each certificate of that view or a later
 /// one for the slot has it.
 pub fn views_lock<V, X>()
-    ensures { (digest : V → X) (may_stand : ℕ → V → Bool) (goes : List V → V → Bool) (k f : ℕ) (faulty : List Party) (acts : List (Act V X)) → MeetsPremises digest may_stand goes k f faulty acts → ViewsLock f faulty acts digest }
+    ensures { (digest : V → X) (may_stand : ℕ → V → Bool) (goes : List V → V → Bool) (k f : ℕ) (faulty : List Party) (acts : List (Act V X)) → LockPremises digest may_stand goes k f faulty acts → ViewsLock f faulty acts digest }
 {}
 
 /// Of what two correct replicas executed one begins the other.
 pub fn executed_lists_agree<V, X>()
-    ensures { (digest : V → X) (may_stand : ℕ → V → Bool) (goes : List V → V → Bool) (k f : ℕ) (faulty : List Party) (acts : List (Act V X)) → MeetsPremises digest may_stand goes k f faulty acts → ExecutedAgree f faulty acts }
+    ensures { (digest : V → X) (may_stand : ℕ → V → Bool) (goes : List V → V → Bool) (k f : ℕ) (faulty : List Party) (acts : List (Act V X)) → LockPremises digest may_stand goes k f faulty acts → ExecutedAgree f faulty acts }
 {}
 
 /// Each value that a correct replica executed in a slot is one that may stand there.
 pub fn executed_values_may_stand<V, X>()
-    ensures { (digest : V → X) (may_stand : ℕ → V → Bool) (goes : List V → V → Bool) (k f : ℕ) (faulty : List Party) (acts : List (Act V X)) → MeetsPremises digest may_stand goes k f faulty acts → ExecutedMayStand f faulty acts may_stand }
+    ensures { (digest : V → X) (may_stand : ℕ → V → Bool) (goes : List V → V → Bool) (k f : ℕ) (faulty : List Party) (acts : List (Act V X)) → LockPremises digest may_stand goes k f faulty acts → ExecutedMayStand f faulty acts may_stand }
 {}
 
 /// A replica that goes on by itself keeps to the rules, whatever votes it has; and after 3 (k + 1) + 1
