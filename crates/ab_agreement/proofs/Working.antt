@@ -7,8 +7,8 @@ use Rattle.ab_order.specs.Inputs.{Input}
 use Rattle.ab_pbft.specs.Rules as rules
 use Rattle.ab_pbft.specs.Rules.{idle, work, done_by}
 use Rattle.ab_slots.specs.declared.deed.Deed.{Deed}
-use Rattle.ab_slots.specs.declared.turn.Turn.{Turn}
-use Rattle.ab_slots.specs.Turns.{memory_of, Shows, Does}
+use Rattle.ab_turn.specs.declared.turn.Turn.{Turn}
+use Rattle.ab_turn.specs.Turns.{memory_of, Shows, Does}
 use Rattle.ab_shelf.specs.declared.signer.Signer.{Signer}
 use Rattle.ab_shelf.specs.Shelves.{Shelf}
 use Rattle.ab_shelf.specs.Posts.{Post, posts_all, signings}

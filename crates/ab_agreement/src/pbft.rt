@@ -2,7 +2,8 @@
 
 ghost use Rattle.std.specs.Prelude.{◌≡◌, ◌+◌, ◌<◌, ◌≤◌, IfOk, IsErrOf};
 ghost use Rattle.ab_msg.specs.Pens.{moved};
-ghost use Rattle.ab_slots.specs.Turns.{input_of, memory_of};
+ghost use Rattle.ab_slots.specs.Inputs.{input_of};
+ghost use Rattle.ab_turn.specs.Turns.{memory_of};
 ghost use Rattle.ab_shelf.specs.Signing.{signer_of, is_leaving, leavings};
 ghost use Rattle.ab_agreement.specs.Events.{next_of, post_of, signs_of};
 
@@ -13,7 +14,8 @@ use ab_hist::History;
 use ab_msg::{Notary, Outs};
 use ab_num::{Cluster, OutOfMemory};
 use ab_shelf::{Shelf, Signer};
-use ab_slots::{Deed, Input, Memory, Seat, Turn};
+use ab_slots::{Deed, Input};
+use ab_turn::{Memory, Seat, Turn};
 use ab_wire::MsgRef;
 use std::alloc::Global;
 use std::marker::Model;
@@ -33,7 +35,7 @@ pub struct Pbft {
 
 impl Model for Pbft {
     ghost use Rattle.std.specs.Prelude.{◌≤◌};
-    ghost use Rattle.ab_slots.specs.Turns.{memory_of, seat_of};
+    ghost use Rattle.ab_turn.specs.Turns.{memory_of, seat_of};
     ghost use Rattle.ab_shelf.specs.Signing.{Signing};
 
     ghost Value = { Signing };

@@ -7,7 +7,7 @@ ghost use Rattle.ab_msg.specs.declared.message.Msg.TheVariants as msg;
 ghost use Rattle.ab_wire.specs.Views.{IsReceived, message};
 ghost use Rattle.ab_abs.specs.Messages.{took};
 ghost use Rattle.ab_order.specs.Readings.{read_message};
-ghost use Rattle.ab_slots.specs.Turns.{input_of};
+ghost use Rattle.ab_slots.specs.Inputs.{input_of};
 ghost use Rattle.ab_shelf.specs.Signing.{puts};
 
 use ab_msg::{Msg, Proof, Signed, Tags};

@@ -1,7 +1,7 @@
 //! The store, through the trait.
 
-use ab_kv::Kv;
 use ab_hist::Request;
+use ab_kv::Kv;
 use ab_num::OutOfMemory;
 use ab_svc::{Reply, Service};
 use arrayvec::ArrayVec;

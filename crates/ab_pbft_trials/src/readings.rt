@@ -1,12 +1,12 @@
 //! What messages tell, with one faulty replica of four.
 
-use ab_reading::read;
 use ab_hist::{History, Request};
 use ab_msg::{
     AbortCert, Content, Msg, NO_TAG, Offer, Prepares, Proof, Proofs, Sig, Signed, SlotPrepares,
     Value, Values, ViewEntries,
 };
 use ab_num::{Cluster, OutOfMemory, Party, Plan};
+use ab_reading::read;
 use ab_slots::Input;
 use arrayvec::ArrayVec;
 use std::alloc::Global;

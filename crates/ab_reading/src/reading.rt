@@ -2,7 +2,7 @@
 
 ghost use Rattle.std.specs.Prelude.{◌≡◌, IfOk};
 ghost use Rattle.ab_order.specs.Readings.{change_of, read_base, read_change, read_commit, read_message, read_new_view, read_offer, read_pre_prepare, read_prepare, read_request};
-ghost use Rattle.ab_slots.specs.Turns.{input_of};
+ghost use Rattle.ab_slots.specs.Inputs.{input_of};
 
 use crate::certificate::base_offered;
 use crate::change::{change_of, changes_of, is_ours};

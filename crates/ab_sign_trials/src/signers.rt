@@ -1,12 +1,12 @@
 //! A replica signs, and another finds it right.
 
-use ab_sign::{Pen, SecretKey, SignKey, Signers, Verifier};
 use ab_check::Checker;
 use ab_keys::KeyRing;
 use ab_lms::verify;
 use ab_mac::hash;
 use ab_msg::{Content, Notary};
 use ab_num::{Cluster, Height, Party, Plan};
+use ab_sign::{Pen, SecretKey, SignKey, Signers, Verifier};
 use ab_write::content_bytes;
 use std::test::Fail;
 

@@ -6,7 +6,3 @@ pub mod WaitingLemmas
 pub mod CertLemmas
 pub mod ChosenLemmas
 pub mod ApartLemmas
-pub mod TurnLemmas
-pub mod SettleLemmas
-pub mod StepLemmas
-pub mod RuleLemmas

@@ -44,11 +44,7 @@ fn pad(certs: &mut Vec<Option<Cert>>, t: usize) -> Result<(), OutOfMemory>
 
 /// Keeps a certificate for slot `t`.
 #[tactic(auto, using(crate::proofs::CertLemmas::cert_end, crate::proofs::CertLemmas::cert_in))]
-pub(crate) fn set_cert(
-    certs: &mut Vec<Option<Cert>>,
-    t: usize,
-    cert: Cert,
-) -> Result<(), OutOfMemory>
+pub fn set_cert(certs: &mut Vec<Option<Cert>>, t: usize, cert: Cert) -> Result<(), OutOfMemory>
     ensures { OnOk result (certs.new.items ≡ set_cert t cert certs.old.items) }
 {
     pad(certs, t)?;
@@ -61,11 +57,7 @@ pub(crate) fn set_cert(
 }
 
 /// The certificates from slot 0 on, at most so many.
-pub(crate) fn front(
-    alloc: Global,
-    certs: &[Option<Cert>],
-    most: usize,
-) -> Result<Vec<Cert>, OutOfMemory>
+pub fn front(alloc: Global, certs: &[Option<Cert>], most: usize) -> Result<Vec<Cert>, OutOfMemory>
     ensures { IfOk result (λ v. v.items ≡ certs_from (cert_of_slot certs.now) most 0) }
 {
     let mut front = Vec::new(alloc);
@@ -82,7 +74,7 @@ pub(crate) fn front(
 }
 
 /// What a VIEW-CHANGE signs of certificates.
-pub(crate) fn entries_of(alloc: Global, certs: &[Cert]) -> Result<ViewEntries, OutOfMemory>
+pub fn entries_of(alloc: Global, certs: &[Cert]) -> Result<ViewEntries, OutOfMemory>
     ensures { IfOk result (λ e. e ≡ map (λ c. (c.at, digest_of_slot c.value)) certs.now) }
 {
     let mut entries = Vec::with_capacity(alloc, certs.len())?;
@@ -106,10 +98,7 @@ fn copy_cert(alloc: Global, cert: &Option<Cert>) -> Result<Option<Cert>, OutOfMe
 }
 
 /// The same certificates.
-pub(crate) fn copy_certs(
-    alloc: Global,
-    certs: &[Option<Cert>],
-) -> Result<Vec<Option<Cert>>, OutOfMemory>
+pub fn copy_certs(alloc: Global, certs: &[Option<Cert>]) -> Result<Vec<Option<Cert>>, OutOfMemory>
     ensures { IfOk result (λ v. v.items ≡ certs.now) }
 {
     let mut copies = Vec::with_capacity(alloc, certs.len())?;

@@ -87,7 +87,7 @@ fn choose_next(alloc: Global, chosen: &mut Slots, changes: &[Change]) -> Result<
 
 /// The values of slots 0 to `k` that VIEW-CHANGEs choose, up to the first slot without a certificate or whose value may
 /// not follow.
-pub(crate) fn chosen(alloc: Global, k: u8, changes: &[Change]) -> Result<Slots, OutOfMemory>
+pub fn chosen(alloc: Global, k: u8, changes: &[Change]) -> Result<Slots, OutOfMemory>
     ensures { IfOk result (λ s. s ≡ chosen_of goes k changes.now) }
 {
     let mut chosen = Slots::new(alloc);

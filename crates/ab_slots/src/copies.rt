@@ -7,7 +7,7 @@ use ab_num::OutOfMemory;
 use std::alloc::Global;
 
 /// A copy of each, in their order.
-pub(crate) fn copy_each<T: Copied>(alloc: Global, all: &[T]) -> Result<Vec<T>, OutOfMemory>
+pub fn copy_each<T: Copied>(alloc: Global, all: &[T]) -> Result<Vec<T>, OutOfMemory>
     ensures { IfOk result (λ v. v.items ≡ all.now) }
 {
     let mut copies = Vec::with_capacity(alloc, all.len())?;

@@ -164,7 +164,7 @@ impl ChangeInput {
     }
 
     /// The VIEW-CHANGE without the PREPAREs.
-    pub(crate) fn into_change(self, alloc: Global) -> Result<Change, OutOfMemory>
+    pub fn into_change(self, alloc: Global) -> Result<Change, OutOfMemory>
         ensures { IfOk result (λ c. c ≡ change_of self) }
     {
         let by = self.by;
@@ -206,7 +206,7 @@ fn all_fit(f: u8, view: u32, changes: &[ChangeInput]) -> bool
 }
 
 /// Whether these are 2f + 1 VIEW-CHANGEs for a view by distinct replicas, each of which fits.
-pub(crate) fn may_enter(f: u8, view: u32, changes: &[ChangeInput]) -> bool
+pub fn may_enter(f: u8, view: u32, changes: &[ChangeInput]) -> bool
     ensures { result ≡ may_enter_by f view changes.now }
 {
     if changes.len() != 2 * usize::from(f) + 1 {
@@ -216,10 +216,7 @@ pub(crate) fn may_enter(f: u8, view: u32, changes: &[ChangeInput]) -> bool
 }
 
 /// Each VIEW-CHANGE without its PREPAREs.
-pub(crate) fn into_changes(
-    alloc: Global,
-    changes: Vec<ChangeInput>,
-) -> Result<Vec<Change>, OutOfMemory>
+pub fn into_changes(alloc: Global, changes: Vec<ChangeInput>) -> Result<Vec<Change>, OutOfMemory>
     ensures { IfOk result (λ v. v.items ≡ map change_of changes.items) }
 {
     let mut all = Vec::with_capacity(alloc, changes.len())?;

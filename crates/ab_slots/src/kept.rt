@@ -106,7 +106,7 @@ fn replace(kept: &mut Vec<Kept>, at: usize, new: Kept)
 
 /// Puts a VIEW-CHANGE at the place of its replica, if none of this view or a later one is there.
 #[tactic(auto, using(crate::proofs::KeptLemmas::put_new))]
-pub(crate) fn put(kept: &mut Vec<Kept>, new: Kept) -> Result<(), OutOfMemory>
+pub fn put(kept: &mut Vec<Kept>, new: Kept) -> Result<(), OutOfMemory>
     ensures { OnOk result (kept.new.items ≡ put_kept new kept.old.items) }
 {
     let at = place_of(kept, new.by());
@@ -119,14 +119,14 @@ pub(crate) fn put(kept: &mut Vec<Kept>, new: Kept) -> Result<(), OutOfMemory>
 }
 
 /// Drops the VIEW-CHANGE of a replica.
-pub(crate) fn remove(kept: &mut Vec<Kept>, by: u8)
+pub fn remove(kept: &mut Vec<Kept>, by: u8)
     ensures { kept.new.items ≡ without by kept.old.items }
 {
     kept.retain(|u| u.by() != by);
 }
 
 /// How many are for a later view.
-pub(crate) fn count_later(kept: &[Kept], view: u32) -> usize
+pub fn count_later(kept: &[Kept], view: u32) -> usize
     ensures { result ≡ count_by (λ u. nat_lt view u.view) kept.now }
 {
     kept.iter().filter(|u| view < u.view()).count()
@@ -143,7 +143,7 @@ fn smaller(view: u32, other: Option<u32>) -> Option<u32>
 }
 
 /// The first later view.
-pub(crate) fn least_later(kept: &[Kept], view: u32) -> Option<u32>
+pub fn least_later(kept: &[Kept], view: u32) -> Option<u32>
     ensures { result ≡ least_above view kept.now }
 {
     let mut least = None;
@@ -160,7 +160,7 @@ pub(crate) fn least_later(kept: &[Kept], view: u32) -> Option<u32>
 
 /// How many are for this view.
 #[tactic(auto, using(crate::proofs::KeptLemmas::of_view_counted))]
-pub(crate) fn count_of(kept: &[Kept], view: u32) -> usize
+pub fn count_of(kept: &[Kept], view: u32) -> usize
     ensures { result ≡ length (all_of_view kept.now view) }
 {
     kept.iter().filter(|u| u.view() == view).count()
@@ -182,12 +182,7 @@ fn of_view(alloc: Global, kept: &[Kept], view: u32) -> Result<Vec<Change>, OutOf
 }
 
 /// The lowest 2f + 1 of those for this view.
-pub(crate) fn lowest(
-    alloc: Global,
-    f: u8,
-    kept: &[Kept],
-    view: u32,
-) -> Result<Vec<Change>, OutOfMemory>
+pub fn lowest(alloc: Global, f: u8, kept: &[Kept], view: u32) -> Result<Vec<Change>, OutOfMemory>
     ensures { IfOk result (λ v. v.items ≡ lowest_of f kept.now view) }
 {
     let mut changes = of_view(alloc, kept, view)?;

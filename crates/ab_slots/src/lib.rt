@@ -1,29 +1,23 @@
-//! PBFT's rules at one replica, as code: the slots of its present view, its votes, the view changes that it keeps, and
-//! what it does as something comes.
+//! What a replica of PBFT goes by: the slots of a view, votes, certificates, the view changes and requests that it keeps, what
+//! comes, and what others hear of.
 #![tactic(auto)]
 
-mod certs;
+pub mod certs;
 mod change;
 mod choosing;
 mod copies;
 mod deed;
 mod digest;
 mod input;
-mod kept;
-mod memory;
-mod seat;
+pub mod kept;
 mod slots;
-mod turn;
-mod vote;
-mod waiting;
+pub mod vote;
+pub mod waiting;
 
 pub use change::{Cert, Change};
+pub use choosing::chosen;
+pub use copies::copy_each;
 pub use deed::Deed;
 pub use digest::slot_digest;
-pub use input::{ChangeInput, Input, ProvedSlot};
-pub use kept::Kept;
-pub use memory::Memory;
-pub use seat::Seat;
+pub use input::{ChangeInput, Input, ProvedSlot, into_changes, may_enter};
 pub use slots::Slots;
-pub use turn::Turn;
-pub use vote::Vote;

@@ -58,7 +58,7 @@ fn has_voted(votes: &[Vote], by: u8, slot: u8) -> bool
 }
 
 /// Keeps a vote in front of the others, if it is its replica's first for the slot.
-pub(crate) fn keep(votes: &mut Vec<Vote>, vote: Vote) -> Result<(), OutOfMemory>
+pub fn keep(votes: &mut Vec<Vote>, vote: Vote) -> Result<(), OutOfMemory>
     ensures { OnOk result (votes.new.items ≡ keep vote votes.old.items) }
 {
     if !has_voted(votes, vote.by, vote.slot) {
@@ -76,7 +76,7 @@ fn count_for(votes: &[Vote], slot: u8, x: &[u8; 32]) -> usize
 
 /// Whether 2f + 1 votes are for the digest `x` in a slot.
 #[tactic(auto, using(crate::proofs::VoteLemmas::counted))]
-pub(crate) fn is_enough(f: u8, votes: &[Vote], slot: u8, x: &[u8; 32]) -> bool
+pub fn is_enough(f: u8, votes: &[Vote], slot: u8, x: &[u8; 32]) -> bool
     ensures { result ≡ are_enough bytes_eq f votes.now slot x.now }
 {
     2 * usize::from(f) + 1 <= count_for(votes, slot, x)

@@ -41,7 +41,7 @@ fn is_at(kept: &[Request], at: usize, client: u16) -> bool
 
 /// Keeps a request as the last one of its client.
 #[tactic(auto, using(crate::proofs::WaitingLemmas::keep_new, crate::proofs::WaitingLemmas::keep_there))]
-pub(crate) fn keep(kept: &mut Vec<Request>, m: Request) -> Result<(), OutOfMemory>
+pub fn keep(kept: &mut Vec<Request>, m: Request) -> Result<(), OutOfMemory>
     ensures { OnOk result (kept.new.items ≡ keep_last m kept.old.items) }
 {
     let at = place_of(kept, m.client);
@@ -54,7 +54,7 @@ pub(crate) fn keep(kept: &mut Vec<Request>, m: Request) -> Result<(), OutOfMemor
 }
 
 /// The request of the lowest client that may follow values.
-pub(crate) fn first_fit(kept: &[Request], accepted: &Slots) -> Option<Request>
+pub fn first_fit(kept: &[Request], accepted: &Slots) -> Option<Request>
     ensures { result ≡ first_that_fits accepted.now kept.now }
 {
     'kept: for m in kept {
@@ -66,14 +66,14 @@ pub(crate) fn first_fit(kept: &[Request], accepted: &Slots) -> Option<Request>
 }
 
 /// Whether one of them is missing from a list.
-pub(crate) fn lacks_some(list: &History, kept: &[Request]) -> bool
+pub fn lacks_some(list: &History, kept: &[Request]) -> bool
     ensures { result ≡ lacks_some list.now kept.now }
 {
     kept.iter().any(|m| list.place_of(m).is_none())
 }
 
 /// The same requests.
-pub(crate) fn copy_requests(alloc: Global, kept: &[Request]) -> Result<Vec<Request>, OutOfMemory>
+pub fn copy_requests(alloc: Global, kept: &[Request]) -> Result<Vec<Request>, OutOfMemory>
     ensures { IfOk result (λ v. v.items ≡ kept.now) }
 {
     let mut copies = Vec::with_capacity(alloc, kept.len())?;

@@ -2,12 +2,12 @@
 
 ghost use Rattle.std.specs.Prelude.{◌≡◌, ◌<◌, ◌^◌};
 
+use ab_num::{Height, Party, Plan, ServiceName};
 use ab_text::{
     Breach, Cause, Core, Event, Items, Line, Premise, TextFault, fault_is_first, one_reading,
     read_is_in_form, read_is_spelled, read_schedule, spelled_is_read, write_end, write_log,
     write_premise, write_seen,
 };
-use ab_num::{Height, Party, Plan, ServiceName};
 use arrayvec::ArrayVec;
 use std::alloc::Global;
 use std::process::Abort;

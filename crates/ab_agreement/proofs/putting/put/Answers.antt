@@ -1,6 +1,6 @@
 use Rattle.std.proofs.Common.{◌≡◌, ap, sym, ◌∙◌}
 use Rattle.ab_abs.specs.Messages.{took}
-use Rattle.ab_slots.specs.Turns.{input_of}
+use Rattle.ab_slots.specs.Inputs.{input_of}
 use Rattle.ab_shelf.specs.Signing.{puts}
 use Rattle.ab_agreement.proofs.ToldLemmas.{on_ok, puts_none}
 use Rattle.ab_agreement.proofs.putting.put.Goals as goal

@@ -1,7 +1,8 @@
 use Rattle.std.proofs.Common.{◌≡◌, ◌≤◌, ◌∙◌, refl, ap, arith, rules}
 use Rattle.std.proofs.lemmas.Result.{err_from_is_err_and}
 use Rattle.ab_abs.specs.declared.protocol.StepFault.TheVariants.{Spent}
-use Rattle.ab_slots.specs.Turns.{seat_of, memory_of, input_of}
+use Rattle.ab_slots.specs.Inputs.{input_of}
+use Rattle.ab_turn.specs.Turns.{seat_of, memory_of}
 use Rattle.ab_shelf.specs.Signing.{Signing}
 use Rattle.ab_agreement.proofs.Working.{same_fault, left_within, worked, signs_after}
 use Rattle.ab_agreement.proofs.pbft.Pbft.work.Goals as goal

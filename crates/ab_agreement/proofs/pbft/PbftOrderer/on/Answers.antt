@@ -5,7 +5,7 @@ use Rattle.ab_wire.specs.Views.{message}
 use Rattle.ab_abs.specs.declared.protocol.StepFault.TheVariants.{Spent}
 use Rattle.ab_abs.specs.Messages.{took}
 use Rattle.ab_order.specs.Readings.{read_message}
-use Rattle.ab_slots.specs.Turns.{input_of}
+use Rattle.ab_slots.specs.Inputs.{input_of}
 use Rattle.ab_shelf.specs.Signing.{Signing, puts, signing}
 use Rattle.ab_shelf.specs.Signing as signings
 use Rattle.ab_agreement.specs.Events.{post_of, next_of}
