@@ -11,50 +11,7 @@ import os
 import sys
 import tempfile
 
-from preload import built, ran
-
-REFUSER = r'''
-#define _GNU_SOURCE
-#include <dlfcn.h>
-#include <errno.h>
-#include <stdlib.h>
-#include <stdio.h>
-#include <unistd.h>
-static long asked, refused;
-static int ready;
-static void begin(void) { const char *n = getenv("REFUSE"); refused = n ? atol(n) : 0; ready = 1; }
-static int refuse(void) { if (!ready) begin(); return ++asked == refused; }
-void *malloc(size_t n) {
-    static void *(*real)(size_t);
-    if (!real) real = dlsym(RTLD_NEXT, "malloc");
-    if (refuse()) { errno = ENOMEM; return NULL; }
-    return real(n);
-}
-void *realloc(void *p, size_t n) {
-    static void *(*real)(void *, size_t);
-    if (!real) real = dlsym(RTLD_NEXT, "realloc");
-    if (refuse()) { errno = ENOMEM; return NULL; }
-    return real(p, n);
-}
-void *aligned_alloc(size_t a, size_t n) {
-    static void *(*real)(size_t, size_t);
-    if (!real) real = dlsym(RTLD_NEXT, "aligned_alloc");
-    if (refuse()) { errno = ENOMEM; return NULL; }
-    return real(a, n);
-}
-int posix_memalign(void **p, size_t a, size_t n) {
-    static int (*real)(void **, size_t, size_t);
-    if (!real) real = dlsym(RTLD_NEXT, "posix_memalign");
-    if (refuse()) return ENOMEM;
-    return real(p, a, n);
-}
-__attribute__((destructor)) static void tell(void) {
-    const char *path = getenv("ASKED");
-    FILE *f;
-    refused = -1;
-    if (path && (f = fopen(path, "w"))) { fprintf(f, "%ld", asked); fclose(f); }
-}
-'''
+from preload import REFUSER, built, ran
 
 
 def run(library, path, number, **environment):
