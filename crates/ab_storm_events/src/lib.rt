@@ -1,0 +1,6 @@
+//! The events of a storm, drawn and kept.
+#![tactic(auto)]
+
+mod drawing;
+
+pub use drawing::storm_events;
