@@ -1,0 +1,20 @@
+use Rattle.ab_replay.proofs.TextLemmas.{all_served}
+use Rattle.ab_storm_run.specs.Runs.{storm_setup, StormCause}
+use Rattle.ab_storm_run.proofs.StormLemmas.{kept_err}
+use Rattle.ab_command.specs.Statuses.{kv}
+use Rattle.ab_storm_schedule.proofs.OfStorm.{of_storm}
+use Rattle.ab_storm_schedule.proofs.schedule.storm_schedule.Goals as goal
+
+pub storm_events-requires-clause-served : goal.storm_events-requires-clause-served
+storm_events-requires-clause-served c = λ i one. all_served c.args.asked.now.plan i
+
+pub storm_events-requires-clause-sends : goal.storm_events-requires-clause-sends
+storm_events-requires-clause-sends c = λ cluster sized. c.packets_go_to_parties.ensures (storm_setup cluster)
+
+pub returns-clause-ok : goal.returns-clause-ok
+returns-clause-ok c =
+    of_storm c.args.asked.now c.cluster.result.now c.in_ok-events.events _ (record { f = c.cluster.ensures.f; clients = c.cluster.ensures.clients; plan = c.cluster.ensures.plan }) c.in_ok-events.ensures.ok c.schedule_in.ensures
+
+pub returns-in_err-storm_events-clause-cause : goal.returns-in_err-storm_events-clause-cause
+returns-in_err-storm_events-clause-cause c =
+    kept_err c.from_residual.result c.in_err-storm_events.field-0.0 (λ e. StormCause kv e c.args.asked.now) c.from_residual.ensures.1 c.in_err-storm_events.ensures.cause

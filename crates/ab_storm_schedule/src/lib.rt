@@ -1,0 +1,7 @@
+//! The text of the schedule that a storm runs.
+#![tactic(auto)]
+
+mod schedule;
+mod top;
+
+pub use top::serve;
