@@ -1,9 +1,11 @@
 //! A replica of PBFT.
 
-ghost use Rattle.std.specs.Prelude.{◌≡◌, ◌+◌, ◌<◌, ◌≤◌, IfOk, IsErrOf};
+ghost use Rattle.std.specs.Prelude.{◌≡◌, ◌+◌, ◌<◌, ◌≤◌, [], IfOk, IsErrOf};
 ghost use Rattle.ab_msg.specs.Pens.{moved};
+ghost use Rattle.ab_pbft.specs.Rules.{done_by};
 ghost use Rattle.ab_slots.specs.Inputs.{input_of};
-ghost use Rattle.ab_turn.specs.Turns.{memory_of};
+ghost use Rattle.ab_turn.specs.Turns.{memory_of, Shows};
+ghost use Rattle.ab_shelf.specs.Posts.{posts_all, signings};
 ghost use Rattle.ab_shelf.specs.Signing.{signer_of, is_leaving, leavings};
 ghost use Rattle.ab_agreement.specs.Events.{next_of, post_of, signs_of};
 
@@ -76,21 +78,49 @@ impl Pbft {
 
     /// How often it left a view, once it did this.
     fn left_after(&self, turn: &Turn) -> u32
-        requires { self.now.left + leavings turn.now.deeds.items ≤ (memory_of turn.now.memory).peer.core.view }
+        requires { self.now.order.memory.peer.core.view + leavings turn.now.deeds.items ≤ (memory_of turn.now.memory).peer.core.view }
         ensures count { result ≡ self.now.left + leavings turn.now.deeds.items }
         ensures within { result ≤ (memory_of turn.now.memory).peer.core.view }
     {
+        let left = self.left;
         let more = leavings(&turn.deeds);
         let within = more <= turn.memory.view() as usize;
         prove!(within);
-        self.left + more as u32
+        left + more as u32
+    }
+
+    /// A copy of its memory, once it does what the rules say as something comes, with what others hear of.
+    fn turned(&self, alloc: Global, input: Input) -> Result<Turn, OutOfMemory>
+        ensures { IfOk result (λ turn. Shows turn (done_by self.now.order (input_of input))) }
+    {
+        let memory = self.memory.copy(alloc)?;
+        let mut turn = Turn::new(alloc, memory);
+        turn.work(alloc, &self.seat, input)?;
+        Ok(turn)
+    }
+
+    /// Posts what others hear of from this shelf.
+    fn post<N: Notary>(
+        &self,
+        alloc: Global,
+        mut shelf: Shelf,
+        deeds: &[Deed],
+        n: &mut N,
+    ) -> Result<(Shelf, Outs), StepFault>
+        ensures ok { IfOk result (λ made. posts_all (signer_of self.now) deeds.now (record { pen = N.pen n.old; shelf = shelf; sent = [] }) ≡ record { pen = N.pen n.new; shelf = made.0; sent = made.1 }) }
+        ensures left { IfOk result (λ _. N.remains n.new + signings (signer_of self.now) deeds.now ≡ N.remains n.old) }
+        ensures spent { IsErrOf result StepFault.Spent → N.remains n.old < signings (signer_of self.now) deeds.now }
+    {
+        let mut outs = Vec::new(alloc);
+        shelf.post_all(alloc, &self.signer(), deeds, n, &mut outs)?;
+        Ok((shelf, Outs::of(outs)))
     }
 
     /// Does what the rules say as something comes that is on this shelf, and posts what others hear of.
     fn work<N: Notary>(
         &self,
         alloc: Global,
-        mut shelf: Shelf,
+        shelf: Shelf,
         input: Input,
         n: &mut N,
     ) -> Result<(Pbft, Outs), StepFault>
@@ -99,13 +129,10 @@ impl Pbft {
         ensures pen { IfOk result (λ _. (N.pen n.new ≡ moved (N.pen n.old) (signs_of self.now (input_of input))) × (N.remains n.new + signs_of self.now (input_of input) ≡ N.remains n.old)) }
         ensures spent { IsErrOf result StepFault.Spent → N.remains n.old < signs_of self.now (input_of input) }
     {
-        let memory = self.memory.copy(alloc)?;
-        let seat = self.seat.copy(alloc)?;
-        let mut turn = Turn::new(alloc, memory);
-        turn.work(alloc, &seat, input)?;
+        let turn = self.turned(alloc, input)?;
         let left = self.left_after(&turn);
-        let mut outs = Vec::new(alloc);
-        shelf.post_all(alloc, &self.signer(), &turn.deeds, n, &mut outs)?;
+        let seat = self.seat.copy(alloc)?;
+        let (shelf, outs) = self.post(alloc, shelf, &turn.deeds, n)?;
         let next = Pbft {
             cluster: self.cluster,
             seat,
@@ -113,7 +140,7 @@ impl Pbft {
             shelf,
             left,
         };
-        Ok((next, Outs::of(outs)))
+        Ok((next, outs))
     }
 }
 
