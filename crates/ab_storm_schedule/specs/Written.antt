@@ -34,5 +34,5 @@ pub record IsOfStorm (k : StormCommand) (s : Script) : Type 0 where
 pub record WritesStorm (k : StormCommand) (text : List ℕ) : Type 0 where
   pub schedule : Script
   pub storm : IsOfStorm k schedule
-  pub text : text ≡ schedule_text schedule
+  pub is : text ≡ schedule_text schedule
   pub spelled : IsSpelled text schedule

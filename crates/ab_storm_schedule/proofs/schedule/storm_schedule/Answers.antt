@@ -15,6 +15,6 @@ pub returns-clause-ok : goal.returns-clause-ok
 returns-clause-ok c =
     of_storm c.args.asked.now c.cluster.result.now c.in_ok-events.events _ (record { f = c.cluster.ensures.f; clients = c.cluster.ensures.clients; plan = c.cluster.ensures.plan }) c.in_ok-events.ensures.ok c.schedule_in.ensures
 
-pub returns-in_err-storm_events-clause-cause : goal.returns-in_err-storm_events-clause-cause
-returns-in_err-storm_events-clause-cause c =
-    kept_err c.from_residual.result c.in_err-storm_events.field-0.0 (λ e. StormCause kv e c.args.asked.now) c.from_residual.ensures.1 c.in_err-storm_events.ensures.cause
+pub returns-in_err-events-clause-cause : goal.returns-in_err-events-clause-cause
+returns-in_err-events-clause-cause c =
+    kept_err c.from_residual.result c.in_err-events.field-0.0 (λ e. StormCause kv e c.args.asked.now) c.from_residual.ensures.1 c.in_err-events.ensures.cause

@@ -13,13 +13,13 @@ returns-in-Err-TooManyPackets g c =
     let out = g.O.Sink.contents c.args.out.now in
     let kept : Keeps out out = search rules in
     let past = subst (λ (e : StormFault). StormCause kv e c.args.asked.now) c.in-Err-TooManyPackets.field-0-is c.in-Err-TooManyPackets.ensures.cause in
-    record { cause = λ options asks. past_settled _ c.say-in-Err-TooManyPackets.result c.say-in-Err-TooManyPackets.ensures.status (c.args.asked.now, asks, past) kept }
+    record { cause = λ options asks. past_settled _ c.say.result c.say.ensures.status (c.args.asked.now, asks, past) kept }
 
 pub returns-in-Err-OutOfMemory : goal.returns-in-Err-OutOfMemory
 returns-in-Err-OutOfMemory g c =
     let out = g.O.Sink.contents c.args.out.now in
     let kept : Keeps out out = search rules in
-    record { cause = λ options asks. memory_settled _ c.say_no_memory-in-Err-OutOfMemory.result c.say_no_memory-in-Err-OutOfMemory.ensures.status (inl kept) }
+    record { cause = λ options asks. memory_settled _ c.say_no_memory.result c.say_no_memory.ensures.status (inl kept) }
 
 pub returns-in-Ok-write_all : goal.returns-in-Ok-write_all
 returns-in-Ok-write_all g c =
