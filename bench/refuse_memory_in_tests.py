@@ -4,9 +4,10 @@
     bench/refuse_memory_in_tests.py [NAME..] [--most N]
 
 Tests are built by `rt test NAME`; those of the named crates are run, or of all that are built. Each run has to pass, where the
-allocation could be done without, or to fail and say that memory was refused, by its result or by an assertion. Anything else is
-told, and the status is then 1. Of a test with more than N allocations (2,000) so many are refused, spread evenly. It needs a C
-compiler."""
+allocation could be done without, or to fail by its result or an assertion. Of those that fail it is counted how many say that
+memory was refused: a test whose helpers answer whether something is so doesn't say why it isn't. Anything else, such as another
+signal, is told, and the status is then 1. Of a test with more than N allocations (2,000) so many are refused, spread evenly. It
+needs a C compiler."""
 import argparse
 import os
 import re
@@ -38,24 +39,29 @@ def ran(program, test, library, number, **environment):
     return done.returncode, done.stdout + done.stderr
 
 
-def sweep(program, test, library, asked, most):
-    """How many allocations the test makes, and how many of the refused ones it did without, ended it, and made it say something else."""
-    status, said = ran(program, test, library, 0, ASKED=asked)
-    if status:
-        sys.exit(f"{program} {test}: status {status} with all memory: {said[-200:]!r}")
-    with open(asked) as f:
-        count = int(f.read())
-    spared = ended = wrong = 0
-    for number in range(1, count + 1, 1 + (count - 1) // most):
-        status, said = ran(program, test, library, number)
+class Sweep:
+    """How the runs of a test ended, in each of which one allocation was refused."""
+
+    def __init__(self, program, test, library, asked, most):
+        status, said = ran(program, test, library, 0, ASKED=asked)
+        if status:
+            sys.exit(f"{program} {test}: status {status} with all memory: {said[-200:]!r}")
+        with open(asked) as f:
+            self.count = int(f.read())
+        self.spared = self.refused = self.failed = self.wrong = 0
+        for number in range(1, self.count + 1, 1 + (self.count - 1) // most):
+            self.look(*ran(program, test, library, number), f"{test}: allocation {number}")
+
+    def look(self, status, said, what):
         if status == 0:
-            spared += 1
-        elif status in (FAILED, -signal.SIGABRT) and REFUSAL.search(said):
-            ended += 1
+            self.spared += 1
+        elif status not in (FAILED, -signal.SIGABRT):
+            self.wrong += 1
+            print(f"{what}: status {status}: {said[-200:]!r}")
+        elif REFUSAL.search(said):
+            self.refused += 1
         else:
-            wrong += 1
-            print(f"{test}: allocation {number}: status {status}: {said[-200:]!r}")
-    return count, spared, ended, wrong
+            self.failed += 1
 
 
 def asked_for():
@@ -73,9 +79,10 @@ def main():
         library, asked = built(folder, REFUSER), os.path.join(folder, "asked")
         for name in options.names or found:
             for test in tests_of(found[name]):
-                count, spared, ended, wrong = sweep(found[name], test, library, asked, options.most)
-                bad += wrong
-                print(f"{name} {test}: {count} allocations; {ended} ended it, {spared} were done without", flush=True)
+                swept = Sweep(found[name], test, library, asked, options.most)
+                bad += swept.wrong
+                ends = f"{swept.refused} said that memory was refused, {swept.failed} failed, {swept.spared} did without"
+                print(f"{name} {test}: {swept.count} allocations; {ends}", flush=True)
     sys.exit(1 if bad else 0)
 
 
