@@ -1,26 +1,37 @@
 #!/usr/bin/env python3
-"""Times the opening of three messages as parties send them: a CHAIN, an INIT, and a NEW-VIEW.
+"""Times the opening of three messages as parties send them: a CHAIN, an INIT, and a NEW-VIEW as long as correct parties make one.
 
-A schedule delivers the packet of each again and again to a party that has taken it already. What the same schedule takes without
-these deliveries is taken off, so what is left is opening, with tags checked and signatures found among those that are known, and
-a step of the party that changes nothing. Prints microseconds and bytes per second for each, the best of five runs by processor time.
+A schedule delivers the packet of each again and again to a replica that it leaves as it is and that sends nothing for it. What the
+same schedule takes without these deliveries is taken off. So what is left is a line of the schedule; opening, with tags checked and
+signatures found among those that are known; looking at what was claimed and brought; and what the replica does until it sees that
+nothing is to be done. A byte that is no message is a line of the schedule and hardly more.
+
+Prints microseconds and bytes per second for each, the best of five runs by processor time. It takes some ten minutes.
 """
 
-import bisect
+import functools
 import subprocess
 import sys
 
-from backup import Schedule, begun, packets_of
+from backup import packets_of
 from reading import processor_time
 from timing import PROGRAM, TOP
 
-TIMES = 2000
+TIMES = 90_000
 SIGNATURE = 2 + 2508
+REPLICAS = 7
+OTHERS = REPLICAS - 1
+QUORUM = 5
+SLOTS = 17
+MOST = 1024
+COMMAND = "p" * 128
+# How many packets order a slot: PRE-PREPAREs, PREPAREs and COMMITs.
+SLOT = OTHERS + 2 * REPLICAS * OTHERS
 
 
-def seconds(lines):
+@functools.cache
+def seconds(text):
     """The processor time of the program for the schedule, the best of five."""
-    text = "\n".join(lines + ["end", ""])
     best = float("inf")
     for _ in range(5):
         begin = processor_time()
@@ -31,14 +42,20 @@ def seconds(lines):
     return best
 
 
-def tell(name, size, lines, packet):
-    again = [f"deliver {packet}"] * TIMES
-    took = (seconds(lines + again) - seconds(lines)) / TIMES
-    print(f"{name}, {size} bytes: opened {1e6 * took:.1f} us, {size / took:.3g} bytes/s")
+def tell(name, size, lines, event, times=TIMES):
+    """Times an event, so many times, behind the lines of a schedule."""
+    idle, busy = (seconds("\n".join([*lines, *more, "end", ""])) for more in ([], [event] * times))
+    took = (busy - idle) / times
+    print(f"{name}, {size} bytes: {1e6 * took:.2f} us, {size / took:.3g} bytes/s", flush=True)
 
 
-def head(plan):
-    return ["abstract 1", "f 1", f"plan {plan}", "clients 1", "service kv", "lms 10", "run"]
+def head(f, plan):
+    """A cluster with one faulty replica, of which there are two."""
+    return ["abstract 1", f"f {f}", f"plan {plan}", "clients 1", "service echo", "lms 10", f"faulty r{3 * f} 2", "run"]
+
+
+def deliveries(*packets):
+    return [f"deliver {packet}" for packet in packets]
 
 
 def of_requests(commands):
@@ -47,45 +64,97 @@ def of_requests(commands):
 
 
 def chain():
-    """The second position's message to the third, with the tags of both and of the client."""
-    lines = head("chain") + ["invoke c0 put a 1", "deliver 1", "deliver 2", "deliver 3"]
+    """The second position's message to the third, which has stopped since, with the tags of both and of the client."""
+    lines = head(1, "chain") + ["invoke c0 put a 1", *deliveries(1, 2, 3), "timeout c0", *deliveries(7)]
     size = 1 + 4 + of_requests(["put a 1"]) + 2 + 32 + 1 + 1 + 3 * (3 + 3 + 32)
-    tell("CHAIN", size, lines, 3)
+    tell("byte that is no message", 1, lines, "inject r3 ff")
+    tell("CHAIN to a replica that has stopped", size, lines, "deliver 3")
 
 
 def init():
     """A certificate of three signed histories of one request, which a client carries into the second instance."""
-    lines = head("quorum") + ["invoke c0 put a 1", *(f"deliver {p}" for p in (1, 2, 3, 4)), "timeout c0"]
-    made = Schedule()
-    made.lines = lines
-    made.delivered = packets_of(lines) - 4
-    made.deliver(4)
-    aborts = packets_of(made.lines) - made.delivered
-    made.deliver(aborts)
-    packet = made.delivered + 1
-    made.deliver(1)
+    lines = head(1, "quorum") + ["invoke c0 put a 1", *deliveries(1, 2, 3, 4), "timeout c0", *deliveries(*range(9, 16), 17)]
     size = 1 + 1 + 3 * (1 + 3 + 4 + 2 + of_requests(["put a 1"]) + SIGNATURE)
-    tell("INIT", size, made.lines, packet)
+    tell("INIT to a replica that has entered by it", size, lines, "deliver 17")
+
+
+class Schedule:
+    """The lines of a schedule in which each packet is delivered in its order, how many were, and how many requests were made."""
+
+    def __init__(self):
+        self.lines = head(2, "azyzzyva")
+        self.delivered = 0
+        self.requests = 0
+
+    def invoke(self):
+        self.requests += 1
+        self.lines.append(f"invoke c0 {COMMAND}")
+
+    def deliver(self, *counts):
+        first = self.delivered + 1
+        self.delivered += sum(counts)
+        self.lines += deliveries(*range(first, self.delivered + 1))
+
+    def commit_in_light(self):
+        """A request, its ORDERs and its answers."""
+        self.invoke()
+        self.deliver(1, OTHERS, REPLICAS)
+
+    def commit_in_backup(self):
+        """A request to each replica, its slot and its answers."""
+        self.invoke()
+        self.deliver(REPLICAS, SLOT, REPLICAS)
+
+    def into_light(self):
+        """A Backup that is over answers a request with ABORTs. INITs follow, and it commits in the next instance."""
+        self.invoke()
+        self.deliver(REPLICAS, REPLICAS, REPLICAS, 1, OTHERS, REPLICAS)
+
+    def into_backup(self):
+        """The client of a ZLight asks its primary, which orders and answers, and panics at once, beyond the first instance with
+        INITs. ABORTs and INITs follow, and it asks again and commits in the next instance, behind the base."""
+        inits = REPLICAS if self.requests else 0
+        self.invoke()
+        self.lines.append("timeout c0")
+        self.deliver(1, inits, REPLICAS, OTHERS + 1, REPLICAS, REPLICAS, REPLICAS, 2 * SLOT, REPLICAS)
+
+
+def fifth_backup():
+    """The first four Backups take 1, 2, 4 and 8 requests, and a fifth 16, of which all but the last commit here. The ZLight before
+    commits as many as leave room for these."""
+    made = Schedule()
+    for limit in (1, 2, 4, 8):
+        made.into_backup()
+        for _ in range(limit - 1):
+            made.commit_in_backup()
+        made.into_light()
+    while made.requests < MOST - 16:
+        made.commit_in_light()
+    made.into_backup()
+    for _ in range(14):
+        made.commit_in_backup()
+    return made
 
 
 def new_view():
-    """Three view changes with sixteen requests each that are prepared on a base, each entry with three signatures. The new primary
-    sends it as soon as enough of the replicas' view changes came, which is found by halving."""
-    made = begun()
-    base = made.requests
+    """Five view changes of all slots, with five signatures for each. The last slot is prepared, and its COMMITs are lost. Then all
+    timers run out, and the view changes reach the new primary."""
+    made = fifth_backup()
     made.invoke()
-    for _ in range(3):
-        made.deliver(packets_of(made.lines) - made.delivered)
-    made.delivered = packets_of(made.lines)
-    made.lines.extend(f"timeout r{replica}" for replica in range(4))
-    before = packets_of(made.lines)
-    changes = [f"deliver {packet}" for packet in range(made.delivered + 1, before + 1)]
-    enough = bisect.bisect_left(range(len(changes)), True, key=lambda k: packets_of(made.lines + changes[:k]) > before)
-    packet = before + 1
-    made.lines += [*changes[:enough], f"deliver {packet}"]
-    commands = [f"put k{r % 16} v{r + 1}" for r in range(made.requests)]
-    view_change = 1 + 3 + 4 + 4 + 1 + 17 * 36 + SIGNATURE + 2 + of_requests(commands) + 17 * (1 + 3 * (1 + SIGNATURE))
-    tell(f"NEW-VIEW on a base of {base} requests", 1 + 12 + 32 + 1 + 3 * view_change, made.lines, packet)
+    made.deliver(REPLICAS, OTHERS, REPLICAS * OTHERS)
+    made.delivered += REPLICAS * OTHERS
+    made.lines.extend(f"timeout r{replica}" for replica in range(REPLICAS))
+    made.deliver(REPLICAS * OTHERS)
+    first, last = made.delivered + 1, made.delivered + OTHERS
+    lines = made.lines + deliveries(first)
+    # Each replica sent COMMITs, so the last slot is prepared at all; the new primary and r0 sent PREPAREs in the new view.
+    if packets_of(lines) != last + 2 * OTHERS:
+        sys.exit("the view changes aren't of all slots")
+    prepares = 1 + QUORUM * (1 + SIGNATURE)
+    view_change = 1 + 3 + 4 + 4 + 1 + SLOTS * 36 + SIGNATURE + 2 + of_requests([COMMAND] * MOST) + SLOTS * prepares
+    size = 1 + 12 + 32 + 1 + QUORUM * view_change
+    tell("NEW-VIEW to a replica in another instance", size, lines, f"deliver {last} r6.2", 1000)
+    tell("NEW-VIEW to a replica that has taken it", size, lines, f"deliver {first}", 1000)
 
 
 def main():
