@@ -3,7 +3,6 @@
 use ab_cast::{Place, Setup, faulty_parties_have_their_cores};
 use ab_keys::is_party;
 use ab_num::{Cluster, Height, Party, Plan};
-use std::test::Fail;
 
 /// The tag of the text from c0 to r1 under the keys of the seed of 32 zeros.
 const C0_TO_R1: [u8; 32] = [
@@ -12,17 +11,17 @@ const C0_TO_R1: [u8; 32] = [
 ];
 
 /// Four replicas and two clients.
-fn cluster() -> Result<Cluster, Fail> {
-    Ok(Cluster::new(1, 2, Plan::Quorum).ok_or("in bounds")?)
+fn cluster() -> Option<Cluster> {
+    Cluster::new(1, 2, Plan::Quorum)
 }
 
 /// The setup in which these two parties are faulty.
-fn setup(rt: &HostRuntime, first: (Party, u8), second: (Party, u8)) -> Result<Setup, Fail> {
+fn setup(rt: &HostRuntime, first: (Party, u8), second: (Party, u8)) -> Option<Setup> {
     let cluster = cluster()?;
     if !is_party(&cluster, first.0) || !is_party(&cluster, second.0) {
-        return Err(Fail::from("both are parties"));
+        return None;
     }
-    Ok(Setup::new(rt.alloc(), &cluster, &[first, second], Height::Five)?)
+    Setup::new(rt.alloc(), &cluster, &[first, second], Height::Five).ok()
 }
 
 /// A party, the number of one of its cores, and where that core stands.
@@ -66,20 +65,18 @@ const OF_REPLICAS: [Row; 3] = [
 const OF_A_CLIENT: [Row; 1] = [(Party::Client(0), Some(2), Some(Place::ClientTwin(0, 0)))];
 
 #[test]
-fn places_at_the_edges(rt: HostRuntime) -> Result<(), Fail> {
+fn places_at_the_edges(rt: HostRuntime) {
     faulty_parties_have_their_cores();
-    let x = setup(&rt, (Party::Replica(0), 3), (Party::Client(1), 1))?;
+    let x = setup(&rt, (Party::Replica(0), 3), (Party::Client(1), 1)).expect(&rt, "memory");
     assert!(rt; stand_so(&x, &AT_EDGES));
-    Ok(())
 }
 
 #[test]
-fn places_of_two_with_twins(rt: HostRuntime) -> Result<(), Fail> {
-    let x = setup(&rt, (Party::Replica(1), 2), (Party::Replica(3), 4))?;
+fn places_of_two_with_twins(rt: HostRuntime) {
+    let x = setup(&rt, (Party::Replica(1), 2), (Party::Replica(3), 4)).expect(&rt, "memory");
     assert!(rt; stand_so(&x, &OF_REPLICAS));
-    let y = setup(&rt, (Party::Replica(2), 4), (Party::Client(0), 2))?;
+    let y = setup(&rt, (Party::Replica(2), 4), (Party::Client(0), 2)).expect(&rt, "memory");
     assert!(rt; stand_so(&y, &OF_A_CLIENT));
-    Ok(())
 }
 
 /// Whether parties are faulty as they were said to be.
@@ -101,12 +98,11 @@ fn tag_of(x: &Setup) -> Option<[u8; 32]> {
 }
 
 #[test]
-fn setup_is_told(rt: HostRuntime) -> Result<(), Fail> {
-    let x = setup(&rt, (Party::Replica(0), 3), (Party::Client(1), 1))?;
-    assert_eq!(rt; *x.cluster(), cluster()?);
+fn setup_is_told(rt: HostRuntime) {
+    let x = setup(&rt, (Party::Replica(0), 3), (Party::Client(1), 1)).expect(&rt, "memory");
+    assert_eq!(rt; *x.cluster(), cluster().expect(&rt, "memory"));
     assert!(rt; are_told(&x));
     assert_eq!(rt; tag_of(&x), Some(C0_TO_R1));
-    Ok(())
 }
 
 #[test]

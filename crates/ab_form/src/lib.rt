@@ -20,6 +20,3 @@ pub use reading::{
     u16_at, u32_at, u64_at,
 };
 pub use writing::{put_bytes, put_u8, put_u16, put_u32, put_u64};
-
-#[cfg(test)]
-mod tests;

@@ -6,7 +6,6 @@ use ab_num::OutOfMemory;
 use ab_svc::{Reply, Service};
 use arrayvec::ArrayVec;
 use std::alloc::Global;
-use std::test::Fail;
 
 /// What a service answers to the command with this text.
 fn ask<S: Service>(alloc: Global, service: &mut S, text: &[u8]) -> Result<Reply, OutOfMemory> {
@@ -21,9 +20,9 @@ fn ask<S: Service>(alloc: Global, service: &mut S, text: &[u8]) -> Result<Reply,
 }
 
 #[test]
-fn store_answers_in_turn(rt: HostRuntime) -> Result<(), Fail> {
+fn store_answers_in_turn(rt: HostRuntime) {
     let alloc = rt.alloc();
-    let mut kv = Kv::start(alloc)?;
+    let mut kv = Kv::start(alloc).expect(&rt, "memory");
     for (text, reply) in [
         ("get a", "none"),
         ("put a 1", "ok"),
@@ -43,20 +42,19 @@ fn store_answers_in_turn(rt: HostRuntime) -> Result<(), Fail> {
         ("get a", "none"),
         ("get _.-z", "val 0"),
     ] {
-        let got = ask::<Kv>(alloc, &mut kv, text.as_bytes())?;
+        let got = ask::<Kv>(alloc, &mut kv, text.as_bytes()).expect(&rt, "memory");
         assert_eq!(rt; got.as_slice(), reply.as_bytes(), "{text}");
     }
     assert_eq!(rt; kv.len(), 1);
     assert_eq!(rt; kv.value_of(b"_.-z"), Some(b"0".as_slice()));
-    Ok(())
 }
 
 #[test]
-fn other_bytes_are_no_command(rt: HostRuntime) -> Result<(), Fail> {
+fn other_bytes_are_no_command(rt: HostRuntime) {
     let alloc = rt.alloc();
     let mut kv = Kv::new(alloc);
     assert!(rt; kv.is_empty());
-    let _ = ask::<Kv>(alloc, &mut kv, b"put a 1")?;
+    let _ = ask::<Kv>(alloc, &mut kv, b"put a 1").expect(&rt, "memory");
     for text in [
         "",
         " ",
@@ -99,48 +97,46 @@ fn other_bytes_are_no_command(rt: HostRuntime) -> Result<(), Fail> {
         "cas a  2",
         "cas a 1 {",
     ] {
-        let got = ask::<Kv>(alloc, &mut kv, text.as_bytes())?;
+        let got = ask::<Kv>(alloc, &mut kv, text.as_bytes()).expect(&rt, "memory");
         assert_eq!(rt; got.as_slice(), b"bad".as_slice(), "{text}");
     }
     assert_eq!(rt; kv.len(), 1);
     assert_eq!(rt; kv.value_of(b"a"), Some(b"1".as_slice()));
-    Ok(())
 }
 
 #[test]
-fn words_have_their_lengths(rt: HostRuntime) -> Result<(), Fail> {
+fn words_have_their_lengths(rt: HostRuntime) {
     let alloc = rt.alloc();
-    let mut kv = Kv::start(alloc)?;
+    let mut kv = Kv::start(alloc).expect(&rt, "memory");
     for (key, value, reply) in [
         (1, 1, "ok"),
         (32, 64, "ok"),
         (33, 64, "bad"),
         (32, 65, "bad"),
     ] {
-        let key = "k".repeat(alloc, key)?;
-        let value = "v".repeat(alloc, value)?;
-        let put = format!(in alloc; "put {key} {value}")?;
-        let got = ask::<Kv>(alloc, &mut kv, put.as_bytes())?;
+        let key = "k".repeat(alloc, key).expect(&rt, "memory");
+        let value = "v".repeat(alloc, value).expect(&rt, "memory");
+        let put = format!(in alloc; "put {key} {value}").expect(&rt, "memory");
+        let got = ask::<Kv>(alloc, &mut kv, put.as_bytes()).expect(&rt, "memory");
         assert_eq!(rt; got.as_slice(), reply.as_bytes(), "{put}");
     }
-    let longest = "k".repeat(alloc, 32)?;
-    let get = format!(in alloc; "get {longest}")?;
-    let got = ask::<Kv>(alloc, &mut kv, get.as_bytes())?;
+    let longest = "k".repeat(alloc, 32).expect(&rt, "memory");
+    let get = format!(in alloc; "get {longest}").expect(&rt, "memory");
+    let got = ask::<Kv>(alloc, &mut kv, get.as_bytes()).expect(&rt, "memory");
     assert_eq!(rt; got.len(), 68);
-    let longer = "k".repeat(alloc, 33)?;
-    let get = format!(in alloc; "get {longer}")?;
-    let got = ask::<Kv>(alloc, &mut kv, get.as_bytes())?;
+    let longer = "k".repeat(alloc, 33).expect(&rt, "memory");
+    let get = format!(in alloc; "get {longer}").expect(&rt, "memory");
+    let got = ask::<Kv>(alloc, &mut kv, get.as_bytes()).expect(&rt, "memory");
     assert_eq!(rt; got.as_slice(), b"bad".as_slice());
-    Ok(())
 }
 
 #[test]
-fn store_is_full_at_65536_keys(rt: HostRuntime) -> Result<(), Fail> {
+fn store_is_full_at_65536_keys(rt: HostRuntime) {
     let alloc = rt.alloc();
-    let mut kv = Kv::start(alloc)?;
+    let mut kv = Kv::start(alloc).expect(&rt, "memory");
     for i in 0..65536 {
-        let put = format!(in alloc; "put k{i} {i}")?;
-        let got = ask::<Kv>(alloc, &mut kv, put.as_bytes())?;
+        let put = format!(in alloc; "put k{i} {i}").expect(&rt, "memory");
+        let got = ask::<Kv>(alloc, &mut kv, put.as_bytes()).expect(&rt, "memory");
         assert_eq!(rt; got.as_slice(), b"ok".as_slice(), "{put}");
     }
     assert_eq!(rt; kv.len(), 65536);
@@ -155,28 +151,26 @@ fn store_is_full_at_65536_keys(rt: HostRuntime) -> Result<(), Fail> {
         ("put new 1", "ok"),
         ("put k65535 1", "full"),
     ] {
-        let got = ask::<Kv>(alloc, &mut kv, text.as_bytes())?;
+        let got = ask::<Kv>(alloc, &mut kv, text.as_bytes()).expect(&rt, "memory");
         assert_eq!(rt; got.as_slice(), reply.as_bytes(), "{text}");
     }
-    Ok(())
 }
 
 #[test]
-fn copy_is_independent(rt: HostRuntime) -> Result<(), Fail> {
+fn copy_is_independent(rt: HostRuntime) {
     let alloc = rt.alloc();
-    let mut kv = Kv::start(alloc)?;
-    let _ = ask::<Kv>(alloc, &mut kv, b"put a 1")?;
-    let mut copy = kv.copy(alloc)?;
-    let _ = ask::<Kv>(alloc, &mut kv, b"put a 2")?;
-    let _ = ask::<Kv>(alloc, &mut copy, b"del a")?;
+    let mut kv = Kv::start(alloc).expect(&rt, "memory");
+    let _ = ask::<Kv>(alloc, &mut kv, b"put a 1").expect(&rt, "memory");
+    let mut copy = kv.copy(alloc).expect(&rt, "memory");
+    let _ = ask::<Kv>(alloc, &mut kv, b"put a 2").expect(&rt, "memory");
+    let _ = ask::<Kv>(alloc, &mut copy, b"del a").expect(&rt, "memory");
     assert_eq!(rt; kv.value_of(b"a"), Some(b"2".as_slice()));
     assert_eq!(rt; copy.value_of(b"a"), None);
-    Ok(())
 }
 
 /// With an allocation that fails, a `put` that is refused changes nothing, and can be asked again.
 #[test]
-fn refused_put_changes_nothing(rt: HostRuntime) -> Result<(), Fail> {
+fn refused_put_changes_nothing(rt: HostRuntime) {
     let alloc = rt.alloc();
     let mut kv = Kv::new(alloc);
     for digit in b'a'..=b'z' {
@@ -186,10 +180,9 @@ fn refused_put_changes_nothing(rt: HostRuntime) -> Result<(), Fail> {
         if ask::<Kv>(alloc, &mut kv, &put).is_err() {
             assert_eq!(rt; kv.len(), before);
             assert_eq!(rt; kv.value_of(&key), None);
-            let _ = ask::<Kv>(alloc, &mut kv, &put)?;
+            let _ = ask::<Kv>(alloc, &mut kv, &put).expect(&rt, "memory");
         }
         assert_eq!(rt; kv.len(), before + 1);
         assert_eq!(rt; kv.value_of(&key), Some(b"1".as_slice()));
     }
-    Ok(())
 }

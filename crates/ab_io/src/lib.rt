@@ -14,6 +14,3 @@ pub use link::{Got, LONGEST_DATAGRAM, Link};
 pub use memory::{MemClock, MemLink, MemSink, MemSource, SureSink, SureSource};
 pub use sink::Sink;
 pub use source::Source;
-
-#[cfg(test)]
-mod tests;

@@ -13,6 +13,3 @@ pub use keys::{exchanges, is_party, key_of, party_bytes};
 pub use laws::{derived_keys, derived_tags, keys_have_their_own_texts, rings_agree};
 pub use ring::KeyRing;
 pub use secrets::{tree_name, tree_seed};
-
-#[cfg(test)]
-mod tests;

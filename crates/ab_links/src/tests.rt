@@ -1,7 +1,7 @@
 //! No collision of SHA-256 is known, so of histories it is tried that none is answered, and a
 //! collision of digests that are made up.
 
-ghost use Rattle.std.specs.Prelude.{◌≡◌, length, IfOk};
+ghost use Rattle.std.specs.Prelude.{◌≡◌, length};
 
 use super::*;
 use crate::links::Links;
@@ -10,7 +10,7 @@ use ab_hist::{History, Request};
 use arrayvec::ArrayVec;
 use indexmap::IndexMap;
 use std::alloc::Global;
-use std::test::Fail;
+use std::process::Abort;
 
 fn request(client: u16, stamp: u64, text: &[u8]) -> Request {
     let mut command = ArrayVec::new();
@@ -23,81 +23,86 @@ fn request(client: u16, stamp: u64, text: &[u8]) -> Request {
 }
 
 /// A history of three requests, of which the second is given.
-fn history(alloc: Global, second: &[u8]) -> Result<History, Fail>
-    ensures { IfOk result (λ h. length h ≡ 3) }
+fn history(rt: &impl Abort, alloc: Global, second: &[u8]) -> History
+    ensures { length result ≡ 3 }
 {
     let mut history = History::new(alloc);
-    history.push(alloc, request(0, 1, b"put a 1"))?;
-    history.push(alloc, request(1, 1, second))?;
-    history.push(alloc, request(0, 2, b"get a"))?;
-    Ok(history)
+    history
+        .push(alloc, request(0, 1, b"put a 1"))
+        .expect(rt, "memory");
+    history
+        .push(alloc, request(1, 1, second))
+        .expect(rt, "memory");
+    history
+        .push(alloc, request(0, 2, b"get a"))
+        .expect(rt, "memory");
+    history
 }
 
 #[test]
-fn equal_histories_do_not_collide(rt: HostRuntime) -> Result<(), Fail> {
+fn equal_histories_do_not_collide(rt: HostRuntime) {
     let alloc = rt.alloc();
-    let one = history(alloc, b"put a 2")?;
-    let other = history(alloc, b"put a 2")?;
+    let one = history(&rt, alloc, b"put a 2");
+    let other = history(&rt, alloc, b"put a 2");
     let mut links = Links::new(alloc);
     assert_eq!(rt; links.add(&one, 0), Ok(false));
     assert_eq!(rt; links.add(&other, 0), Ok(false));
     assert_eq!(rt; links.add(&other, 3), Ok(false));
-    Ok(())
 }
 
 #[test]
-fn longer_history_does_not_collide(rt: HostRuntime) -> Result<(), Fail> {
+fn longer_history_does_not_collide(rt: HostRuntime) {
     let alloc = rt.alloc();
-    let mut whole = history(alloc, b"put a 2")?;
+    let mut whole = history(&rt, alloc, b"put a 2");
     let mut links = Links::new(alloc);
     assert_eq!(rt; links.add(&whole, 0), Ok(false));
-    whole.push(alloc, request(2, 7, b"del a"))?;
+    whole
+        .push(alloc, request(2, 7, b"del a"))
+        .expect(&rt, "memory");
     assert_eq!(rt; links.add(&whole, 3), Ok(false));
     whole.cut(1);
     assert_eq!(rt; links.add(&whole, 0), Ok(false));
-    Ok(())
 }
 
 #[test]
-fn histories_that_differ_do_not_collide(rt: HostRuntime) -> Result<(), Fail> {
+fn histories_that_differ_do_not_collide(rt: HostRuntime) {
     let alloc = rt.alloc();
-    let one = history(alloc, b"put a 2")?;
-    let other = history(alloc, b"put a 3")?;
+    let one = history(&rt, alloc, b"put a 2");
+    let other = history(&rt, alloc, b"put a 3");
     let empty = History::new(alloc);
     let mut links = Links::new(alloc);
     assert_eq!(rt; links.add(&empty, 0), Ok(false));
     assert_eq!(rt; links.add(&one, 0), Ok(false));
     assert_eq!(rt; links.add(&other, 1), Ok(false));
-    Ok(())
 }
 
 #[test]
-fn digests_made_up_collide(rt: HostRuntime) -> Result<(), Fail> {
+fn digests_made_up_collide(rt: HostRuntime) {
     let alloc = rt.alloc();
     let put = request(0, 1, b"put a 1");
     let get = request(0, 1, b"get a");
     let mut origins = IndexMap::new(alloc);
-    origins.reserve(5)?;
+    origins.reserve(5).expect(&rt, "memory");
     assert_eq!(rt; keep(&mut origins, [1; 32], [0; 32], &put), false);
     assert_eq!(rt; keep(&mut origins, [1; 32], [0; 32], &put), false);
     assert_eq!(rt; keep(&mut origins, [1; 32], [2; 32], &put), true);
     assert_eq!(rt; keep(&mut origins, [1; 32], [0; 32], &get), true);
     assert_eq!(rt; keep(&mut origins, [0; 32], [1; 32], &get), true);
     assert_eq!(rt; origins.len(), 2);
-    Ok(())
 }
 
 #[test]
-fn requests_and_bases_do_not_collide(rt: HostRuntime) -> Result<(), Fail> {
+fn requests_and_bases_do_not_collide(rt: HostRuntime) {
     let alloc = rt.alloc();
-    let mut whole = history(alloc, b"put a 2")?;
+    let mut whole = history(&rt, alloc, b"put a 2");
     let mut digests = Digests::new(alloc);
     assert_eq!(rt; digests.add_request(&request(0, 1, b"put a 1")), Ok(false));
     assert_eq!(rt; digests.add_request(&request(0, 1, b"get a")), Ok(false));
     assert_eq!(rt; digests.add_request(&request(0, 1, b"put a 1")), Ok(false));
     assert_eq!(rt; digests.add_history(&whole, 0), Ok(false));
-    whole.push(alloc, request(2, 7, b"del a"))?;
+    whole
+        .push(alloc, request(2, 7, b"del a"))
+        .expect(&rt, "memory");
     assert_eq!(rt; digests.add_history(&whole, 3), Ok(false));
     assert_eq!(rt; digests.add_history(&whole, 4), Ok(false));
-    Ok(())
 }

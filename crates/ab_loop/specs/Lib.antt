@@ -5,4 +5,3 @@ pub mod Nodes
 pub mod Outside
 pub mod Runs
 pub mod Texts
-pub mod Toys

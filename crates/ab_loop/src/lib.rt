@@ -16,6 +16,3 @@ pub use laws::nodes_follow_their_core;
 pub use party_core::{Commit, Input, PartyCore, Reaction, Sealed};
 pub use serving::{Commands, Job, Served, serve};
 pub use setting::Setting;
-
-#[cfg(test)]
-mod tests;

@@ -50,6 +50,3 @@ pub fn same(a: &[u8; 32], b: &[u8; 32]) -> bool
     }
     equal
 }
-
-#[cfg(test)]
-mod tests;

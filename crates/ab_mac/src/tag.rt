@@ -59,6 +59,3 @@ pub fn hmac(key: &[u8; 32], text: &[u8]) -> [u8; 32]
     outer.update(&inner.finalize());
     outer.finalize()
 }
-
-#[cfg(test)]
-mod tests;

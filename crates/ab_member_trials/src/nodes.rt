@@ -1,6 +1,6 @@
 //! The node of a client, whose four replicas answer.
 
-ghost use Rattle.std.specs.Prelude.{◌≡◌, ◌<◌, IfOk, IsTrue, replicate};
+ghost use Rattle.std.specs.Prelude.{◌≡◌, ◌<◌, IfOk, IfSome, IsTrue, replicate};
 ghost use Rattle.ab_num.specs.declared.party.Party.TheVariants.{Client};
 ghost use Rattle.ab_num.specs.declared.plan.Plan.TheVariants.{Quorum as QuorumPlan};
 ghost use Rattle.ab_num.specs.declared.plan.ServiceName.TheVariants.{Kv as KvService};
@@ -18,7 +18,6 @@ use ab_num::{Cluster, Height, OutOfMemory, Party, Plan, ServiceName};
 use ab_piece::cut;
 use ab_quorum::Quorum;
 use std::alloc::Global;
-use std::test::Fail;
 
 /// The keys of a party of a cluster of four replicas and one client.
 fn keys_for(alloc: Global, me: Party) -> Result<PartyKeys, OutOfMemory>
@@ -86,13 +85,13 @@ fn replies(alloc: Global) -> Result<Vec<Vec<u8>>, OutOfMemory> {
     Ok(datagrams)
 }
 
-fn job(alloc: Global, turns: u64) -> Result<Job<ClientMember>, Fail>
-    ensures { IfOk result (λ j. (j.setting.base ≡ 9000) × (j.setting.me ≡ Client 0)) }
+fn job(alloc: Global, turns: u64) -> Option<Job<ClientMember>>
+    ensures { IfSome result (λ j. (j.setting.base ≡ 9000) × (j.setting.me ≡ Client 0)) }
 {
     let mut commands = Commands::new(alloc);
-    commands.push(array_of(b"put a 1"))?;
-    Ok(Job {
-        core: client(alloc)?,
+    commands.push(array_of(b"put a 1")).ok()?;
+    Some(Job {
+        core: client(alloc).ok()?,
         setting: Setting {
             me: Party::Client(0),
             base: 9000,
@@ -115,27 +114,26 @@ fn link(alloc: Global, to_come: Vec<Vec<u8>>) -> MemLink {
 }
 
 #[test]
-fn a_quiet_link_uses_the_turns(rt: HostRuntime) -> Result<(), Fail> {
+fn a_quiet_link_uses_the_turns(rt: HostRuntime) {
     let alloc = rt.alloc();
     let mut link = link(alloc, Vec::new(alloc));
     let mut clock = MemClock::new(Vec::new(alloc));
     let mut out = SureSink::new(alloc);
-    let job = job(alloc, 3)?;
+    let job = job(alloc, 3).expect(&rt, "memory");
     assert_eq!(rt;
         serve(alloc, job, &mut link, &mut clock, &mut out),
         Err(ServeFault::TurnsSpent(1))
     );
     assert_eq!(rt; out.bytes(), b"end 1 4 0 0\n".as_slice());
-    Ok(())
 }
 
 #[test]
-fn four_replies_commit(rt: HostRuntime) -> Result<(), Fail> {
+fn four_replies_commit(rt: HostRuntime) {
     let alloc = rt.alloc();
-    let mut link = link(alloc, replies(alloc)?);
+    let mut link = link(alloc, replies(alloc).expect(&rt, "memory"));
     let mut clock = MemClock::new(Vec::new(alloc));
     let mut out = SureSink::new(alloc);
-    let job = job(alloc, 4)?;
+    let job = job(alloc, 4).expect(&rt, "memory");
     let served = Served {
         events: 5,
         sent: 4,
@@ -147,5 +145,4 @@ fn four_replies_commit(rt: HostRuntime) -> Result<(), Fail> {
         Ok(served)
     );
     assert_eq!(rt; out.bytes(), b"reply 1 1 1 ok\nend 5 4 0 0\n".as_slice());
-    Ok(())
 }

@@ -7,6 +7,3 @@ mod udp;
 
 pub use clock::StdClock;
 pub use udp::UdpLink;
-
-#[cfg(test)]
-mod tests;

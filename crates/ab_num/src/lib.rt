@@ -14,6 +14,3 @@ pub use cursor::Cur;
 pub use memory::OutOfMemory;
 pub use party::Party;
 pub use plan::{Height, Kind, Plan, ServiceName};
-
-#[cfg(test)]
-mod tests;

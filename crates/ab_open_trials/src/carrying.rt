@@ -7,7 +7,6 @@ use ab_msg::Tag;
 use ab_num::{Cluster, Party, Plan};
 use ab_open::open;
 use std::alloc::Global;
-use std::test::Fail;
 
 /// A checker that finds all right.
 #[derive(Clone, Copy)]
@@ -34,18 +33,17 @@ const CHAIN: [u8; 54] = [
 ];
 
 #[test]
-fn a_chain_carries_its_request(rt: HostRuntime) -> Result<(), Fail> {
+fn a_chain_carries_its_request(rt: HostRuntime) {
     let alloc = rt.alloc();
-    let k = Cluster::new(1, 1, Plan::Chain).ok_or("a cluster")?;
+    let k = Cluster::new(1, 1, Plan::Chain).expect(&rt, "a cluster");
     let me = Party::Replica(1);
     if !is_party(&k, me) {
-        return Ok(());
+        panic!(rt; "a party");
     }
     let checked = open(alloc, &k, me, &mut Trusting, &CHAIN)
         .ok()
-        .ok_or("it opens")?;
-    let found = carried(alloc, &k, &checked)?;
+        .expect(&rt, "it opens");
+    let found = carried(alloc, &k, &checked).expect(&rt, "memory");
     assert_eq!(rt; found.requests.len(), 1);
     assert_eq!(rt; found.histories.len(), 0);
-    Ok(())
 }

@@ -6,7 +6,6 @@ use ab_msg::Tag;
 use ab_num::{Cluster, Party, Plan};
 use ab_open::{OpenFault, claims, open};
 use std::alloc::Global;
-use std::test::Fail;
 
 /// A checker with one answer.
 #[derive(Clone, Copy)]
@@ -71,23 +70,22 @@ fn a_chain_wants_a_reply_at_its_client(rt: HostRuntime) {
 }
 
 #[test]
-fn a_chain_states_what_its_positions_check(rt: HostRuntime) -> Result<(), Fail> {
+fn a_chain_states_what_its_positions_check(rt: HostRuntime) {
     let alloc = rt.alloc();
-    let k = Cluster::new(1, 1, Plan::Chain).ok_or("a cluster")?;
+    let k = Cluster::new(1, 1, Plan::Chain).expect(&rt, "a cluster");
     let me = Party::Replica(1);
     if !is_party(&k, me) {
-        return Ok(());
+        panic!(rt; "a party");
     }
     let checked = open(alloc, &k, me, &mut Always(true), &CHAIN)
         .ok()
-        .ok_or("it opens")?;
-    let all = claims(alloc, &k, &checked)?;
+        .expect(&rt, "it opens");
+    let all = claims(alloc, &k, &checked).expect(&rt, "memory");
     assert_eq!(rt; all.as_slice().len(), 2);
     let mut stated = checked.stated(&k);
-    let (first, asked) = stated.next().ok_or("the client's request")?;
+    let (first, asked) = stated.next().expect(&rt, "the client's request");
     assert!(rt; first == Party::Client(0) && asked.as_slice().len() == 21);
-    let (second, passed) = stated.next().ok_or("the tag of position 1")?;
+    let (second, passed) = stated.next().expect(&rt, "the tag of position 1");
     assert!(rt; second == Party::Replica(0) && passed.as_slice().len() == 52);
     assert!(rt; stated.next().is_none());
-    Ok(())
 }

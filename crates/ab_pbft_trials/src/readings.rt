@@ -10,7 +10,6 @@ use ab_reading::read;
 use ab_slots::Input;
 use arrayvec::ArrayVec;
 use std::alloc::Global;
-use std::test::Fail;
 
 fn request(client: u16) -> Request {
     Request {
@@ -139,10 +138,10 @@ fn is_other(alloc: Global, c: &Cluster, i: u32, m: &Msg) -> Result<bool, OutOfMe
 }
 
 #[test]
-fn what_is_of_others_tells_nothing(rt: HostRuntime) -> Result<(), Fail> {
+fn what_is_of_others_tells_nothing(rt: HostRuntime) {
     let alloc = rt.alloc();
     let c = Cluster::new(1, 1, Plan::Backup).expect(&rt, "a cluster");
-    let ours = read(alloc, &c, 1, &prepare(alloc, Party::Replica(3), 1))?;
+    let ours = read(alloc, &c, 1, &prepare(alloc, Party::Replica(3), 1)).expect(&rt, "memory");
     assert!(rt;
         matches!(
             ours,
@@ -154,62 +153,68 @@ fn what_is_of_others_tells_nothing(rt: HostRuntime) -> Result<(), Fail> {
             }
         )
     );
-    assert!(rt; is_other(alloc, &c, 1, &prepare(alloc, Party::Replica(3), 2))?);
-    assert!(rt; is_other(alloc, &c, 1, &prepare(alloc, Party::Replica(4), 1))?);
-    assert!(rt; is_other(alloc, &c, 1, &prepare(alloc, Party::Client(3), 1))?);
-    Ok(())
+    assert!(rt;
+        is_other(alloc, &c, 1, &prepare(alloc, Party::Replica(3), 2)).expect(&rt, "memory")
+    );
+    assert!(rt;
+        is_other(alloc, &c, 1, &prepare(alloc, Party::Replica(4), 1)).expect(&rt, "memory")
+    );
+    assert!(rt; is_other(alloc, &c, 1, &prepare(alloc, Party::Client(3), 1)).expect(&rt, "memory"));
 }
 
 #[test]
-fn a_base_stands_in_slot_0(rt: HostRuntime) -> Result<(), Fail> {
+fn a_base_stands_in_slot_0(rt: HostRuntime) {
     let alloc = rt.alloc();
     let c = Cluster::new(1, 1, Plan::Backup).expect(&rt, "a cluster");
-    let empty = match read(alloc, &c, 1, &pre_prepare(1, 0, no_cert(alloc)))? {
+    let empty = match read(alloc, &c, 1, &pre_prepare(1, 0, no_cert(alloc))).expect(&rt, "memory") {
         Input::PrePrepareBase { by: 0, base, .. } => base.entries().is_empty(),
         _ => false,
     };
     assert!(rt; empty);
-    assert!(rt; is_other(alloc, &c, 1, &pre_prepare(1, 1, no_cert(alloc)))?);
-    assert!(rt; is_other(alloc, &c, 2, &pre_prepare(2, 0, no_cert(alloc)))?);
-    assert!(rt; is_other(alloc, &c, 1, &pre_prepare(1, 0, offered(0)))?);
-    let order = read(alloc, &c, 1, &pre_prepare(1, 5, offered(0)))?;
+    assert!(rt; is_other(alloc, &c, 1, &pre_prepare(1, 1, no_cert(alloc))).expect(&rt, "memory"));
+    assert!(rt; is_other(alloc, &c, 2, &pre_prepare(2, 0, no_cert(alloc))).expect(&rt, "memory"));
+    assert!(rt; is_other(alloc, &c, 1, &pre_prepare(1, 0, offered(0))).expect(&rt, "memory"));
+    let order = read(alloc, &c, 1, &pre_prepare(1, 5, offered(0))).expect(&rt, "memory");
     assert!(rt; matches!(order, Input::PrePrepare { slot: 5, .. }));
-    Ok(())
 }
 
 #[test]
-fn the_names_beside_aborts_do_not_matter(rt: HostRuntime) -> Result<(), Fail> {
+fn the_names_beside_aborts_do_not_matter(rt: HostRuntime) {
     let alloc = rt.alloc();
     let c = Cluster::new(1, 1, Plan::Quorum).expect(&rt, "a cluster");
-    assert_eq!(rt; base_len(alloc, &c, [0, 1, 2])?, 1);
-    assert_eq!(rt; base_len(alloc, &c, [3, 3, 9])?, 1);
-    Ok(())
+    assert_eq!(rt; base_len(alloc, &c, [0, 1, 2]).expect(&rt, "memory"), 1);
+    assert_eq!(rt; base_len(alloc, &c, [3, 3, 9]).expect(&rt, "memory"), 1);
 }
 
 #[test]
-fn lists_of_a_view_change_go_together(rt: HostRuntime) -> Result<(), Fail> {
+fn lists_of_a_view_change_go_together(rt: HostRuntime) {
     let alloc = rt.alloc();
     let c = Cluster::new(1, 1, Plan::Backup).expect(&rt, "a cluster");
-    let whole = view_change(alloc, Value::Base(History::new(alloc)), 3, 1)?;
-    let by = match read(alloc, &c, 1, &Msg::ViewChange { change: whole })? {
+    let whole = view_change(alloc, Value::Base(History::new(alloc)), 3, 1).expect(&rt, "memory");
+    let by = match read(alloc, &c, 1, &Msg::ViewChange { change: whole }).expect(&rt, "memory") {
         Input::ViewChange(change) => change.by(),
         _ => 9,
     };
     assert_eq!(rt; by, 2);
     for (signer, lists) in [(3, 0), (3, 2), (4, 1)] {
-        let change = view_change(alloc, Value::Base(History::new(alloc)), signer, lists)?;
+        let change = view_change(alloc, Value::Base(History::new(alloc)), signer, lists).expect(
+            &rt, "memory",
+        );
         assert!(rt;
-            is_other(alloc, &c, 1, &Msg::ViewChange { change })?,
+            is_other(alloc, &c, 1, &Msg::ViewChange { change }).expect(&rt, "memory"),
             "{signer} {lists}"
         );
     }
-    let change = view_change(alloc, Value::Request(request(0)), 3, 1)?;
-    assert!(rt; is_other(alloc, &c, 1, &new_view(alloc, change)?)?);
-    let change = view_change(alloc, Value::Base(History::new(alloc)), 3, 1)?;
-    let entered = match read(alloc, &c, 1, &new_view(alloc, change)?)? {
+    let change = view_change(alloc, Value::Request(request(0)), 3, 1).expect(&rt, "memory");
+    assert!(rt;
+        is_other(alloc, &c, 1, &new_view(alloc, change).expect(&rt, "memory")).expect(&rt, "memory")
+    );
+    let change = view_change(alloc, Value::Base(History::new(alloc)), 3, 1).expect(&rt, "memory");
+    let entered = match read(alloc, &c, 1, &new_view(alloc, change).expect(&rt, "memory")).expect(
+        &rt, "memory",
+    ) {
         Input::NewView { by: 1, changes, .. } => changes.len(),
         _ => 0,
     };
     assert_eq!(rt; entered, 1);
-    Ok(())
 }

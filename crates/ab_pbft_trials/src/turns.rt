@@ -15,7 +15,6 @@ use ab_num::{Cluster, Plan};
 use ab_read::read;
 use std::alloc::Global;
 use std::process::Abort;
-use std::test::Fail;
 
 /// What comes, a letter for each message that is sent then, and what the timer counts.
 type Step = (Coming, &'static [u8], Option<u64>);
@@ -62,7 +61,7 @@ const BY_OTHERS: [Step; 5] = [
     (Offer(0, 0, 0), b"", Some(1)),
 ];
 
-fn start<O: Orderer>(alloc: Global, c: &Cluster, me: u8) -> Result<O, Fail>
+fn start<O: Orderer>(alloc: Global, c: &Cluster, me: u8) -> Option<O>
     requires served { kind_of c.now.plan 1 ≡ kind.Backup }
     requires replica { me < 3 * c.now.f + 1 }
 {
@@ -70,7 +69,7 @@ fn start<O: Orderer>(alloc: Global, c: &Cluster, me: u8) -> Result<O, Fail>
         base: History::new(alloc),
         cert: None,
     };
-    Ok(O::start(alloc, c, 1, me, &entry)?)
+    O::start(alloc, c, 1, me, &entry).ok()
 }
 
 /// What a replica is once this came, and what it sends.
@@ -79,32 +78,27 @@ fn heard<O: Orderer, N: Notary>(
     order: &O,
     coming: Coming,
     n: &mut N,
-) -> Result<(O, Outs), Fail> {
+) -> Option<(O, Outs)> {
     if let Timeout = coming {
-        return Ok(order.timeout(alloc, n)?);
+        return order.timeout(alloc, n).ok();
     }
-    let bytes = bytes_of(alloc, coming)?;
-    let m = read(bytes.as_slice())?;
-    Ok(order.on(alloc, m, n)?)
+    let bytes = bytes_of(alloc, coming).ok()?;
+    let m = read(bytes.as_slice()).ok()?;
+    order.on(alloc, m, n).ok()
 }
 
 /// Goes through these steps with a replica.
-fn go<O: Orderer>(
-    rt: &impl Abort,
-    alloc: Global,
-    mut order: O,
-    steps: &[Step],
-) -> Result<(), Fail> {
+fn go<O: Orderer>(rt: &impl Abort, alloc: Global, mut order: O, steps: &[Step]) -> Option<()> {
     let mut pen = Blank::new();
     assert_eq!(rt; order.turns(), None);
     for (coming, sent, turns) in steps {
         let (next, outs) = heard(alloc, &order, *coming, &mut pen)?;
         order = next;
-        let sends = letters(alloc, outs.as_slice())?;
+        let sends = letters(alloc, outs.as_slice()).ok()?;
         assert_eq!(rt; sends.as_slice(), *sent, "at {coming:?}");
         assert_eq!(rt; order.turns(), *turns, "at {coming:?}");
     }
-    Ok(())
+    Some(())
 }
 
 /// What replica 3 sends as VIEW-CHANGEs of replicas 1 and 2 for view 1 come, and what its timer counts with the request.
@@ -114,41 +108,41 @@ fn followed<O: Orderer>(
     at: u8,
     digest: &[u8; 32],
     signers: &[u8],
-) -> Result<(usize, Option<u64>), Fail> {
+) -> Option<(usize, Option<u64>)> {
     let mut pen = Blank::new();
     let mut count = 0;
     for by in [1, 2] {
-        let bytes = stating(alloc, by, at, digest, signers)?;
-        let m = read(bytes.as_slice())?;
-        let (next, outs) = order.on(alloc, m, &mut pen)?;
+        let bytes = stating(alloc, by, at, digest, signers).ok()?;
+        let m = read(bytes.as_slice()).ok()?;
+        let (next, outs) = order.on(alloc, m, &mut pen).ok()?;
         order = next;
         count = outs.len();
     }
     let (order, _) = heard(alloc, &order, Request, &mut pen)?;
-    Ok((count, order.turns()))
+    Some((count, order.turns()))
 }
 
 #[test]
-fn its_timer_rests_while_nothing_waits(rt: HostRuntime) -> Result<(), Fail> {
+fn its_timer_rests_while_nothing_waits(rt: HostRuntime) {
     let c = Cluster::new(1, 1, Plan::Backup).expect(&rt, "a cluster");
-    let replica = start::<Pbft>(rt.alloc(), &c, 1)?;
-    go(&rt, rt.alloc(), replica, &BY_OFFERS)
+    let replica = start::<Pbft>(rt.alloc(), &c, 1).expect(&rt, "memory");
+    go(&rt, rt.alloc(), replica, &BY_OFFERS).expect(&rt, "memory");
 }
 
 #[test]
-fn its_timer_counts_the_views_that_it_left(rt: HostRuntime) -> Result<(), Fail> {
+fn its_timer_counts_the_views_that_it_left(rt: HostRuntime) {
     let c = Cluster::new(1, 1, Plan::Backup).expect(&rt, "a cluster");
-    let replica = start::<Pbft>(rt.alloc(), &c, 2)?;
-    go(&rt, rt.alloc(), replica, &BY_TIMEOUTS)?;
-    let replica = start::<Pbft>(rt.alloc(), &c, 3)?;
-    go(&rt, rt.alloc(), replica, &BY_OTHERS)
+    let replica = start::<Pbft>(rt.alloc(), &c, 2).expect(&rt, "memory");
+    go(&rt, rt.alloc(), replica, &BY_TIMEOUTS).expect(&rt, "memory");
+    let replica = start::<Pbft>(rt.alloc(), &c, 3).expect(&rt, "memory");
+    go(&rt, rt.alloc(), replica, &BY_OTHERS).expect(&rt, "memory");
 }
 
 #[test]
-fn view_changes_that_do_not_fit_are_ignored(rt: HostRuntime) -> Result<(), Fail> {
+fn view_changes_that_do_not_fit_are_ignored(rt: HostRuntime) {
     let c = Cluster::new(1, 1, Plan::Backup).expect(&rt, "a cluster");
-    let replica = start::<Pbft>(rt.alloc(), &c, 3)?;
-    let fits = followed(rt.alloc(), replica, 0, &BASE_DIGEST, &[0, 1, 2])?;
+    let replica = start::<Pbft>(rt.alloc(), &c, 3).expect(&rt, "memory");
+    let fits = followed(rt.alloc(), replica, 0, &BASE_DIGEST, &[0, 1, 2]).expect(&rt, "memory");
     assert_eq!(rt; fits, (3, Some(1)));
     let unfit: [(u8, &[u8; 32], &[u8]); 5] = [
         (1, &BASE_DIGEST, &[0, 1, 2]),
@@ -158,9 +152,8 @@ fn view_changes_that_do_not_fit_are_ignored(rt: HostRuntime) -> Result<(), Fail>
         (0, &BASE_DIGEST, &[0, 1, 2, 3]),
     ];
     for (at, digest, signers) in unfit {
-        let replica = start::<Pbft>(rt.alloc(), &c, 3)?;
-        let ignored = followed(rt.alloc(), replica, at, digest, signers)?;
+        let replica = start::<Pbft>(rt.alloc(), &c, 3).expect(&rt, "memory");
+        let ignored = followed(rt.alloc(), replica, at, digest, signers).expect(&rt, "memory");
         assert_eq!(rt; ignored, (0, Some(0)), "{at} {signers:?}");
     }
-    Ok(())
 }

@@ -9,6 +9,3 @@ mod picture;
 
 pub use composing::compose;
 pub use picture::{Arrow, Cue, Lane, Mark, Moment, Parcel, Picture, Sign, Stub, Told};
-
-#[cfg(test)]
-mod tests;

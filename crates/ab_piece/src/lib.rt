@@ -16,6 +16,3 @@ pub use laws::{
     whole_messages_came,
 };
 pub use taken::{Cause, Taken};
-
-#[cfg(test)]
-mod tests;

@@ -9,6 +9,3 @@ mod writing;
 
 pub use laws::{written_is_read, written_is_spelled};
 pub use writing::write_schedule;
-
-#[cfg(test)]
-mod tests;

@@ -1,6 +1,12 @@
-//! Tests of trees and signers: apart from their crates, so that these aren't proved once more for them.
+//! Tests of key rings, one-time signatures, trees and signers: apart from their crates, so that these aren't proved once more for them.
 #![tactic(auto)]
 
+#[cfg(test)]
+mod known;
+#[cfg(test)]
+mod once;
+#[cfg(test)]
+mod rings;
 #[cfg(test)]
 mod signers;
 #[cfg(test)]

@@ -8,7 +8,6 @@ use ab_msg::{Content, Notary};
 use ab_num::{Cluster, Height, Party, Plan};
 use ab_sign::{Pen, SecretKey, SignKey, Signers, Verifier};
 use ab_write::content_bytes;
-use std::test::Fail;
 
 const SEED: [u8; 32] = [0; 32];
 
@@ -36,31 +35,26 @@ fn prepare(replica: u8) -> Content {
 }
 
 #[test]
-fn signs_as_others_do(rt: HostRuntime) -> Result<(), Fail> {
-    let Some(cluster) = Cluster::new(1, 1, Plan::Backup) else {
-        return Ok(());
-    };
-    let signers = Signers::derive(rt.alloc(), &cluster, Height::Five, &SEED)?;
+fn signs_as_others_do(rt: HostRuntime) {
+    let cluster = Cluster::new(1, 1, Plan::Backup).expect(&rt, "a cluster");
+    let signers = Signers::derive(rt.alloc(), &cluster, Height::Five, &SEED).expect(&rt, "memory");
     let mut pen = Pen::new(&signers, 0, 0);
     let Ok(sig) = pen.sign(rt.alloc(), &prepare(0)) else {
-        return Ok(());
+        panic!(rt; "no signature");
     };
     assert_eq!(rt; hash(sig.as_slice()), FIRST);
-    Ok(())
 }
 
 #[test]
-fn signed_and_checked(rt: HostRuntime) -> Result<(), Fail> {
-    let Some(cluster) = Cluster::new(1, 1, Plan::Backup) else {
-        return Ok(());
-    };
-    let signers = Signers::derive(rt.alloc(), &cluster, Height::Five, &SEED)?;
-    let ring = KeyRing::derive(rt.alloc(), &cluster, &SEED, Party::Client(0))?;
+fn signed_and_checked(rt: HostRuntime) {
+    let cluster = Cluster::new(1, 1, Plan::Backup).expect(&rt, "a cluster");
+    let signers = Signers::derive(rt.alloc(), &cluster, Height::Five, &SEED).expect(&rt, "memory");
+    let ring = KeyRing::derive(rt.alloc(), &cluster, &SEED, Party::Client(0)).expect(&rt, "memory");
     let mut pen = Pen::new(&signers, 1, 31);
     let content = prepare(1);
-    let text = content_bytes(rt.alloc(), &content)?;
+    let text = content_bytes(rt.alloc(), &content).expect(&rt, "memory");
     let Ok(sig) = pen.sign(rt.alloc(), &content) else {
-        return Ok(());
+        panic!(rt; "no signature");
     };
     assert_eq!(rt; (pen.used(), pen.left()), (32, 0));
     assert!(rt; pen.sign(rt.alloc(), &content).is_err());
@@ -69,21 +63,19 @@ fn signed_and_checked(rt: HostRuntime) -> Result<(), Fail> {
     assert!(rt; !verifier.sig(rt.alloc(), Party::Replica(2), &text, sig.as_slice()));
     assert!(rt; !verifier.sig(rt.alloc(), Party::Client(1), &text, sig.as_slice()));
     assert!(rt; !verifier.tag(Party::Replica(1), &text, None));
-    Ok(())
 }
 
 #[test]
-fn public_keys_do_not_sign(rt: HostRuntime) -> Result<(), Fail> {
+fn public_keys_do_not_sign(rt: HostRuntime) {
     let secret = SecretKey::new(Height::Five, [1; 16], SEED);
-    let sig = secret.sign_at(rt.alloc(), 3, b"text")?;
+    let sig = secret.sign_at(rt.alloc(), 3, b"text").expect(&rt, "memory");
     let public = secret.public();
     assert!(rt; verify(&public, b"text", &sig));
     let mut keys = Vec::new(rt.alloc());
-    keys.push(SignKey::Public(public))?;
+    keys.push(SignKey::Public(public)).expect(&rt, "memory");
     let signers = Signers::of(rt.alloc(), keys);
     assert_eq!(rt; signers.leaves(0), 0);
     assert!(rt; signers.verifies(rt.alloc(), 0, b"text", &sig));
     assert!(rt; signers.verifies(rt.alloc(), 0, b"text", &sig));
     assert!(rt; !signers.verifies(rt.alloc(), 1, b"text", &sig));
-    Ok(())
 }

@@ -3,7 +3,6 @@
 use ab_lms::{SignFault, Signer, public_key, verify};
 use ab_mac::hash;
 use ab_num::Height;
-use std::test::Fail;
 
 /// A key and one of its signatures, as an independent implementation made them. The signature is
 /// given by its SHA-256 digest.
@@ -108,22 +107,25 @@ const TEN_LAST: Row = Row {
 };
 
 #[test]
-fn first_leaf_of_height_five(rt: HostRuntime) -> Result<(), Fail> {
-    let mut signer = Signer::new(rt.alloc(), Height::Five, FIVE_FIRST.id, FIVE_FIRST.seed)?;
+fn first_leaf_of_height_five(rt: HostRuntime) {
+    let mut signer = Signer::new(rt.alloc(), Height::Five, FIVE_FIRST.id, FIVE_FIRST.seed).expect(
+        &rt, "memory",
+    );
     assert_eq!(rt; signer.public(), FIVE_FIRST.public);
-    let mut copied = signer.copy(rt.alloc())?;
-    let sig = signer.sign(rt.alloc(), b"")?;
+    let mut copied = signer.copy(rt.alloc()).expect(&rt, "memory");
+    let sig = signer.sign(rt.alloc(), b"").expect(&rt, "memory");
     assert_eq!(rt; hash(&sig), FIVE_FIRST.digest);
-    let sig = copied.sign(rt.alloc(), b"")?;
+    let sig = copied.sign(rt.alloc(), b"").expect(&rt, "memory");
     assert_eq!(rt; hash(&sig), FIVE_FIRST.digest);
-    Ok(())
 }
 
 #[test]
-fn altered_signature(rt: HostRuntime) -> Result<(), Fail> {
-    let mut signer = Signer::new(rt.alloc(), Height::Five, FIVE_FIRST.id, FIVE_FIRST.seed)?;
+fn altered_signature(rt: HostRuntime) {
+    let mut signer = Signer::new(rt.alloc(), Height::Five, FIVE_FIRST.id, FIVE_FIRST.seed).expect(
+        &rt, "memory",
+    );
     let public = signer.public();
-    let mut sig = signer.sign(rt.alloc(), b"")?;
+    let mut sig = signer.sign(rt.alloc(), b"").expect(&rt, "memory");
     assert!(rt; verify(&public, b"", &sig));
     assert!(rt; !verify(&public, b"0", &sig));
     if let Some(last) = sig.last_mut() {
@@ -132,59 +134,61 @@ fn altered_signature(rt: HostRuntime) -> Result<(), Fail> {
     assert!(rt; !verify(&public, b"", &sig));
     if let Some(last) = sig.pop() {
         assert!(rt; !verify(&public, b"", &sig));
-        sig.push(last ^ 1)?;
+        sig.push(last ^ 1).expect(&rt, "memory");
     }
     assert!(rt; verify(&public, b"", &sig));
-    Ok(())
 }
 
 #[test]
-fn last_leaf_of_height_five(rt: HostRuntime) -> Result<(), Fail> {
+fn last_leaf_of_height_five(rt: HostRuntime) {
     let msg = b"The powers not delegated";
-    let mut signer = Signer::new(rt.alloc(), Height::Five, FIVE_LAST.id, FIVE_LAST.seed)?;
+    let mut signer = Signer::new(rt.alloc(), Height::Five, FIVE_LAST.id, FIVE_LAST.seed).expect(
+        &rt, "memory",
+    );
     assert_eq!(rt; signer.public(), FIVE_LAST.public);
     for _ in 0..31 {
-        signer.sign(rt.alloc(), msg)?;
+        signer.sign(rt.alloc(), msg).expect(&rt, "memory");
     }
-    let sig = signer.sign(rt.alloc(), msg)?;
+    let sig = signer.sign(rt.alloc(), msg).expect(&rt, "memory");
     assert_eq!(rt; hash(&sig), FIVE_LAST.digest);
     assert!(rt; verify(&FIVE_LAST.public, msg, &sig));
     assert!(rt; matches!(signer.sign(rt.alloc(), msg), Err(SignFault::Spent)));
     assert_eq!(rt; (signer.used(), signer.left()), (32, 0));
-    Ok(())
 }
 
 #[test]
-fn first_leaf_of_height_ten(rt: HostRuntime) -> Result<(), Fail> {
+fn first_leaf_of_height_ten(rt: HostRuntime) {
     let mut msg = [0u8; 256];
     for i in 0..256 {
         msg[i] = i as u8;
     }
-    let mut signer = Signer::new(rt.alloc(), Height::Ten, TEN_FIRST.id, TEN_FIRST.seed)?;
+    let mut signer = Signer::new(rt.alloc(), Height::Ten, TEN_FIRST.id, TEN_FIRST.seed).expect(
+        &rt, "memory",
+    );
     assert_eq!(rt; signer.public(), TEN_FIRST.public);
-    let sig = signer.sign(rt.alloc(), &msg)?;
+    let sig = signer.sign(rt.alloc(), &msg).expect(&rt, "memory");
     assert_eq!(rt; hash(&sig), TEN_FIRST.digest);
     assert!(rt; verify(&TEN_FIRST.public, &msg, &sig));
-    Ok(())
 }
 
 #[test]
-fn last_leaf_of_height_ten(rt: HostRuntime) -> Result<(), Fail> {
-    let mut signer = Signer::new(rt.alloc(), Height::Ten, TEN_LAST.id, TEN_LAST.seed)?;
+fn last_leaf_of_height_ten(rt: HostRuntime) {
+    let mut signer = Signer::new(rt.alloc(), Height::Ten, TEN_LAST.id, TEN_LAST.seed).expect(
+        &rt, "memory",
+    );
     assert_eq!(rt; signer.public(), TEN_LAST.public);
     for _ in 0..1023 {
-        signer.sign(rt.alloc(), b"")?;
+        signer.sign(rt.alloc(), b"").expect(&rt, "memory");
     }
-    let sig = signer.sign(rt.alloc(), b"abort")?;
+    let sig = signer.sign(rt.alloc(), b"abort").expect(&rt, "memory");
     assert_eq!(rt; hash(&sig), TEN_LAST.digest);
     assert!(rt; verify(&TEN_LAST.public, b"abort", &sig));
     assert_eq!(rt; signer.left(), 0);
-    Ok(())
 }
 
 /// RFC 8554, Appendix F, test case 2: the public key of the top tree.
 #[test]
-fn public_key_of_the_standard(rt: HostRuntime) -> Result<(), Fail> {
+fn public_key_of_the_standard(rt: HostRuntime) {
     let id = [
         0xd0, 0x8f, 0xab, 0xd4, 0xa2, 0x09, 0x1f, 0xf0, 0xa8, 0xcb, 0x4e, 0xd8, 0x34, 0xe7, 0x45,
         0x34,
@@ -201,5 +205,4 @@ fn public_key_of_the_standard(rt: HostRuntime) -> Result<(), Fail> {
         0x45, 0xfa, 0x53, 0xcf, 0x16, 0x1c, 0x28, 0xf1, 0xad, 0x5a, 0x8e,
     ];
     assert_eq!(rt; public_key(Height::Ten, &id, &seed), public);
-    Ok(())
 }

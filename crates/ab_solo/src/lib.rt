@@ -4,6 +4,3 @@
 mod solo;
 
 pub use solo::Solo;
-
-#[cfg(test)]
-mod tests;

@@ -6,6 +6,3 @@ mod storm;
 
 pub use laws::storms_can_happen;
 pub use storm::Storm;
-
-#[cfg(test)]
-mod tests;

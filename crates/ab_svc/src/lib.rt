@@ -7,6 +7,3 @@ mod service;
 pub use ab_hist::Reply;
 pub use echo::Echo;
 pub use service::Service;
-
-#[cfg(test)]
-mod tests;

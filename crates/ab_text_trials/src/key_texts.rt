@@ -3,7 +3,6 @@
 use ab_key_text::{KeyFault, NodeFault, PartyKeys, read_node};
 use ab_keys::{KeyRing, is_party};
 use ab_num::{Cluster, Height, Party, Plan, ServiceName};
-use std::test::Fail;
 
 /// The keys of c0 in a cluster of plan `quorum`, f 1 and 1 client, by the seed of 32 zero bytes.
 const OF_C0: &str = "\
@@ -68,15 +67,15 @@ public r6 0000000500000003e6d30519f62111a299a633c052b69abd1752fb3378923914e9e6d3
 const SEED: [u8; 32] = [0; 32];
 
 /// The text in which one is replaced by another, at its first place.
-fn altered(rt: &HostRuntime, text: &str, old: &str, new: &str) -> Result<String, Fail> {
+fn altered(rt: &HostRuntime, text: &str, old: &str, new: &str) -> Option<String> {
     match text.find(old) {
-        None => Err(Fail::from("it stands there")),
+        None => None,
         Some(at) => {
             let (front, back) = text.split_at(at);
-            let mut out = String::from_str(rt.alloc(), front)?;
-            out.push_str(new)?;
-            out.push_str(back.strip_prefix(old).ok_or("it stands there")?)?;
-            Ok(out)
+            let mut out = String::from_str(rt.alloc(), front).ok()?;
+            out.push_str(new).ok()?;
+            out.push_str(back.strip_prefix(old)?).ok()?;
+            Some(out)
         }
     }
 }
@@ -86,44 +85,47 @@ fn fault_of(rt: &HostRuntime, text: &str) -> Option<KeyFault> {
 }
 
 #[test]
-fn derived_text(rt: HostRuntime) -> Result<(), Fail> {
-    let c = Cluster::new(2, 3, Plan::Aliph).ok_or("in bounds")?;
+fn derived_text(rt: HostRuntime) {
+    let c = Cluster::new(2, 3, Plan::Aliph).expect(&rt, "in bounds");
     let me = Party::Replica(6);
     if !is_party(&c, me) {
-        return Err(Fail::from("a party"));
+        panic!(rt; "a party");
     }
-    let keys = PartyKeys::derive(rt.alloc(), &c, ServiceName::Kv, Height::Five, &SEED, me)?;
-    let text = keys.text(rt.alloc())?;
+    let keys = PartyKeys::derive(rt.alloc(), &c, ServiceName::Kv, Height::Five, &SEED, me).expect(
+        &rt, "memory",
+    );
+    let text = keys.text(rt.alloc()).expect(&rt, "memory");
     assert_eq!(rt; text.as_slice(), OF_R6.as_bytes());
     assert_eq!(rt; keys.me(), me);
     assert_eq!(rt; *keys.cluster(), c);
     assert_eq!(rt; keys.service(), ServiceName::Kv);
     assert_eq!(rt; keys.height(), Height::Five);
-    let ring = keys.ring(rt.alloc())?;
-    let derived = KeyRing::derive(rt.alloc(), &c, &SEED, me)?;
+    let ring = keys.ring(rt.alloc()).expect(&rt, "memory");
+    let derived = KeyRing::derive(rt.alloc(), &c, &SEED, me).expect(&rt, "memory");
     let to = Party::Client(2);
     assert_eq!(rt;
         ring.tag_for(to, b"put a 1"),
         derived.tag_for(to, b"put a 1")
     );
-    Ok(())
 }
 
 #[test]
-fn read_text(rt: HostRuntime) -> Result<(), Fail> {
+fn read_text(rt: HostRuntime) {
     for text in [OF_C0, OF_R6] {
         match PartyKeys::read(rt.alloc(), text.as_bytes()) {
-            Ok(keys) => assert_eq!(rt; keys.text(rt.alloc())?.as_slice(), text.as_bytes()),
-            Err(_) => return Err(Fail::from("a key text")),
+            Ok(keys) => assert_eq!(rt;
+                keys.text(rt.alloc()).expect(&rt, "memory").as_slice(),
+                text.as_bytes()
+            ),
+            Err(_) => panic!(rt; "a key text"),
         }
     }
-    let open = OF_C0.strip_suffix("\n").ok_or("it ends so")?;
+    let open = OF_C0.strip_suffix("\n").expect(&rt, "it ends so");
     assert_eq!(rt; fault_of(&rt, open), None);
-    Ok(())
 }
 
 #[test]
-fn bad_lines(rt: HostRuntime) -> Result<(), Fail> {
+fn bad_lines(rt: HostRuntime) {
     let cases = [
         ("party c0\n", "", 2),
         ("party c0\n", "party c1\n", 2),
@@ -138,10 +140,10 @@ fn bad_lines(rt: HostRuntime) -> Result<(), Fail> {
         ("public r3 0", "public r4 0", 19),
     ];
     for (old, new, n) in cases {
-        let text = altered(&rt, OF_C0, old, new)?;
+        let text = altered(&rt, OF_C0, old, new).expect(&rt, "memory");
         assert_eq!(rt; fault_of(&rt, text.as_str()), Some(KeyFault::BadLine(n)));
     }
-    let more = altered(&rt, OF_C0, "keys 1\n", "keys 1\n")?;
+    let more = altered(&rt, OF_C0, "keys 1\n", "keys 1\n").expect(&rt, "memory");
     assert_eq!(rt; fault_of(&rt, more.as_str()), None);
     assert_eq!(rt; fault_of(&rt, ""), Some(KeyFault::BadLine(1)));
     assert_eq!(rt;
@@ -156,47 +158,51 @@ fn bad_lines(rt: HostRuntime) -> Result<(), Fail> {
         fault_of(&rt, "keys 1\nparty r1\nf 1\nclients 1\n"),
         Some(KeyFault::BadLine(5))
     );
-    Ok(())
 }
 
 /// What is wrong with a node's text.
-fn node_fault(rt: &HostRuntime, front: &str, back: &str) -> Result<Option<NodeFault>, Fail> {
-    let text = format!(in rt.alloc(); "{front}{back}")?;
+fn node_fault(rt: &HostRuntime, front: &str, back: &str) -> Option<Option<NodeFault>> {
+    let text = format!(in rt.alloc(); "{front}{back}").ok()?;
     if text.len() > 100000 {
-        return Err(Fail::from("short"));
+        return None;
     }
-    Ok(read_node(rt.alloc(), text.as_bytes()).err())
+    Some(read_node(rt.alloc(), text.as_bytes()).err())
 }
 
 #[test]
-fn nodes(rt: HostRuntime) -> Result<(), Fail> {
-    assert_eq!(rt; node_fault(&rt, OF_C0, "end\n")?, None);
-    assert_eq!(rt; node_fault(&rt, OF_C0, "do put a 1\ndo  x\nend")?, None);
-    assert_eq!(rt; node_fault(&rt, OF_R6, "end")?, None);
-    assert_eq!(rt; node_fault(&rt, OF_C0, "")?, Some(NodeFault::NoEnd(20)));
+fn nodes(rt: HostRuntime) {
+    assert_eq!(rt; node_fault(&rt, OF_C0, "end\n").expect(&rt, "memory"), None);
     assert_eq!(rt;
-        node_fault(&rt, OF_C0, "do put a 1\n")?,
+        node_fault(&rt, OF_C0, "do put a 1\ndo  x\nend").expect(&rt, "memory"),
+        None
+    );
+    assert_eq!(rt; node_fault(&rt, OF_R6, "end").expect(&rt, "memory"), None);
+    assert_eq!(rt;
+        node_fault(&rt, OF_C0, "").expect(&rt, "memory"),
+        Some(NodeFault::NoEnd(20))
+    );
+    assert_eq!(rt;
+        node_fault(&rt, OF_C0, "do put a 1\n").expect(&rt, "memory"),
         Some(NodeFault::NoEnd(21))
     );
     assert_eq!(rt;
-        node_fault(&rt, OF_C0, "end\nend\n")?,
+        node_fault(&rt, OF_C0, "end\nend\n").expect(&rt, "memory"),
         Some(NodeFault::BadLine(21))
     );
     assert_eq!(rt;
-        node_fault(&rt, OF_C0, "do \nend\n")?,
+        node_fault(&rt, OF_C0, "do \nend\n").expect(&rt, "memory"),
         Some(NodeFault::BadLine(20))
     );
     assert_eq!(rt;
-        node_fault(&rt, OF_C0, "do a\tb\nend\n")?,
+        node_fault(&rt, OF_C0, "do a\tb\nend\n").expect(&rt, "memory"),
         Some(NodeFault::BadLine(20))
     );
     assert_eq!(rt;
-        node_fault(&rt, OF_R6, "do put a 1\nend\n")?,
+        node_fault(&rt, OF_R6, "do put a 1\nend\n").expect(&rt, "memory"),
         Some(NodeFault::BadLine(34))
     );
     assert_eq!(rt;
-        node_fault(&rt, "keys 1\nparty c0\n", "")?,
+        node_fault(&rt, "keys 1\nparty c0\n", "").expect(&rt, "memory"),
         Some(NodeFault::NoEnd(3))
     );
-    Ok(())
 }

@@ -11,7 +11,6 @@ use ab_text::{
 use arrayvec::ArrayVec;
 use std::alloc::Global;
 use std::process::Abort;
-use std::test::Fail;
 
 /// What is wrong with a text, if anything is.
 fn fault_in(alloc: Global, rt: &impl Abort, text: &[u8]) -> Option<TextFault> {
@@ -22,7 +21,7 @@ fn fault_in(alloc: Global, rt: &impl Abort, text: &[u8]) -> Option<TextFault> {
 const HEAD: &str = "abstract 1\nf 1\nplan quorum\nclients 2\nservice echo\nlms 5\n";
 
 #[test]
-fn heads(rt: HostRuntime) -> Result<(), Fail> {
+fn heads(rt: HostRuntime) {
     let alloc = rt.alloc();
     let cases = [
         ("", TextFault::NoEnd(1)),
@@ -73,11 +72,10 @@ fn heads(rt: HostRuntime) -> Result<(), Fail> {
             "{text}"
         );
     }
-    Ok(())
 }
 
 #[test]
-fn plans(rt: HostRuntime) -> Result<(), Fail> {
+fn plans(rt: HostRuntime) {
     let alloc = rt.alloc();
     let cases = [
         ("azyzzyva", Plan::AZyzzyva),
@@ -87,31 +85,30 @@ fn plans(rt: HostRuntime) -> Result<(), Fail> {
     for (name, plan) in cases {
         let text = format!(in alloc;
             "abstract 1\nf 1\nplan {name}\nclients 1\nservice kv\nlms 10\nrun\nend\n"
-        )?;
+        ).expect(&rt, "memory");
         assert!(rt; text.len() < 1000);
         match read_schedule(alloc, text.as_bytes()) {
             Err(_) => assert!(rt; false),
             Ok(schedule) => assert_eq!(rt; schedule.head.cluster.plan, plan),
         }
     }
-    Ok(())
 }
 
 /// Checks that what follows the head is refused so.
-fn refused(alloc: Global, rt: &impl Abort, cases: &[(&str, TextFault)]) -> Result<(), Fail> {
+fn refused(alloc: Global, rt: &impl Abort, cases: &[(&str, TextFault)]) -> Option<()> {
     for (rest, fault) in cases {
-        let text = format!(in alloc; "{HEAD}{rest}")?;
+        let text = format!(in alloc; "{HEAD}{rest}").ok()?;
         assert_eq!(rt;
             fault_in(alloc, rt, text.as_bytes()),
             Some(*fault),
             "{rest}"
         );
     }
-    Ok(())
+    Some(())
 }
 
 #[test]
-fn lines(rt: HostRuntime) -> Result<(), Fail> {
+fn lines(rt: HostRuntime) {
     let alloc = rt.alloc();
     let long =
         "invoke c0 aaaaaaaaaaaaaaaaaaaaaaaaaaaaaaaaaaaaaaaaaaaaaaaaaaaaaaaaaaaaaaaaaaaaaaaaaaaaaaaaaaaaaaaaaaaaaaaaaaaaaaaaaaaaaaaaaaaaaaaaaaaaaaaaa";
@@ -145,21 +142,20 @@ fn lines(rt: HostRuntime) -> Result<(), Fail> {
         ("run\ninvoke r9 x", TextFault::BadLine(8)),
         (long, TextFault::BadLine(7)),
     ];
-    refused(alloc, &rt, &cases)?;
-    let text = format!(in alloc; "{HEAD}run\n{long}")?;
+    refused(alloc, &rt, &cases).expect(&rt, "memory");
+    let text = format!(in alloc; "{HEAD}run\n{long}").expect(&rt, "memory");
     assert_eq!(rt;
         fault_in(alloc, &rt, text.as_bytes()),
         Some(TextFault::BadLine(8))
     );
     let text = format!(in alloc;
         "{HEAD}run\ninvoke c99 a\ndeliver 0\ndeliver 18446744073709551615\nend"
-    )?;
+    ).expect(&rt, "memory");
     assert_eq!(rt; fault_in(alloc, &rt, text.as_bytes()), None);
-    Ok(())
 }
 
 #[test]
-fn reads(rt: HostRuntime) -> Result<(), Fail> {
+fn reads(rt: HostRuntime) {
     let text =
         b"abstract 1\nf 1\nplan quorum\nclients 1\nservice echo\nlms 5\nrun\ninvoke c0  x \ndeliver 1\ndeliver 8\nend\n";
     read_is_spelled();
@@ -194,11 +190,10 @@ fn reads(rt: HostRuntime) -> Result<(), Fail> {
             }
         }
     }
-    Ok(())
 }
 
 #[test]
-fn faulty_lines(rt: HostRuntime) -> Result<(), Fail> {
+fn faulty_lines(rt: HostRuntime) {
     let cases = [
         ("faulty r1 0", TextFault::BadLine(7)),
         ("faulty r1 5", TextFault::BadLine(7)),
@@ -225,11 +220,11 @@ fn faulty_lines(rt: HostRuntime) -> Result<(), Fail> {
             TextFault::NoEnd(11),
         ),
     ];
-    refused(rt.alloc(), &rt, &cases)
+    refused(rt.alloc(), &rt, &cases).expect(&rt, "memory");
 }
 
 #[test]
-fn injections(rt: HostRuntime) -> Result<(), Fail> {
+fn injections(rt: HostRuntime) {
     let cases = [
         ("run\ninject r0", TextFault::BadLine(8)),
         ("run\ninject r0 ", TextFault::BadLine(8)),
@@ -240,15 +235,15 @@ fn injections(rt: HostRuntime) -> Result<(), Fail> {
         ("run\ninject r0.0 0a", TextFault::BadLine(8)),
         ("run\ninject r0.1 0abf", TextFault::NoEnd(9)),
     ];
-    refused(rt.alloc(), &rt, &cases)
+    refused(rt.alloc(), &rt, &cases).expect(&rt, "memory");
 }
 
 #[test]
-fn reads_twins(rt: HostRuntime) -> Result<(), Fail> {
+fn reads_twins(rt: HostRuntime) {
     let alloc = rt.alloc();
     let text = format!(in alloc;
         "{HEAD}faulty r0 1\nfaulty r3 4\nfaulty c0 2\nrun\ninvoke c0.2 x\ndeliver 1 r0.1\ninject c0 0a\ninject r9.255 00ff\nend\n"
-    )?;
+    ).expect(&rt, "memory");
     assert!(rt; text.len() < 1000);
     match read_schedule(alloc, text.as_bytes()) {
         Err(_) => assert!(rt; false),
@@ -265,7 +260,6 @@ fn reads_twins(rt: HostRuntime) -> Result<(), Fail> {
             has_twin_events(&rt, schedule.events.as_slice());
         }
     }
-    Ok(())
 }
 
 /// Checks that these are the events of the schedule with twins.
@@ -312,12 +306,12 @@ fn has_twin_events(rt: &impl Abort, events: &[Event]) {
 }
 
 /// A list of three entries.
-fn three(alloc: Global) -> Result<Items<(u16, u64)>, Fail> {
+fn three(alloc: Global) -> Option<Items<(u16, u64)>> {
     let mut entries = Items::new(alloc);
-    entries.push((0, 1))?;
-    entries.push((1, 1))?;
-    entries.push((2, 1))?;
-    Ok(entries)
+    entries.push((0, 1)).ok()?;
+    entries.push((1, 1)).ok()?;
+    entries.push((2, 1)).ok()?;
+    Some(entries)
 }
 
 /// A reply.
@@ -328,7 +322,7 @@ fn reply(text: &[u8]) -> ArrayVec<u8, 72> {
 }
 
 #[test]
-fn writes(rt: HostRuntime) -> Result<(), Fail> {
+fn writes(rt: HostRuntime) {
     let alloc = rt.alloc();
     let mut out = Vec::new(alloc);
     let lines = [
@@ -351,13 +345,13 @@ fn writes(rt: HostRuntime) -> Result<(), Fail> {
             event: 22,
             party: Party::Client(0),
             instance: 1,
-            entries: three(alloc)?,
+            entries: three(alloc).expect(&rt, "memory"),
         },
         Line::Init {
             event: 23,
             replica: 0,
             instance: 2,
-            entries: three(alloc)?,
+            entries: three(alloc).expect(&rt, "memory"),
         },
         Line::Invoked {
             event: 31,
@@ -379,11 +373,11 @@ fn writes(rt: HostRuntime) -> Result<(), Fail> {
         },
     ];
     for line in &lines {
-        write_seen(alloc, &mut out, line)?;
+        write_seen(alloc, &mut out, line).expect(&rt, "memory");
     }
-    write_log(alloc, &mut out, 1, 1, &[(0, 1)])?;
-    write_log(alloc, &mut out, 2, 1, &[])?;
-    write_premise(alloc, &mut out, &Premise::Held)?;
+    write_log(alloc, &mut out, 1, 1, &[(0, 1)]).expect(&rt, "memory");
+    write_log(alloc, &mut out, 2, 1, &[]).expect(&rt, "memory");
+    write_premise(alloc, &mut out, &Premise::Held).expect(&rt, "memory");
     write_premise(
         alloc,
         &mut out,
@@ -392,7 +386,8 @@ fn writes(rt: HostRuntime) -> Result<(), Fail> {
             breach: Breach::Forged,
             party: Party::Replica(3),
         },
-    )?;
+    )
+    .expect(&rt, "memory");
     write_premise(
         alloc,
         &mut out,
@@ -401,10 +396,10 @@ fn writes(rt: HostRuntime) -> Result<(), Fail> {
             breach: Breach::Faulty,
             party: Party::Replica(1),
         },
-    )?;
-    write_end(alloc, &mut out, 35, 62)?;
+    )
+    .expect(&rt, "memory");
+    write_end(alloc, &mut out, 35, 62).expect(&rt, "memory");
     let want =
         b"refused 9 c0 tag\nrefused 18 r0 bad\nrefused 18 r0 kind\ncert 22 c0 1 c0.1,c1.1,c2.1\ninit 23 r0 2 c0.1,c1.1,c2.1\ninvoked 31 c0 1 2\ncommit 9 c0 1 1 1 put a 1\nspent 33 r1\nlog r1 1 c0.1\nlog r2 1 -\npremise held\npremise broken 9 forged r3\npremise broken 0 faulty r1\nend 35 62\n";
     assert_eq!(rt; out.as_slice(), want.as_slice());
-    Ok(())
 }

@@ -1,0 +1,112 @@
+#!/usr/bin/env python3
+"""Runs the gate, `rt ci`, and tells what it took, crate by crate.
+
+usage: gate.py [--lanes N] [--log FILE]
+
+The gate runs in this repository, with N checks side by side (as many as there are processors). What it writes goes to FILE
+(gate.log, in the folder that the script is called in). Each of its checks is a process whose processor time is read once a
+second, so that up to a second of each is missed. Prints a line for each crate, the dearest first, with processor minutes for its
+proof, its tests and its edits, and what `rt ci` said last; then the sums, and the minutes from start to end. Of a run that is
+interrupted it tells what has been until then.
+"""
+
+import argparse
+import collections
+import os
+import signal
+import subprocess
+import sys
+import time
+
+from timing import TOP
+
+TICKS = os.sysconf("SC_CLK_TCK")
+KINDS = ("proof", "tests", "edits")
+
+
+def kind_of(words, folder):
+    """What a check is for: edits are tried in folders of their own."""
+    if "--test" in words:
+        return "tests"
+    return "proof" if folder.startswith(str(TOP)) else "edits"
+
+
+class Check:
+    """A process of the prover, with its crate and its processor time so far."""
+
+    def __init__(self, process):
+        with open(f"/proc/{process}/cmdline") as f:
+            words = f.read().split("\0")
+        self.crate = words[words.index("--crate-name") + 1]
+        self.kind = kind_of(words, os.readlink(f"/proc/{process}/cwd"))
+        self.seconds = 0.0
+
+
+def fields_of(process):
+    """A process's name, its parent, and its processor time and start in ticks."""
+    with open(f"/proc/{process}/stat") as f:
+        text = f.read()
+    name = text[text.index("(") + 1 : text.rindex(")")]
+    rest = text[text.rindex(")") + 2 :].split()
+    return name, int(rest[1]), int(rest[11]) + int(rest[12]), int(rest[19])
+
+
+def look(above, checks):
+    """Reads the processor time of each check below a process."""
+    found, parents = {}, {}
+    for process in filter(str.isdigit, os.listdir("/proc")):
+        try:
+            name, parents[int(process)], ticks, start = fields_of(process)
+        except (FileNotFoundError, ProcessLookupError):
+            continue
+        if name == "rattle":
+            found[int(process), start] = ticks / TICKS
+    for key, seconds in found.items():
+        process = key[0]
+        while process not in (0, above):
+            process = parents.get(process, 0)
+        if process != above:
+            continue
+        try:
+            if key not in checks:
+                checks[key] = Check(key[0])
+            checks[key].seconds = seconds
+        except (FileNotFoundError, ProcessLookupError, ValueError):
+            pass
+
+
+def tell(checks, minutes, last):
+    taken = collections.defaultdict(lambda: dict.fromkeys(KINDS, 0.0))
+    for check in checks.values():
+        taken[check.crate][check.kind] += check.seconds / 60
+    print(f"{'crate':24}" + "".join(f"{kind:>8}" for kind in KINDS))
+    for crate, row in sorted(taken.items(), key=lambda it: -sum(it[1].values())):
+        print(f"{crate:24}" + "".join(f"{row[kind]:8.2f}" for kind in KINDS))
+    sums = [sum(row[kind] for row in taken.values()) for kind in KINDS]
+    print(f"{'processor minutes':24}" + "".join(f"{it:8.1f}" for it in sums) + f"{sum(sums):10.1f} in all")
+    print(f"{minutes:.1f} minutes from start to end; {last}")
+
+
+def main():
+    parser = argparse.ArgumentParser()
+    parser.add_argument("--lanes", type=int)
+    parser.add_argument("--log", default="gate.log")
+    asked = parser.parse_args()
+    environment = {**os.environ, **({"RT_JOBS": str(asked.lanes)} if asked.lanes else {})}
+    checks, begin = {}, time.monotonic()
+    with open(asked.log, "w") as log:
+        gate = subprocess.Popen(["rt", "ci"], cwd=TOP, env=environment, stdout=log, stderr=subprocess.STDOUT)
+        try:
+            while gate.poll() is None:
+                look(gate.pid, checks)
+                time.sleep(1)
+        except KeyboardInterrupt:
+            gate.send_signal(signal.SIGINT)
+            gate.wait()
+    with open(asked.log) as log:
+        said = log.read().splitlines() or ["it said nothing"]
+    tell(checks, (time.monotonic() - begin) / 60, said[-1])
+    sys.exit(gate.returncode)
+
+
+main()

@@ -1,0 +1,111 @@
+//! Words that are a command, and words that are none.
+
+use ab_num::{Height, Party, Plan, ServiceName};
+use ab_words::{Command, command_in};
+
+const ZERO: &str = "0000000000000000000000000000000000000000000000000000000000000000";
+
+/// Whether the words, with a space between each, are a command.
+fn is_command(rt: &HostRuntime, text: &str) -> Option<bool> {
+    let mut words = Vec::new(rt.alloc());
+    for word in text.split(' ') {
+        words.push(word).ok()?;
+    }
+    Some(command_in(rt.alloc(), &words).ok()?.is_some())
+}
+
+#[test]
+fn commands(rt: HostRuntime) {
+    let cases = [
+        ("replay", true),
+        ("replay x", false),
+        ("play", false),
+        (
+            "storm --plan aliph --f 1 --clients 2 --seed 18446744073709551615 --events 100000",
+            true,
+        ),
+        (
+            "storm --events=0 --f=2 --seed 7 --plan backup --clients=16",
+            true,
+        ),
+        (
+            "storm --plan aliph --f 1 --clients 2 --seed 18446744073709551616 --events 1",
+            false,
+        ),
+        (
+            "storm --plan aliph --f 1 --clients 2 --seed 1 --events 100001",
+            false,
+        ),
+        (
+            "storm --plan aliph --f 01 --clients 2 --seed 1 --events 1",
+            false,
+        ),
+        (
+            "storm --plan aliph --f 1 --clients 17 --seed 1 --events 1",
+            false,
+        ),
+        ("node --base 1 --wait 60000 --turns 1000000000", true),
+        ("node --trace --base 65000 --wait=1 --turns 1", true),
+        ("node --base 1 --wait 1 --turns 1 --trace", true),
+        ("node --base 1 --wait 1 --turns 1 --trace --trace", false),
+        ("node --base 1 --wait 1 --turns 1 --trace=", false),
+        ("node --base 1 --base 1 --wait 1 --turns 1", false),
+        ("node --base 1 --wait 0 --turns 1", false),
+        ("node --base 1 --wait 1 --turns", false),
+        ("node --base 1 --wait 1 --turns 1 --", false),
+        ("node --base 1 --wait 1 --turns 1 --other 1", false),
+        ("node base 1 --wait 1 --turns 1", false),
+    ];
+    for (text, taken) in cases {
+        assert_eq!(rt;
+            is_command(&rt, text).expect(&rt, "memory"),
+            taken,
+            "{text}"
+        );
+    }
+}
+
+#[test]
+fn keys(rt: HostRuntime) {
+    let words = [
+        "keys",
+        "--plan",
+        "quorum",
+        "--f=1",
+        "--clients",
+        "1",
+        "--service=kv",
+        "--lms",
+        "10",
+        "--seed",
+        ZERO,
+        "--party",
+        "r3",
+    ];
+    match command_in(rt.alloc(), &words).expect(&rt, "memory") {
+        Some(Command::Keys(asked)) => {
+            assert_eq!(rt; asked.party(), Party::Replica(3));
+            assert_eq!(rt; asked.cluster().plan, Plan::Quorum);
+            assert_eq!(rt; asked.service(), ServiceName::Kv);
+            assert_eq!(rt; asked.height(), Height::Ten);
+            assert_eq!(rt; *asked.seed(), [0; 32]);
+        }
+        _ => panic!(rt; "a command"),
+    }
+    for (place, word) in [
+        (12, "r4"),
+        (12, "c1"),
+        (8, "5"),
+        (10, "00"),
+        (2, "plan quorum"),
+    ] {
+        let mut other = words;
+        if place < 13 {
+            other[place] = word;
+        }
+        let taken = command_in(rt.alloc(), &other)
+            .expect(&rt, "memory")
+            .is_some();
+        assert_eq!(rt; taken, word == "5");
+    }
+}
