@@ -17,6 +17,7 @@ use ab_shelf::{Ballot, Shelf};
 use ab_slots::Input;
 use ab_wire::MsgRef;
 use std::alloc::Global;
+use std::mem::drop;
 
 /// The tags of a request that is told.
 fn put_tags(shelf: &mut Shelf, tags: Tags, input: &Input) -> Result<(), OutOfMemory>
@@ -74,8 +75,14 @@ pub(crate) fn receive(
     ensures tells { IfOk result (λ told. input_of told.1 ≡ read_message c.now instance (message m.entry)) }
 {
     let m = m.own(alloc)?;
-    let input = read(alloc, c, instance, &m)?;
-    Ok((m, input))
+    match read(alloc, c, instance, &m) {
+        Ok(input) => Ok((m, input)),
+        Err(refused) => {
+            // A call lets it go: in place each of its forms would be taken apart.
+            drop(m);
+            Err(refused)
+        }
+    }
 }
 
 /// Keeps what a message brings, which tells a replica this: a request's tags, a PREPARE of the present view, and a
@@ -84,13 +91,16 @@ fn put(f: u8, shelf: &mut Shelf, m: Msg, input: &Input) -> Result<(), OutOfMemor
     ensures { OnOk result (shelf.new ≡ puts f (took m) (input_of input.now) shelf.old) }
 {
     match m {
-        Msg::Req {
-            content: _content,
-            tags,
-        } => put_tags(shelf, tags, input),
+        Msg::Req { content, tags } => {
+            drop(content);
+            put_tags(shelf, tags, input)
+        }
         Msg::Prepare { prepare } => put_ballot(shelf, prepare, input),
         Msg::ViewChange { change } => put_proof(f, shelf, change, input),
-        _other => Ok(()),
+        other => {
+            drop(other);
+            Ok(())
+        }
     }
 }
 

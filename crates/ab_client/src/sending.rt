@@ -1,6 +1,6 @@
 //! What a client sends.
 
-ghost use Rattle.std.specs.Prelude.{◌≡◌, ◌≤◌, ◌+◌, ◌*◌, ◌++◌, Some, IfOk, OnOk};
+ghost use Rattle.std.specs.Prelude.{◌≡◌, ◌≤◌, ◌+◌, ◌*◌, ◌++◌, ◌∷◌, [], Some, IfOk, OnOk};
 ghost use Rattle.ab_run.specs.Clients.{cert_out, request_out, to_all};
 ghost use Rattle.ab_client.specs.Clients.{alone, panic_msg, request_msg};
 
@@ -39,14 +39,26 @@ fn panic_msg(instance: u32, me: u16) -> Msg
     }
 }
 
-/// Sends a message to the first replicas.
-fn send_to_all(alloc: Global, outs: &mut Outs, replicas: u8, msg: &Msg) -> Result<(), OutOfMemory>
-    ensures { OnOk result (outs.new ≡ outs.old ++ to_all replicas msg.now) }
+/// Sends a message to a replica.
+fn send_to(alloc: Global, outs: &mut Outs, replica: u8, msg: Msg) -> Result<(), OutOfMemory>
+    ensures { OnOk result (outs.new ≡ outs.old ++ record { to = Party.Replica replica; msg = msg } ∷ []) }
+{
+    let to = Party::Replica(replica);
+    outs.push(alloc, Out { to, msg })
+}
+
+/// Sends a request in an instance to the first replicas.
+fn send_to_first(
+    alloc: Global,
+    outs: &mut Outs,
+    replicas: u8,
+    instance: u32,
+    request: &Request,
+) -> Result<(), OutOfMemory>
+    ensures { OnOk result (outs.new ≡ outs.old ++ to_all replicas (request_msg instance request.now)) }
 {
     for r in 0..replicas {
-        let msg = msg.copy(alloc)?;
-        let to = Party::Replica(r);
-        outs.push(alloc, Out { to, msg })?;
+        send_to(alloc, outs, r, request_msg(instance, request))?;
     }
     Ok(())
 }
@@ -62,18 +74,14 @@ fn send_request(
     requires { 1 ≤ instance }
     ensures { OnOk result (outs.new ≡ outs.old ++ request_out (alone cluster.now) instance request.now.client request.now) }
 {
-    let msg = request_msg(instance, request);
-    match cluster.kind(instance) {
-        Kind::Quorum | Kind::Backup => send_to_all(alloc, outs, cluster.replicas(), &msg),
-        Kind::ZLight => {
-            let to = Party::Replica(cluster.primary(instance));
-            outs.push(alloc, Out { to, msg })
+    let replica = match cluster.kind(instance) {
+        Kind::Quorum | Kind::Backup => {
+            return send_to_first(alloc, outs, cluster.replicas(), instance, request);
         }
-        Kind::Chain => {
-            let to = Party::Replica(cluster.at_position(instance, 1));
-            outs.push(alloc, Out { to, msg })
-        }
-    }
+        Kind::ZLight => cluster.primary(instance),
+        Kind::Chain => cluster.at_position(instance, 1),
+    };
+    send_to(alloc, outs, replica, request_msg(instance, request))
 }
 
 /// Sends a certificate to all replicas.
@@ -85,9 +93,11 @@ fn send_cert(
 ) -> Result<(), OutOfMemory>
     ensures { OnOk result (outs.new ≡ outs.old ++ cert_out (alone cluster.now) (Some cert.now)) }
 {
-    let cert = cert.copy(alloc)?;
-    let msg = Msg::Init { cert };
-    send_to_all(alloc, outs, cluster.replicas(), &msg)
+    for r in 0..cluster.replicas() {
+        let cert = cert.copy(alloc)?;
+        send_to(alloc, outs, r, Msg::Init { cert })?;
+    }
+    Ok(())
 }
 
 /// Sends the certificate by which a client entered its instance, if there is one, to all replicas.
@@ -116,9 +126,7 @@ fn send_panic(
     ensures { OnOk result (outs.new ≡ outs.old ++ to_all (3 * cluster.now.f + 1) (panic_msg instance me)) }
 {
     for r in 0..cluster.replicas() {
-        let msg = panic_msg(instance, me);
-        let to = Party::Replica(r);
-        outs.push(alloc, Out { to, msg })?;
+        send_to(alloc, outs, r, panic_msg(instance, me))?;
     }
     Ok(())
 }

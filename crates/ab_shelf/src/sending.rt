@@ -14,6 +14,7 @@ use ab_msg::{Content, Msg, NO_TAG, Offer, Out, Tag, Value};
 use ab_num::{OutOfMemory, Party};
 use ab_slots::slot_digest;
 use std::alloc::Global;
+use std::mem::drop;
 
 /// Adds the same message to each other replica.
 fn tell(alloc: Global, by: &Signer, msg: &Msg, outs: &mut Vec<Out>) -> Result<(), OutOfMemory>
@@ -40,7 +41,10 @@ pub(crate) fn tell_all(
 ) -> Result<(), OutOfMemory>
     ensures { OnOk result (outs.new.items ≡ outs.old.items ++ to_others (3 * by.now.cluster.f + 1) by.now.me (λ r. msg)) }
 {
-    tell(alloc, by, &msg, outs)
+    let told = tell(alloc, by, &msg, outs);
+    // A call lets it go: in place each of its forms would be taken apart.
+    drop(msg);
+    told
 }
 
 /// The first tag for a replica.

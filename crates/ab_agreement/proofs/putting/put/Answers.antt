@@ -9,7 +9,7 @@ pub returns-in-Req : goal.returns-in-Req
 returns-in-Req c =
     let e = input_of c.args.input.now in
     let s = c.args.shelf.now in
-    on_ok c.put_tags.result (λ put. put c.args.f c.in-Req._content ∙ ap (λ m. puts c.args.f (took m) e s) (sym c.in-Req.is)) c.put_tags.ensures
+    on_ok c.put_tags.result (λ put. put c.args.f c.in-Req.content ∙ ap (λ m. puts c.args.f (took m) e s) (sym c.in-Req.is)) c.put_tags.ensures
 
 pub returns-in-Prepare : goal.returns-in-Prepare
 returns-in-Prepare c =
