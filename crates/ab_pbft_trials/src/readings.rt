@@ -10,6 +10,8 @@ use ab_reading::read;
 use ab_slots::Input;
 use arrayvec::ArrayVec;
 use std::alloc::Global;
+use std::mem::drop;
+use std::process::Abort;
 
 fn request(client: u16) -> Request {
     Request {
@@ -83,12 +85,23 @@ fn cert(alloc: Global, names: [u8; 3]) -> Result<Offer, OutOfMemory> {
     Ok(Offer::Base(AbortCert::of(aborts)))
 }
 
+/// What a message tells. A call lets the message go: in place each of its forms would be taken apart.
+fn told(rt: &impl Abort, alloc: Global, c: &Cluster, i: u32, m: Msg) -> Input {
+    let input = read(alloc, c, i, &m).expect(rt, "memory");
+    drop(m);
+    input
+}
+
 /// How many requests are in the base that this certificate gives in instance 2, 0 if it gives none.
-fn base_len(alloc: Global, c: &Cluster, names: [u8; 3]) -> Result<usize, OutOfMemory> {
-    match read(alloc, c, 2, &pre_prepare(2, 0, cert(alloc, names)?))? {
-        Input::PrePrepareBase { base, .. } => Ok(base.len()),
-        _ => Ok(0),
-    }
+fn base_len(rt: &impl Abort, alloc: Global, c: &Cluster, names: [u8; 3]) -> usize {
+    let offer = cert(alloc, names).expect(rt, "memory");
+    let input = told(rt, alloc, c, 2, pre_prepare(2, 0, offer));
+    let len = match &input {
+        Input::PrePrepareBase { base, .. } => base.len(),
+        _ => 0,
+    };
+    drop(input);
+    len
 }
 
 /// A VIEW-CHANGE of replica 2 in instance 1 for view 1, with one slot prepared in view 0, and so many lists of PREPAREs
@@ -133,18 +146,21 @@ fn new_view(alloc: Global, change: Proof) -> Result<Msg, OutOfMemory> {
 }
 
 /// Whether a message tells nothing.
-fn is_other(alloc: Global, c: &Cluster, i: u32, m: &Msg) -> Result<bool, OutOfMemory> {
-    Ok(matches!(read(alloc, c, i, m)?, Input::Other))
+fn is_other(rt: &impl Abort, alloc: Global, c: &Cluster, i: u32, m: Msg) -> bool {
+    let input = told(rt, alloc, c, i, m);
+    let other = matches!(&input, Input::Other);
+    drop(input);
+    other
 }
 
 #[test]
 fn what_is_of_others_tells_nothing(rt: HostRuntime) {
     let alloc = rt.alloc();
     let c = Cluster::new(1, 1, Plan::Backup).expect(&rt, "a cluster");
-    let ours = read(alloc, &c, 1, &prepare(alloc, Party::Replica(3), 1)).expect(&rt, "memory");
+    let ours = told(&rt, alloc, &c, 1, prepare(alloc, Party::Replica(3), 1));
     assert!(rt;
         matches!(
-            ours,
+            &ours,
             Input::Prepare {
                 by: 3,
                 view: 0,
@@ -153,68 +169,90 @@ fn what_is_of_others_tells_nothing(rt: HostRuntime) {
             }
         )
     );
-    assert!(rt;
-        is_other(alloc, &c, 1, &prepare(alloc, Party::Replica(3), 2)).expect(&rt, "memory")
-    );
-    assert!(rt;
-        is_other(alloc, &c, 1, &prepare(alloc, Party::Replica(4), 1)).expect(&rt, "memory")
-    );
-    assert!(rt; is_other(alloc, &c, 1, &prepare(alloc, Party::Client(3), 1)).expect(&rt, "memory"));
+    drop(ours);
+    assert!(rt; is_other(&rt, alloc, &c, 1, prepare(alloc, Party::Replica(3), 2)));
+    assert!(rt; is_other(&rt, alloc, &c, 1, prepare(alloc, Party::Replica(4), 1)));
+    assert!(rt; is_other(&rt, alloc, &c, 1, prepare(alloc, Party::Client(3), 1)));
 }
 
 #[test]
 fn a_base_stands_in_slot_0(rt: HostRuntime) {
     let alloc = rt.alloc();
     let c = Cluster::new(1, 1, Plan::Backup).expect(&rt, "a cluster");
-    let empty = match read(alloc, &c, 1, &pre_prepare(1, 0, no_cert(alloc))).expect(&rt, "memory") {
+    let first = told(&rt, alloc, &c, 1, pre_prepare(1, 0, no_cert(alloc)));
+    let empty = match &first {
         Input::PrePrepareBase { by: 0, base, .. } => base.entries().is_empty(),
         _ => false,
     };
     assert!(rt; empty);
-    assert!(rt; is_other(alloc, &c, 1, &pre_prepare(1, 1, no_cert(alloc))).expect(&rt, "memory"));
-    assert!(rt; is_other(alloc, &c, 2, &pre_prepare(2, 0, no_cert(alloc))).expect(&rt, "memory"));
-    assert!(rt; is_other(alloc, &c, 1, &pre_prepare(1, 0, offered(0))).expect(&rt, "memory"));
-    let order = read(alloc, &c, 1, &pre_prepare(1, 5, offered(0))).expect(&rt, "memory");
-    assert!(rt; matches!(order, Input::PrePrepare { slot: 5, .. }));
+    drop(first);
+    assert!(rt; is_other(&rt, alloc, &c, 1, pre_prepare(1, 1, no_cert(alloc))));
+    assert!(rt; is_other(&rt, alloc, &c, 2, pre_prepare(2, 0, no_cert(alloc))));
+    assert!(rt; is_other(&rt, alloc, &c, 1, pre_prepare(1, 0, offered(0))));
+    let order = told(&rt, alloc, &c, 1, pre_prepare(1, 5, offered(0)));
+    assert!(rt; matches!(&order, Input::PrePrepare { slot: 5, .. }));
+    drop(order);
 }
 
 #[test]
 fn the_names_beside_aborts_do_not_matter(rt: HostRuntime) {
     let alloc = rt.alloc();
     let c = Cluster::new(1, 1, Plan::Quorum).expect(&rt, "a cluster");
-    assert_eq!(rt; base_len(alloc, &c, [0, 1, 2]).expect(&rt, "memory"), 1);
-    assert_eq!(rt; base_len(alloc, &c, [3, 3, 9]).expect(&rt, "memory"), 1);
+    assert_eq!(rt; base_len(&rt, alloc, &c, [0, 1, 2]), 1);
+    assert_eq!(rt; base_len(&rt, alloc, &c, [3, 3, 9]), 1);
+}
+
+/// Replica 2's VIEW-CHANGE as a message.
+fn changing(rt: &impl Abort, alloc: Global, value: Value, by: u8, lists: usize) -> Msg {
+    Msg::ViewChange {
+        change: view_change(alloc, value, by, lists).expect(rt, "memory"),
+    }
+}
+
+/// A NEW-VIEW that rests on it.
+fn leading(rt: &impl Abort, alloc: Global, value: Value) -> Msg {
+    let change = view_change(alloc, value, 3, 1).expect(rt, "memory");
+    new_view(alloc, change).expect(rt, "memory")
 }
 
 #[test]
 fn lists_of_a_view_change_go_together(rt: HostRuntime) {
     let alloc = rt.alloc();
     let c = Cluster::new(1, 1, Plan::Backup).expect(&rt, "a cluster");
-    let whole = view_change(alloc, Value::Base(History::new(alloc)), 3, 1).expect(&rt, "memory");
-    let by = match read(alloc, &c, 1, &Msg::ViewChange { change: whole }).expect(&rt, "memory") {
+    let base = Value::Base(History::new(alloc));
+    let whole = told(&rt, alloc, &c, 1, changing(&rt, alloc, base, 3, 1));
+    let by = match &whole {
         Input::ViewChange(change) => change.by(),
         _ => 9,
     };
     assert_eq!(rt; by, 2);
+    drop(whole);
     for (signer, lists) in [(3, 0), (3, 2), (4, 1)] {
-        let change = view_change(alloc, Value::Base(History::new(alloc)), signer, lists).expect(
-            &rt, "memory",
-        );
-        assert!(rt;
-            is_other(alloc, &c, 1, &Msg::ViewChange { change }).expect(&rt, "memory"),
-            "{signer} {lists}"
-        );
+        let base = Value::Base(History::new(alloc));
+        let other = is_other(&rt, alloc, &c, 1, changing(&rt, alloc, base, signer, lists));
+        assert!(rt; other, "{signer} {lists}");
     }
-    let change = view_change(alloc, Value::Request(request(0)), 3, 1).expect(&rt, "memory");
+}
+
+#[test]
+fn a_new_view_rests_on_view_changes(rt: HostRuntime) {
+    let alloc = rt.alloc();
+    let c = Cluster::new(1, 1, Plan::Backup).expect(&rt, "a cluster");
     assert!(rt;
-        is_other(alloc, &c, 1, &new_view(alloc, change).expect(&rt, "memory")).expect(&rt, "memory")
+        is_other(
+            &rt,
+            alloc,
+            &c,
+            1,
+            leading(&rt, alloc, Value::Request(request(0)))
+        )
     );
-    let change = view_change(alloc, Value::Base(History::new(alloc)), 3, 1).expect(&rt, "memory");
-    let entered = match read(alloc, &c, 1, &new_view(alloc, change).expect(&rt, "memory")).expect(
-        &rt, "memory",
-    ) {
+    let base = Value::Base(History::new(alloc));
+    let entered = told(&rt, alloc, &c, 1, leading(&rt, alloc, base));
+    let count = match &entered {
         Input::NewView { by: 1, changes, .. } => changes.len(),
         _ => 0,
     };
-    assert_eq!(rt; entered, 1);
+    assert_eq!(rt; count, 1);
+    drop(entered);
 }
