@@ -15,7 +15,7 @@ use Rattle.ab_abs.specs.declared.ballot.Ballot.{Ballot}
 use Rattle.ab_abs.specs.declared.seen.Seen.{Seen}
 use Rattle.ab_abs.specs.declared.seen.Seen.TheVariants.{Committed}
 use Rattle.ab_abs.specs.Ensembles.{Proto}
-use Rattle.ab_abs.specs.Places.{KeepsForm}
+use Rattle.ab_abs.specs.FormLaws.{KeepsForm}
 use Rattle.ab_abs.specs.Promises.{ServesAll}
 use Rattle.ab_run.specs.Replicas.{is_spent}
 use Rattle.ab_replica.specs.Sites.{Site}

@@ -19,7 +19,7 @@ use Rattle.ab_msg.specs.Pens.{Pen}
 use Rattle.ab_abs.specs.declared.seen.Seen.{Seen}
 use Rattle.ab_abs.specs.Ensembles.{Proto}
 use Rattle.ab_abs.specs.Messages.{Call, IsFormed}
-use Rattle.ab_abs.specs.Places.{KeepsForm}
+use Rattle.ab_abs.specs.FormLaws.{KeepsForm}
 use Rattle.ab_abs.specs.Promises.{ServesAll}
 use Rattle.ab_abs.proofs.Certified.{all_of}
 use Rattle.ab_run.specs.Forms.{IsDraftOf, IsWrittenRep, IsWrittenSetup}

@@ -43,7 +43,7 @@ use Rattle.ab_abs.specs.Rules.{IsOther, IsOtherBy}
 use Rattle.ab_abs.specs.TailRules.{IsPassed, IsTailContent, for_positions, for_client}
 use Rattle.ab_abs.specs.Messages.{Call, took, call_claims, call_values, claims_in, IsFor, IsFormed}
 use Rattle.ab_abs.specs.Ensembles.{begin_of, asked_of, halt_of, statements_of, MayTake}
-use Rattle.ab_abs.specs.Places.{KeepsForm, Belongs, begun, called, halted, Arises, from_entry, by_call, by_stop}
+use Rattle.ab_abs.specs.FormLaws.{KeepsForm, Belongs, begun, called, halted, Arises, from_entry, by_call, by_stop}
 use Rattle.ab_abs.specs.Members.{Member, member_state, respond, IsAt}
 use Rattle.ab_abs.proofs.Counting.{Contains-head, Contains-tail}
 use Rattle.ab_abs.proofs.Lists.{Contains-cons_cases, Contains-filter_cases, flat_map_cases}

@@ -17,7 +17,7 @@ use Rattle.ab_msg.specs.Messages.{IsDraft}
 use Rattle.ab_msg.specs.Pens.{Pen}
 use Rattle.ab_abs.specs.declared.entry.Entry.{Entry}
 use Rattle.ab_abs.specs.Messages.{Call, IsFormed}
-use Rattle.ab_abs.specs.Places.{IsWrittenEntry, SignsInForm}
+use Rattle.ab_abs.specs.FormLaws.{IsWrittenEntry, SignsInForm}
 use Rattle.ab_abs.proofs.Statements.{none_of}
 use Rattle.ab_lock.specs.Events.{with_vote}
 use Rattle.ab_order.specs.Inputs.{Input, request, prepare, view_change, other, ChangeInput}

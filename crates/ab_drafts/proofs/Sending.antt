@@ -23,7 +23,7 @@ use Rattle.ab_msg.specs.Fields.{IsInstance, IsView}
 use Rattle.ab_msg.specs.Contents.{IsOfSlot}
 use Rattle.ab_msg.specs.Messages.{IsDraft}
 use Rattle.ab_msg.specs.Slots.{slot_digest}
-use Rattle.ab_abs.specs.Places.{SignsInForm}
+use Rattle.ab_abs.specs.FormLaws.{SignsInForm}
 use Rattle.ab_abs.specs.Values.{goes}
 use Rattle.ab_abs.proofs.Drafts.{few_replicas}
 use Rattle.ab_abs.proofs.Statements.{one_of, none_of}

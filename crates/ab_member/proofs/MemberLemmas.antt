@@ -31,7 +31,7 @@ use Rattle.ab_sign.specs.Signers.{Signing, leaves_of, pen_of, signature_at, sign
 use Rattle.ab_abs.specs.declared.seen.Seen.{Seen}
 use Rattle.ab_abs.specs.Ensembles.{Proto}
 use Rattle.ab_abs.specs.Messages.{Call, IsFormed}
-use Rattle.ab_abs.specs.Places.{KeepsForm}
+use Rattle.ab_abs.specs.FormLaws.{KeepsForm}
 use Rattle.ab_abs.specs.Promises.{ServesAll}
 use Rattle.ab_abs.proofs.Certified.{all_of}
 use Rattle.ab_run.specs.Forms.{IsDraftOf, IsWrittenSetup}

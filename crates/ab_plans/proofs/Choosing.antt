@@ -10,7 +10,7 @@ use Rattle.ab_abs.specs.Observations.{observed_in}
 use Rattle.ab_abs.specs.Instances.{IsAbstract}
 use Rattle.ab_abs.specs.Acts.{Act, Setting, observations, named_in}
 use Rattle.ab_abs.specs.Ensembles.{Proto, entry_of}
-use Rattle.ab_abs.specs.Places.{KeepsPlace, IsBlank, Belongs, begun, called, halted}
+use Rattle.ab_abs.specs.FormLaws.{KeepsPlace, IsBlank, Belongs, begun, called, halted}
 use Rattle.ab_choice.specs.declared.choice.Choice.{Choice}
 use Rattle.ab_choice.specs.declared.choice.Choice.TheVariants.{First, Second}
 use Rattle.ab_choice.specs.Rules.{either, begins, choice, sound_by, stands_by}

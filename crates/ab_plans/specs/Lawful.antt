@@ -13,7 +13,7 @@ use Rattle.ab_abs.specs.Kinds.{kind_in}
 use Rattle.ab_abs.specs.Rules.{IsOther, IsStill}
 use Rattle.ab_abs.specs.Messages.{Call}
 use Rattle.ab_abs.specs.Ensembles.{Proto, begin_of, asked_of, halt_of, MayTake}
-use Rattle.ab_abs.specs.Places.{KeepsPlace}
+use Rattle.ab_abs.specs.FormLaws.{KeepsPlace}
 
 -- those of the trait Protocol that a run rests on
 pub record IsLawfulProto {S P : Type 0} (machine : Machine S) (proto : Proto P) (serves : Kind → Bool) (sound : Setting → List Act → Type 0) (stands : Setting → P → ℕ → List Act → Type 0) : Type 0 where

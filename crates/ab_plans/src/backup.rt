@@ -10,7 +10,7 @@ ghost use Rattle.ab_msg.specs.declared.signed.Signed.{Signed};
 ghost use Rattle.ab_msg.specs.Claims.{fresh, signed_in};
 ghost use Rattle.ab_msg.specs.Pens.{Pen};
 ghost use Rattle.ab_abs.specs.Messages.{Call};
-ghost use Rattle.ab_abs.specs.Places.{Belongs, is_answer};
+ghost use Rattle.ab_abs.specs.FormLaws.{Belongs, is_answer};
 ghost use Rattle.ab_order.specs.Backups.{Backing};
 ghost use Rattle.ab_order.specs.Protos.{OrderProto, Obeys, is_backup, backup, backup_sound, backup_stands};
 ghost use Rattle.ab_pbft.specs.Traces.{IsPbftSound};

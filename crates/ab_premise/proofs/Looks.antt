@@ -18,7 +18,7 @@ use Rattle.ab_abs.specs.Acts.{with_first}
 use Rattle.ab_abs.specs.Messages.{Call, took, timed}
 use Rattle.ab_abs.specs.Ensembles.{Proto, entry_of}
 use Rattle.ab_abs.specs.Certificates.{history_of}
-use Rattle.ab_abs.specs.Places.{KeepsForm}
+use Rattle.ab_abs.specs.FormLaws.{KeepsForm}
 use Rattle.ab_abs.proofs.Prefixes.{prefix_is_take}
 use Rattle.ab_links.specs.Links.{Continues}
 use Rattle.ab_links.specs.Digested.{Item, history, request, item_histories, item_requests, histories_of, requests_of, BeginsIn}

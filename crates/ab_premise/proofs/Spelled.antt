@@ -31,7 +31,7 @@ use Rattle.ab_abs.specs.Votes.{has_voted, is_full_by}
 use Rattle.ab_abs.specs.Messages.{Call, took, timed, IsFormed}
 use Rattle.ab_abs.specs.Certificates.{history_of}
 use Rattle.ab_abs.specs.Ensembles.{Proto}
-use Rattle.ab_abs.specs.Places.{KeepsForm}
+use Rattle.ab_abs.specs.FormLaws.{KeepsForm}
 use Rattle.ab_run.specs.Forms.{IsWrittenRep, IsWrittenSetup}
 use Rattle.ab_run.proofs.Written.{IsGood, AllGood, good_if, due_good, first_written, abort_written, turn_keeps, turn_drafts}
 use Rattle.ab_abs.proofs.Drafts.{few_replicas}

@@ -6,7 +6,7 @@ use Rattle.ab_num.specs.declared.party.Party.TheVariants.{Replica, Client}
 use Rattle.ab_num.specs.declared.plan.Kind.{Kind}
 use Rattle.ab_msg.specs.declared.message.Msg.{Msg}
 use Rattle.ab_abs.specs.Ensembles.{Proto}
-use Rattle.ab_abs.specs.Places.{KeepsForm}
+use Rattle.ab_abs.specs.FormLaws.{KeepsForm}
 use Rattle.ab_links.specs.Digested.{HasNoCollision, Item, history, keep_items, any_found, nothing, histories_of, requests_of, IsDigested}
 use Rattle.ab_links.proofs.DigestedLemmas.{all_free, none_found, all_kept, fewer, found_step, kept_step, nothing_is, nothing_free, HasNoCollision-same, IsDigested-same}
 use Rattle.ab_run.specs.Setups.{Setup}

@@ -8,7 +8,7 @@ ghost use Rattle.ab_msg.specs.declared.content.Content.{Content};
 ghost use Rattle.ab_msg.specs.Carried.{is_replica};
 ghost use Rattle.ab_msg.specs.Contents.{spell_content};
 ghost use Rattle.ab_abs.specs.Ensembles.{Proto};
-ghost use Rattle.ab_abs.specs.Places.{KeepsForm};
+ghost use Rattle.ab_abs.specs.FormLaws.{KeepsForm};
 ghost use Rattle.ab_run.specs.Setups.{Setup};
 ghost use Rattle.ab_run.specs.Premises.{IsHonestRun};
 ghost use Rattle.ab_run.specs.Inputs.{Input, Opener, SpellsApart, events_in};

@@ -14,7 +14,7 @@ use Rattle.ab_abs.specs.Faults.{is_faulty}
 use Rattle.ab_abs.specs.Acts.{observations, log_of, state_of}
 use Rattle.ab_abs.specs.Deeds.{Deed, acts_in, seen_in}
 use Rattle.ab_abs.specs.Ensembles.{Proto, Ensemble, Reached}
-use Rattle.ab_abs.specs.Places.{KeepsPlace, Belongs}
+use Rattle.ab_abs.specs.FormLaws.{KeepsPlace, Belongs}
 use Rattle.ab_abs.specs.Promises.{ServesAll}
 use Rattle.ab_abs.specs.Votes.{AreFirst}
 use Rattle.ab_run.specs.Setups.{Setup, replicas}

@@ -26,7 +26,7 @@ use Rattle.ab_abs.specs.Kinds.{need_of, needs_equal}
 use Rattle.ab_abs.specs.Messages.{Call, took, timed, IsFormed}
 use Rattle.ab_abs.specs.Certificates.{history_of, history_held, history_by, is_whole}
 use Rattle.ab_abs.specs.Ensembles.{Proto, entry_of}
-use Rattle.ab_abs.specs.Places.{KeepsForm, Belongs, begun, called, halted, Arises, IsWrittenEntry, from_entry, by_call, by_stop}
+use Rattle.ab_abs.specs.FormLaws.{KeepsForm, Belongs, begun, called, halted, Arises, IsWrittenEntry, from_entry, by_call, by_stop}
 use Rattle.ab_abs.proofs.Certified.{certificate_written}
 use Rattle.ab_abs.proofs.Drafts.{few_replicas}
 use Rattle.ab_abs.proofs.Statements.{one_of, none_of}

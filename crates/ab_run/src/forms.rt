@@ -6,7 +6,7 @@ ghost use Rattle.ab_num.specs.declared.plan.Kind.{Kind};
 ghost use Rattle.ab_msg.specs.declared.message.Out.{Out as Sent};
 ghost use Rattle.ab_abs.specs.Ensembles.{Proto};
 ghost use Rattle.ab_abs.specs.Messages.{Call, IsFormed};
-ghost use Rattle.ab_abs.specs.Places.{KeepsForm};
+ghost use Rattle.ab_abs.specs.FormLaws.{KeepsForm};
 ghost use Rattle.ab_run.specs.Setups.{Setup, replicas};
 ghost use Rattle.ab_run.specs.Replicas.{Rep};
 ghost use Rattle.ab_run.specs.Runs.{first_rep};

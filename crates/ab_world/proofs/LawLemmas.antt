@@ -24,7 +24,7 @@ use Rattle.ab_check.specs.Checks.{Judge}
 use Rattle.ab_open.specs.declared.fault.OpenFault.{OpenFault}
 use Rattle.ab_open.specs.declared.fault.OpenFault.TheVariants.{NotMine}
 use Rattle.ab_open.specs.Opening.{opening}
-use Rattle.ab_abs.specs.Places.{KeepsForm}
+use Rattle.ab_abs.specs.FormLaws.{KeepsForm}
 use Rattle.ab_abs.specs.Ensembles.{Proto}
 use Rattle.ab_run.specs.Setups.{Setup as RunSetup}
 use Rattle.ab_abs.specs.Promises.{ServesAll}

@@ -40,7 +40,7 @@ use Rattle.ab_abs.specs.Kinds.{kind_in, rule_of}
 use Rattle.ab_abs.specs.Rules.{IsOther, IsOtherBy, IsSound, is_inner}
 use Rattle.ab_abs.specs.Messages.{Call, took, timed, call_claims, call_values, claims_in, IsFor, IsFormed}
 use Rattle.ab_abs.specs.Ensembles.{begin_of, asked_of, halt_of, statements_of, MayTake}
-use Rattle.ab_abs.specs.Places.{KeepsForm, Belongs, begun, called, halted, Arises, from_entry, by_call, by_stop}
+use Rattle.ab_abs.specs.FormLaws.{KeepsForm, Belongs, begun, called, halted, Arises, from_entry, by_call, by_stop}
 use Rattle.ab_abs.specs.Answers.{answer_to, logged, logged_at}
 use Rattle.ab_abs.specs.Members.{Member, member_state, respond, IsAt}
 use Rattle.ab_abs.proofs.Counting.{Contains-head}

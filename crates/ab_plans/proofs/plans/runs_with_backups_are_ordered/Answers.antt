@@ -1,4 +1,4 @@
-use Rattle.ab_abs.specs.Places.{place_of}
+use Rattle.ab_abs.specs.FormLaws.{place_of}
 use Rattle.ab_plans.specs.Lawful.{IsLawfulProto}
 use Rattle.ab_plans.proofs.Ordered.{backed_ordered, backed_abstract}
 use Rattle.ab_plans.proofs.plans.runs_with_backups_are_ordered.Goals as goal
