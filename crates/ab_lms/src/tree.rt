@@ -1,6 +1,6 @@
 //! Keys with their trees.
 
-ghost use Rattle.std.specs.Prelude.{vec_len, ◌≡◌, ◌+◌, ◌*◌, ◌^◌, ◌<◌, ◌++◌, IsTrue, IfOk, OnOk};
+ghost use Rattle.std.specs.Prelude.{vec_len, ◌≡◌, ◌+◌, ◌*◌, ◌^◌, ◌<◌, ◌++◌, ◌↔◌, IsTrue, IfOk, OnOk};
 ghost use Rattle.ab_lms.specs.Nodes.{levels as level_count};
 ghost use Rattle.ab_lms.specs.Signatures.{Verifies, lms_signature, public_key, u32_bytes};
 
@@ -81,7 +81,7 @@ impl Tree {
 
     /// Whether it is the key of this height, name and seed.
     pub fn is_of(&self, height: Height, id: &[u8; 16], seed: &[u8; 32]) -> bool
-        ensures { IsTrue result → self.now ≡ record { height = height; id = id.now; seed = seed.now } }
+        ensures { IsTrue result ↔ (self.now ≡ record { height = height; id = id.now; seed = seed.now }) }
     {
         self.height == height && self.id == *id && self.seed == *seed
     }
