@@ -11,6 +11,3 @@ mod parts;
 mod whole;
 
 pub use whole::svg;
-
-#[cfg(test)]
-mod tests;

@@ -2,11 +2,10 @@
 
 ghost use Rattle.std.specs.Prelude.{◌≡◌, IfOk, length};
 
-use super::*;
-use crate::escaping::add_escaped;
 use ab_num::{Cluster, OutOfMemory, Party, Plan};
 use ab_picture::{Parcel, Picture, Told, compose};
-use ab_text::{Core, Event, Line, Premise};
+use ab_svg::svg;
+use ab_text::{Breach, Core, Event, Line, Premise};
 use arrayvec::ArrayVec;
 use std::alloc::Global;
 use std::test::Fail;
@@ -31,7 +30,7 @@ fn events(alloc: Global) -> Result<Vec<Event>, OutOfMemory>
 
 fn lines(alloc: Global) -> Result<Vec<Line>, OutOfMemory> {
     let mut reply = ArrayVec::new();
-    reply.push(b'<');
+    let _ = reply.try_extend_from_slice(b"a <&>\"'~\x7f\x00");
     let mut lines = Vec::new(alloc);
     lines.push(Line::Commit {
         event: 2,
@@ -62,7 +61,7 @@ fn picture(alloc: Global) -> Result<Picture, Fail>
         lines: lines.as_slice(),
         premise: Premise::Broken {
             event: 2,
-            breach: ab_text::Breach::Forged,
+            breach: Breach::Forged,
             party: Party::Replica(3),
         },
     };
@@ -87,8 +86,9 @@ fn parts_are_drawn(rt: HostRuntime) -> Result<(), Fail> {
         true
     );
     assert_eq!(rt;
-        text.as_str()
-            .ends_with("c0 commits number 7 in instance 1: &lt;</text>\n</svg>\n"),
+        text.as_str().ends_with(
+            "c0 commits number 7 in instance 1: a &lt;&amp;&gt;&quot;'~??</text>\n</svg>\n"
+        ),
         true
     );
     assert_eq!(rt;
@@ -113,13 +113,5 @@ fn a_cut_is_told(rt: HostRuntime) -> Result<(), Fail> {
         text.as_str().contains("Events 1 to 2 of 5000 are drawn."),
         true
     );
-    Ok(())
-}
-
-#[test]
-fn texts_are_escaped(rt: HostRuntime) -> Result<(), Fail> {
-    let mut out = Vec::new(rt.alloc());
-    add_escaped(&mut out, b"a <&>\"'~\x7f\x00")?;
-    assert_eq!(rt; out.as_slice(), b"a &lt;&amp;&gt;&quot;'~??".as_slice());
     Ok(())
 }
