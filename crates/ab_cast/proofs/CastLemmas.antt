@@ -19,7 +19,7 @@ use Rattle.ab_abs.specs.FormLaws.{KeepsForm}
 use Rattle.ab_abs.specs.Promises.{ServesAll}
 use Rattle.ab_run.specs.Replicas.{is_spent}
 use Rattle.ab_replica.specs.Sites.{Site}
-use Rattle.ab_run.specs.Local.{Cue, rep_marks, cli_after, cli_sends, cli_marks}
+use Rattle.ab_run.specs.Local.{Cue, cue_message, cue_time, rep_marks, cli_after, cli_sends, cli_marks}
 use Rattle.ab_run.proofs.Listed.{set_hit, set_miss, set_length, get_before, get_last}
 use Rattle.ab_client.specs.Clients.{Seat, alone, after, sends, marks}
 use Rattle.ab_client.specs.Moved.{IsLastVote}
@@ -29,9 +29,9 @@ use Rattle.ab_cast.specs.declared.place.Place.TheVariants as place
 use Rattle.ab_cast.specs.declared.fault.CommandFault.TheVariants.{Busy}
 use Rattle.ab_run.specs.declared.phase.Phase.TheVariants.{Idle}
 use Rattle.ab_cast.specs.Setups.{Setup, run_setup, replica_twins, client_twins, place_of, party_at}
-use Rattle.ab_cast.specs.Cores.{ClientCommits, CommitsAtOnce, Core, replica, client, Taken, message, time, cue_of}
+use Rattle.ab_cast.specs.Cores.{ClientCommits, CommitsAtOnce, Core, replica, client}
 use Rattle.ab_cast.specs.declared.given.Given.{Given}
-use Rattle.ab_cast.specs.Hearing.{IsGiven, RepHears, call_of, taken_of}
+use Rattle.ab_cast.specs.Hearing.{IsGiven, RepHears, call_of, cue_of}
 use Rattle.ab_cast.specs.Casts.{Cast, core_at, with_core, next, first_seat, first_seats, first_site, first_sites, first_cast, is_idle, command_refusal, IsTaken, IsSeat, AreSeats, AreTwinSeats, IsSite, AreOwn, AreTwins, IsCast}
 use Rattle.ab_cast.proofs.StandLemmas.{IsThere, some_injective, mapped_cases, is_there}
 use Rattle.ab_cast.proofs.ReplicaLemmas.{given_formed, after_given, sends_given, marks_given, spends_given, first_is_site, after_is, goes_on, sends_is, own_drafts}
@@ -82,11 +82,11 @@ the_same xs i s t at lt read = some_injective s t (sym at ∙ slice_get_read xs 
 -- ---- events
 
 -- what the code says of the client at a place, as it takes what comes
-pub record DoesAt (at : ℕ) (t : Taken) (items all : List Seat) (sent : List Out) (shown : List Seen) : Type 0 where
-  pub cores : (s : Seat) → slice_get items at ≡ Some s → all ≡ slice_set items at (after s (cue_of t))
-  pub stamp : (s : Seat) → slice_get items at ≡ Some s → (after s (cue_of t)).cli.stamp ≤ s.cli.stamp + 1
-  pub outs : (s : Seat) → slice_get items at ≡ Some s → sent ≡ sends s (cue_of t)
-  pub marks : (s : Seat) → slice_get items at ≡ Some s → shown ≡ marks s (cue_of t)
+pub record DoesAt (at : ℕ) (cue : Cue) (items all : List Seat) (sent : List Out) (shown : List Seen) : Type 0 where
+  pub cores : (s : Seat) → slice_get items at ≡ Some s → all ≡ slice_set items at (after s cue)
+  pub stamp : (s : Seat) → slice_get items at ≡ Some s → (after s cue).cli.stamp ≤ s.cli.stamp + 1
+  pub outs : (s : Seat) → slice_get items at ≡ Some s → sent ≡ sends s cue
+  pub marks : (s : Seat) → slice_get items at ≡ Some s → shown ≡ marks s cue
   pub drafts : (s : Seat) → slice_get items at ≡ Some s → s.me ≤ 15 → All (IsDraftOf s.cluster.f (Client s.me)) sent
 
 module _ {P : Type 0} (proto : Proto P) (serves : Kind → Bool) (x : Cast P) (is : IsCast proto serves x) where
@@ -229,7 +229,7 @@ module _ {P : Type 0} (proto : Proto P) (serves : Kind → Bool) (x : Cast P) (i
         IsCast-replica few r s.0 h.now all s.1 (goes_on proto serves form x.setup is.serves_all r there s.0 h.now (call_of g) outs marks spent (given_formed g given) (is.own_replicas r s.0 s.1) h.hears h.used) h.set
 
     pub replica_taken : (s : Site P) → slice_get x.replicas r ≡ Some s
-        → IsTaken proto x (place.Replica r) (replica s) (taken_of g) (record x { replicas = all; events = x.events + 1 }) outs marks spent
+        → IsTaken proto x (place.Replica r) (replica s) (cue_of g) (record x { replicas = all; events = x.events + 1 }) outs marks spent
     replica_taken s here =
         let h = hears s here in
         let site = is.own_replicas r s here in
@@ -260,7 +260,7 @@ module _ {P : Type 0} (proto : Proto P) (serves : Kind → Bool) (x : Cast P) (i
         IsCast-replica_twin few at s.0 h.now all s.1 (λ k is_k. subst (λ (q : ℕ). IsSite proto serves x.setup q h.now) (number k is_k) now) h.set
 
     pub replica_twin_taken : (s : Site P) → slice_get x.replica_twins at ≡ Some s
-        → IsTaken proto x (place.ReplicaTwin r at) (replica s) (taken_of g) (record x { replica_twins = all; events = x.events + 1 }) outs marks spent
+        → IsTaken proto x (place.ReplicaTwin r at) (replica s) (cue_of g) (record x { replica_twins = all; events = x.events + 1 }) outs marks spent
     replica_twin_taken s here =
         let h = hears s here in
         let site = twin_of r at s there here in
@@ -295,53 +295,53 @@ module _ {P : Type 0} (proto : Proto P) (serves : Kind → Bool) (x : Cast P) (i
   pub few_clients : (n events : ℕ) (s : Seat) → n < c.clients → IsSeat c events n s → s.me ≤ 15
   few_clients n events s lt seat = omega (arith, lt, seat.own, c.in_bounds.few_clients)
 
-  module _ (few : x.events < 100000) (n : ℕ) (t : Taken) (all : List Seat) (outs : List Out) (shown : List Seen) (there : IsThere x.setup (place.Client n)) (does : DoesAt n t x.clients all outs shown) where
+  module _ (few : x.events < 100000) (n : ℕ) (cue : Cue) (all : List Seat) (outs : List Out) (shown : List Seen) (there : IsThere x.setup (place.Client n)) (does : DoesAt n cue x.clients all outs shown) where
     pub client_stays : IsCast proto serves (record x { clients = all; events = x.events + 1 })
     client_stays =
         let s = client_at n there in
-        IsCast-client few n s.0 (after s.0 (cue_of t)) all s.1 (refl, (refl, does.stamp s.0 s.1)) (does.cores s.0 s.1)
+        IsCast-client few n s.0 (after s.0 cue) all s.1 (refl, (refl, does.stamp s.0 s.1)) (does.cores s.0 s.1)
 
-    pub client_taken : (s : Seat) → slice_get x.clients n ≡ Some s → IsTaken proto x (place.Client n) (client s) t (record x { clients = all; events = x.events + 1 }) outs shown false
+    pub client_taken : (s : Seat) → slice_get x.clients n ≡ Some s → IsTaken proto x (place.Client n) (client s) cue (record x { clients = all; events = x.events + 1 }) outs shown false
     client_taken s here =
         let seat = is.seats n s here in
         record {
-          after = ap (λ v. record x { clients = v; events = x.events + 1 }) (does.cores s here ∙ ap (slice_set x.clients n) (seat_after n x.events s seat (cue_of t)));
-          sends = does.outs s here ∙ seat_sends n x.events s seat (cue_of t);
-          shows = does.marks s here ∙ seat_marks n x.events s seat (cue_of t);
+          after = ap (λ v. record x { clients = v; events = x.events + 1 }) (does.cores s here ∙ ap (slice_set x.clients n) (seat_after n x.events s seat cue));
+          sends = does.outs s here ∙ seat_sends n x.events s seat cue;
+          shows = does.marks s here ∙ seat_marks n x.events s seat cue;
           spends = refl;
-          drafts = seat_drafts n x.events s seat (cue_of t) outs (does.drafts s here (few_clients n x.events s there seat));
+          drafts = seat_drafts n x.events s seat cue outs (does.drafts s here (few_clients n x.events s there seat));
         }
 
-  module _ (few : x.events < 100000) (n at : ℕ) (t : Taken) (all : List Seat) (outs : List Out) (shown : List Seen) (there : IsThere x.setup (place.ClientTwin n at)) (does : DoesAt at t x.client_twins all outs shown) where
+  module _ (few : x.events < 100000) (n at : ℕ) (cue : Cue) (all : List Seat) (outs : List Out) (shown : List Seen) (there : IsThere x.setup (place.ClientTwin n at)) (does : DoesAt at cue x.client_twins all outs shown) where
     pub client_twin_stays : IsCast proto serves (record x { client_twins = all; events = x.events + 1 })
     client_twin_stays =
         let s = client_twin_at n at there in
-        IsCast-client_twin few at s.0 (after s.0 (cue_of t)) all s.1 (refl, (refl, does.stamp s.0 s.1)) (does.cores s.0 s.1)
+        IsCast-client_twin few at s.0 (after s.0 cue) all s.1 (refl, (refl, does.stamp s.0 s.1)) (does.cores s.0 s.1)
 
-    pub client_twin_taken : (s : Seat) → slice_get x.client_twins at ≡ Some s → IsTaken proto x (place.ClientTwin n at) (client s) t (record x { client_twins = all; events = x.events + 1 }) outs shown false
+    pub client_twin_taken : (s : Seat) → slice_get x.client_twins at ≡ Some s → IsTaken proto x (place.ClientTwin n at) (client s) cue (record x { client_twins = all; events = x.events + 1 }) outs shown false
     client_twin_taken s here =
         let seat = seat_at n at s there here in
         record {
-          after = ap (λ v. record x { client_twins = v; events = x.events + 1 }) (does.cores s here ∙ ap (slice_set x.client_twins at) (seat_after n x.events s seat (cue_of t)));
-          sends = does.outs s here ∙ seat_sends n x.events s seat (cue_of t);
-          shows = does.marks s here ∙ seat_marks n x.events s seat (cue_of t);
+          after = ap (λ v. record x { client_twins = v; events = x.events + 1 }) (does.cores s here ∙ ap (slice_set x.client_twins at) (seat_after n x.events s seat cue));
+          sends = does.outs s here ∙ seat_sends n x.events s seat cue;
+          shows = does.marks s here ∙ seat_marks n x.events s seat cue;
           spends = refl;
-          drafts = seat_drafts n x.events s seat (cue_of t) outs (does.drafts s here (few_clients n x.events s there.0 seat));
+          drafts = seat_drafts n x.events s seat cue outs (does.drafts s here (few_clients n x.events s there.0 seat));
         }
 
 -- ---- commits at once
 
 -- what a client is handed, as the code reads it where the client stands
-module _ (s seat : Seat) (same : s ≡ seat) (t : Taken) (seen : Seen) where
-  pub message_commits : (m : Msg) → t ≡ message m → (T : Type 0)
-      → ((r : Request) (b : Ballot) → IsLastVote seat m r b → seen ≡ Committed seat.cli.at seat.me r b.n b.d b.reply → T) → ClientCommits s t seen → T
+module _ (s seat : Seat) (same : s ≡ seat) (cue : Cue) (seen : Seen) where
+  pub message_commits : (m : Msg) → cue ≡ cue_message m → (T : Type 0)
+      → ((r : Request) (b : Ballot) → IsLastVote seat m r b → seen ≡ Committed seat.cli.at seat.me r b.n b.d b.reply → T) → ClientCommits s cue seen → T
   message_commits m is T each commits =
-      let there : ClientCommits seat (message m) seen = subst (λ (u : Taken). ClientCommits seat u seen) is (subst (λ (q : Seat). ClientCommits q t seen) same commits) in
+      let there : ClientCommits seat (cue_message m) seen = subst (λ (u : Cue). ClientCommits seat u seen) is (subst (λ (q : Seat). ClientCommits q cue seen) same commits) in
       each there.0 there.1 there.2 there.3
 
-  pub time_commits : t ≡ time → (T : Type 0) → ClientCommits s t seen → T
+  pub time_commits : cue ≡ cue_time → (T : Type 0) → ClientCommits s cue seen → T
   time_commits is T commits =
-      let there : ClientCommits seat time seen = subst (λ (u : Taken). ClientCommits seat u seen) is (subst (λ (q : Seat). ClientCommits q t seen) same commits) in
+      let there : ClientCommits seat cue_time seen = subst (λ (u : Cue). ClientCommits seat u seen) is (subst (λ (q : Seat). ClientCommits q cue seen) same commits) in
       absurd there
 
 -- ---- what clauses say of the core at a place
@@ -354,15 +354,15 @@ module _ {P : Type 0} where
   client_core xs i Q each s at = let m = mapped_cases client (slice_get xs i) s at in subst Q m.1.1 (each m.0 m.1.0)
 
   -- what follows where the core at a place commits at once
-  abbrev pub WhereCommits : Taken → Seen → Type 0 → Core P → Type 0
-  WhereCommits t seen T s = CommitsAtOnce s t seen → T
+  abbrev pub WhereCommits : Cue → Seen → Type 0 → Core P → Type 0
+  WhereCommits cue seen T s = CommitsAtOnce s cue seen → T
 
-  pub no_replica_commits : (xs : List (Site P)) (i : ℕ) (t : Taken) (seen : Seen) (T : Type 0) → (s : Core P) → option_map replica (slice_get xs i) ≡ Some s → WhereCommits t seen T s
-  no_replica_commits xs i t seen T = replica_core xs i (WhereCommits t seen T) (λ q at commits. absurd commits)
+  pub no_replica_commits : (xs : List (Site P)) (i : ℕ) (cue : Cue) (seen : Seen) (T : Type 0) → (s : Core P) → option_map replica (slice_get xs i) ≡ Some s → WhereCommits cue seen T s
+  no_replica_commits xs i cue seen T = replica_core xs i (WhereCommits cue seen T) (λ q at commits. absurd commits)
 
-  pub client_commits : (xs : List Seat) (i : ℕ) (t : Taken) (seen : Seen) (T : Type 0) → ((s : Seat) → slice_get xs i ≡ Some s → ClientCommits s t seen → T)
-      → (s : Core P) → option_map client (slice_get xs i) ≡ Some s → WhereCommits t seen T s
-  client_commits xs i t seen T each = client_core xs i (WhereCommits t seen T) each
+  pub client_commits : (xs : List Seat) (i : ℕ) (cue : Cue) (seen : Seen) (T : Type 0) → ((s : Seat) → slice_get xs i ≡ Some s → ClientCommits s cue seen → T)
+      → (s : Core P) → option_map client (slice_get xs i) ≡ Some s → WhereCommits cue seen T s
+  client_commits xs i cue seen T each = client_core xs i (WhereCommits cue seen T) each
 
   module _ (x now : Cast P) (view : x ≡ now) (p at : Place) (placed : p ≡ at) where
     pub at_core : (Q : Cast P → Place → Core P → Type 0) → ((s : Core P) → core_at x at ≡ Some s → Q x at s) → (s : Core P) → core_at now p ≡ Some s → Q now p s
@@ -374,9 +374,9 @@ module _ {P : Type 0} where
     at_there twin given =
         subst (IsThere x.setup) placed (subst (λ (y : Cast P). IsThere y.setup p) (sym view) (is_there now.setup (party_at p) twin p given))
 
-pub spends_nothing : {P : Type 0} (proto : Proto P) (x : Cast P) (at : Place) (s : Core P) (t : Taken) (now : Cast P) (outs : List Out) (marks : List Seen) (spent : Bool) → spent ≡ false
-    → IsTaken proto x at s t now outs marks false → IsTaken proto x at s t now outs marks spent
-spends_nothing proto x at s t now outs marks spent is taken = subst (λ (b : Bool). IsTaken proto x at s t now outs marks b) (sym is) taken
+pub spends_nothing : {P : Type 0} (proto : Proto P) (x : Cast P) (at : Place) (s : Core P) (cue : Cue) (now : Cast P) (outs : List Out) (marks : List Seen) (spent : Bool) → spent ≡ false
+    → IsTaken proto x at s cue now outs marks false → IsTaken proto x at s cue now outs marks spent
+spends_nothing proto x at s cue now outs marks spent is taken = subst (λ (b : Bool). IsTaken proto x at s cue now outs marks b) (sym is) taken
 
 -- a client without an open request takes a command
 pub is_free_core : (P : Type 0) (s : Seat) → s.cli.phase ≡ Idle → command_refusal {P = P} (client s) ≡ None

@@ -33,7 +33,7 @@ use Rattle.ab_cast.specs.declared.given.Given.{Given}
 use Rattle.ab_cast.specs.declared.given.Given.TheVariants as given
 use Rattle.ab_cast.specs.Setups.{Setup, run_setup, keys_of}
 use Rattle.ab_cast.specs.Cores.{replica, site_after, core_after, core_sends, core_marks, core_spends}
-use Rattle.ab_cast.specs.Hearing.{IsGiven, RepHears, call_of, taken_of}
+use Rattle.ab_cast.specs.Hearing.{IsGiven, RepHears, call_of, cue_of}
 use Rattle.ab_cast.specs.Casts.{IsSite, first_site}
 
 -- ---- signatures
@@ -59,19 +59,19 @@ given_formed (given.Message m) is = is.of_grammar
 given_formed given.Time is = tt
 
 module _ {P : Type 0} (x : Setup) (proto : Proto P) (r : ℕ) (s : Site P) where
-  pub after_given : (g : Given) → core_after x proto (Replica r) (replica s) (taken_of g) ≡ replica (site_after (run_setup x) proto r s (call_of g))
+  pub after_given : (g : Given) → core_after x proto (Replica r) (replica s) (cue_of g) ≡ replica (site_after (run_setup x) proto r s (call_of g))
   after_given (given.Message m) = refl
   after_given given.Time = refl
 
-  pub sends_given : (g : Given) → core_sends x proto (Replica r) (replica s) (taken_of g) ≡ rep_sends (run_setup x) proto r s.rep (call_of g)
+  pub sends_given : (g : Given) → core_sends x proto (Replica r) (replica s) (cue_of g) ≡ rep_sends (run_setup x) proto r s.rep (call_of g)
   sends_given (given.Message m) = refl
   sends_given given.Time = refl
 
-  pub marks_given : (g : Given) → core_marks x proto (Replica r) (replica s) (taken_of g) ≡ rep_marks (run_setup x) proto r s.rep (call_of g)
+  pub marks_given : (g : Given) → core_marks x proto (Replica r) (replica s) (cue_of g) ≡ rep_marks (run_setup x) proto r s.rep (call_of g)
   marks_given (given.Message m) = refl
   marks_given given.Time = refl
 
-  pub spends_given : (g : Given) → core_spends x proto (Replica r) (replica s) (taken_of g) ≡ is_spent (run_setup x) proto r s.rep (call_of g)
+  pub spends_given : (g : Given) → core_spends x proto (Replica r) (replica s) (cue_of g) ≡ is_spent (run_setup x) proto r s.rep (call_of g)
   spends_given (given.Message m) = refl
   spends_given given.Time = refl
 

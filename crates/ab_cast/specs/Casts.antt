@@ -7,6 +7,7 @@ use Rattle.ab_msg.specs.declared.message.Out.{Out}
 use Rattle.ab_abs.specs.declared.seen.Seen.{Seen}
 use Rattle.ab_abs.specs.Ensembles.{Proto}
 use Rattle.ab_abs.specs.Promises.{ServesAll}
+use Rattle.ab_run.specs.Local.{Cue}
 use Rattle.ab_run.specs.declared.phase.Phase.{Phase}
 use Rattle.ab_run.specs.declared.phase.Phase.TheVariants.{Idle, Waiting, Panicking}
 use Rattle.ab_run.specs.Forms.{IsDraftOf, IsWrittenRep}
@@ -20,7 +21,7 @@ use Rattle.ab_cast.specs.declared.fault.CommandFault.TheVariants.{NoClient, Busy
 use Rattle.ab_cast.specs.declared.place.Place.{Place}
 use Rattle.ab_cast.specs.declared.place.Place.TheVariants as place
 use Rattle.ab_cast.specs.Setups.{Setup, run_setup, signatures_of, replica_twins, client_twins, party_at}
-use Rattle.ab_cast.specs.Cores.{Core, replica, client, Taken, core_after, core_sends, core_marks, core_spends}
+use Rattle.ab_cast.specs.Cores.{Core, replica, client, core_after, core_sends, core_marks, core_spends}
 
 -- each party's own core by the party's number, the further ones of faulty parties, and how many events there were
 pub record Cast (P : Type 0) : Type 0 where
@@ -61,11 +62,11 @@ module _ {P : Type 0} where
 
 -- the core at a place takes what comes: it alone changes, and outs, marks and spent are what it sends, what is seen of it, and whether
 -- the event was spent
-pub record IsTaken {P : Type 0} (proto : Proto P) (x : Cast P) (at : Place) (s : Core P) (t : Taken) (now : Cast P) (outs : List Out) (marks : List Seen) (spent : Bool) : Type 0 where
-  pub after : now ≡ next (with_core x at (core_after x.setup proto (party_at at) s t))
-  pub sends : outs ≡ core_sends x.setup proto (party_at at) s t
-  pub shows : marks ≡ core_marks x.setup proto (party_at at) s t
-  pub spends : spent ≡ core_spends x.setup proto (party_at at) s t
+pub record IsTaken {P : Type 0} (proto : Proto P) (x : Cast P) (at : Place) (s : Core P) (cue : Cue) (now : Cast P) (outs : List Out) (marks : List Seen) (spent : Bool) : Type 0 where
+  pub after : now ≡ next (with_core x at (core_after x.setup proto (party_at at) s cue))
+  pub sends : outs ≡ core_sends x.setup proto (party_at at) s cue
+  pub shows : marks ≡ core_marks x.setup proto (party_at at) s cue
+  pub spends : spent ≡ core_spends x.setup proto (party_at at) s cue
   pub drafts : All (IsDraftOf x.setup.cluster.f (party_at at)) outs
 
 -- ---- before the first event

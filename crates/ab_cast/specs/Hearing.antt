@@ -5,17 +5,17 @@ use Rattle.ab_wire.specs.Views.{IsReceived, message as message_of}
 use Rattle.ab_abs.specs.declared.seen.Seen.{Seen}
 use Rattle.ab_abs.specs.Ensembles.{Proto}
 use Rattle.ab_abs.specs.Messages.{Call, took, timed}
+use Rattle.ab_run.specs.Local.{Cue, cue_message, cue_time}
 use Rattle.ab_replica.specs.Sites.{Site}
 use Rattle.ab_replica.specs.Doings.{Hears}
 use Rattle.ab_cast.specs.declared.given.Given.{Given}
 use Rattle.ab_cast.specs.declared.given.Given.TheVariants as given
 use Rattle.ab_cast.specs.Setups.{Setup, run_setup}
-use Rattle.ab_cast.specs.Cores.{Taken, message, time}
 
 -- a message that was read from bytes, or a timer that ran out
-abbrev pub taken_of : Given → Taken
-taken_of (given.Message m) = message (message_of m)
-taken_of given.Time = time
+abbrev pub cue_of : Given → Cue
+cue_of (given.Message m) = cue_message (message_of m)
+cue_of given.Time = cue_time
 
 abbrev pub call_of : Given → Call
 call_of (given.Message m) = took (message_of m)

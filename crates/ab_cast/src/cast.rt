@@ -6,9 +6,10 @@ ghost use Rattle.ab_num.specs.declared.party.Party.{Party as TheParty};
 ghost use Rattle.ab_abs.specs.declared.seen.Seen.{Seen};
 ghost use Rattle.ab_abs.specs.Promises.{ServesAll};
 ghost use Rattle.ab_wire.specs.Views.{IsReceived, message as message_of};
+ghost use Rattle.ab_run.specs.Local.{cue_command, cue_message, cue_time};
 ghost use Rattle.ab_cast.specs.Setups.{place_of, party_at};
-ghost use Rattle.ab_cast.specs.Cores.{CommitsAtOnce, Core, command, message, time};
-ghost use Rattle.ab_cast.specs.Hearing.{IsGiven, taken_of};
+ghost use Rattle.ab_cast.specs.Cores.{CommitsAtOnce, Core};
+ghost use Rattle.ab_cast.specs.Hearing.{IsGiven, cue_of};
 ghost use Rattle.ab_cast.specs.Casts.{AreSeats, IsTaken, core_at, next, first_cast, is_free, command_refusal, CommandCause};
 
 use crate::cores::{
@@ -174,10 +175,10 @@ impl<S: Service, P: Protocol<S>> Cast<S, P> {
         requires received { IsReceived m }
         requires there { (twin : Option ℕ) × (place_of self.old.setup (party_at place) twin ≡ Some place) }
         ensures taken { (s : Core P) → core_at self.old place ≡ Some s
-            → IfOk result (λ e. IsTaken P.proto self.old place s (message (message_of m.entry)) self.new e.outs e.marks.items e.spent) }
+            → IfOk result (λ e. IsTaken P.proto self.old place s (cue_message (message_of m.entry)) self.new e.outs e.marks.items e.spent) }
 
         // What makes a client commit at once can't be refused.
-        ensures at_once { (s : Core P) (seen : Seen) → core_at self.old place ≡ Some s → CommitsAtOnce s (message (message_of m.entry)) seen
+        ensures at_once { (s : Core P) (seen : Seen) → core_at self.old place ≡ Some s → CommitsAtOnce s (cue_message (message_of m.entry)) seen
             → IsOkAnd result (λ e. e.marks.items ≡ seen ∷ []) }
         ensures err { OnErr result (self.new ≡ self.old) }
     {
@@ -189,7 +190,7 @@ impl<S: Service, P: Protocol<S>> Cast<S, P> {
         requires few { self.old.events < 100000 }
         requires there { (twin : Option ℕ) × (place_of self.old.setup (party_at place) twin ≡ Some place) }
         ensures taken { (s : Core P) → core_at self.old place ≡ Some s
-            → IfOk result (λ e. IsTaken P.proto self.old place s time self.new e.outs e.marks.items e.spent) }
+            → IfOk result (λ e. IsTaken P.proto self.old place s cue_time self.new e.outs e.marks.items e.spent) }
         ensures err { OnErr result (self.new ≡ self.old) }
     {
         self.give(alloc, place, Given::Time)
@@ -206,8 +207,8 @@ impl<S: Service, P: Protocol<S>> Cast<S, P> {
         requires given { IsGiven given }
         requires there { (twin : Option ℕ) × (place_of self.old.setup (party_at place) twin ≡ Some place) }
         ensures taken { (s : Core P) → core_at self.old place ≡ Some s
-            → IfOk result (λ e. IsTaken P.proto self.old place s (taken_of given.entry) self.new e.outs e.marks.items e.spent) }
-        ensures at_once { (s : Core P) (seen : Seen) → core_at self.old place ≡ Some s → CommitsAtOnce s (taken_of given.entry) seen
+            → IfOk result (λ e. IsTaken P.proto self.old place s (cue_of given.entry) self.new e.outs e.marks.items e.spent) }
+        ensures at_once { (s : Core P) (seen : Seen) → core_at self.old place ≡ Some s → CommitsAtOnce s (cue_of given.entry) seen
             → IsOkAnd result (λ e. e.marks.items ≡ seen ∷ []) }
         ensures err { OnErr result (self.new ≡ self.old) }
     {
@@ -249,7 +250,7 @@ impl<S: Service, P: Protocol<S>> Cast<S, P> {
         requires form { (0 < length bytes.now) × (length bytes.now ≤ 128) }
         requires there { (twin : Option ℕ) × (place_of self.old.setup (party_at place) twin ≡ Some place) }
         ensures taken { (s : Core P) → core_at self.old place ≡ Some s
-            → IfOk result (λ e. IsTaken P.proto self.old place s (command (record { items = bytes.now })) self.new e.outs e.marks.items e.spent) }
+            → IfOk result (λ e. IsTaken P.proto self.old place s (cue_command (record { items = bytes.now })) self.new e.outs e.marks.items e.spent) }
         ensures idle { (s : Core P) → core_at self.old place ≡ Some s → OnOk result (command_refusal s ≡ None) }
         ensures cause { (s : Core P) → core_at self.old place ≡ Some s → IfErr result (λ e. CommandCause e s) }
         ensures err { OnErr result (self.new ≡ self.old) }

@@ -9,8 +9,8 @@ ghost use Rattle.ab_run.specs.declared.phase.Phase.TheVariants.{Idle};
 ghost use Rattle.ab_replica.specs.Sites.{Site};
 ghost use Rattle.ab_client.specs.Clients.{Seat, told, after, sends, marks};
 ghost use Rattle.ab_cast.specs.Setups.{client_twins, replica_twins, signatures_of};
-ghost use Rattle.ab_cast.specs.Cores.{ClientCommits, cue_of};
-ghost use Rattle.ab_cast.specs.Hearing.{IsGiven, RepHears, call_of, taken_of};
+ghost use Rattle.ab_cast.specs.Cores.{ClientCommits};
+ghost use Rattle.ab_cast.specs.Hearing.{IsGiven, RepHears, call_of, cue_of};
 ghost use Rattle.ab_cast.specs.Casts.{IsSite, first_seat, first_seats, first_site, first_sites};
 
 use crate::fault::CommandFault;
@@ -172,13 +172,13 @@ pub(crate) fn hear_client(
 ) -> Result<Effects, OutOfMemory>
     requires given { IsGiven given }
     requires there { at < vec_len cores.old }
-    ensures cores { (s : Seat) → slice_get cores.old.items at ≡ Some s → OnOk result (cores.new.items ≡ slice_set cores.old.items at (after s (cue_of (taken_of given.entry)))) }
-    ensures outs { (s : Seat) → slice_get cores.old.items at ≡ Some s → IfOk result (λ e. e.outs ≡ sends s (cue_of (taken_of given.entry))) }
-    ensures marks { (s : Seat) → slice_get cores.old.items at ≡ Some s → IfOk result (λ e. e.marks.items ≡ marks s (cue_of (taken_of given.entry))) }
+    ensures cores { (s : Seat) → slice_get cores.old.items at ≡ Some s → OnOk result (cores.new.items ≡ slice_set cores.old.items at (after s (cue_of given.entry))) }
+    ensures outs { (s : Seat) → slice_get cores.old.items at ≡ Some s → IfOk result (λ e. e.outs ≡ sends s (cue_of given.entry)) }
+    ensures marks { (s : Seat) → slice_get cores.old.items at ≡ Some s → IfOk result (λ e. e.marks.items ≡ marks s (cue_of given.entry)) }
     ensures drafts { (s : Seat) → slice_get cores.old.items at ≡ Some s → s.me ≤ 15 → IfOk result (λ e. All (IsDraftOf s.cluster.f (ClientParty s.me)) e.outs) }
     ensures spent { IfOk result (λ e. e.spent ≡ false) }
-    ensures stamp { (s : Seat) → slice_get cores.old.items at ≡ Some s → OnOk result ((after s (cue_of (taken_of given.entry))).cli.stamp ≡ s.cli.stamp) }
-    ensures at_once { (s : Seat) (seen : Seen) → slice_get cores.old.items at ≡ Some s → ClientCommits s (taken_of given.entry) seen → IsOkAnd result (λ e. e.marks.items ≡ seen ∷ []) }
+    ensures stamp { (s : Seat) → slice_get cores.old.items at ≡ Some s → OnOk result ((after s (cue_of given.entry)).cli.stamp ≡ s.cli.stamp) }
+    ensures at_once { (s : Seat) (seen : Seen) → slice_get cores.old.items at ≡ Some s → ClientCommits s (cue_of given.entry) seen → IsOkAnd result (λ e. e.marks.items ≡ seen ∷ []) }
     ensures err { OnErr result (cores.new.items ≡ cores.old.items) }
 {
     let core = &mut cores[at];

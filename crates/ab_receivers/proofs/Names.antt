@@ -24,18 +24,18 @@ use Rattle.ab_abs.proofs.Counting.{Contains-head}
 use Rattle.ab_abs.proofs.Lists.{Contains-flat_map}
 use Rattle.ab_lock.proofs.Lists.{Contains-map}
 use Rattle.ab_pbft.proofs.RuleInduction.{and_both, lt_of}
+use Rattle.ab_run.specs.Local.{Cue, cue_command, cue_message, cue_time}
 use Rattle.ab_run.specs.Replicas.{client_of}
-use Rattle.ab_cast.specs.Cores.{Taken, command, message, time}
 use Rattle.ab_cast.specs.Setups.{Setup, judge_at}
-use Rattle.ab_world.specs.Steps.{Given, ask, hand, ring, messages, taken_from}
+use Rattle.ab_world.specs.Steps.{Given, ask, hand, ring, messages, cue_from}
 use Rattle.ab_world.specs.Worlds.{opening_at}
 use Rattle.ab_receivers.proofs.Lists.{each_passes}
 use Rattle.ab_receivers.proofs.Naming.{asker, NamesClients}
 
-abbrev pub TakesNamed : ℕ → Taken → Type 0
-TakesNamed clients (command bytes) = Unit {0}
-TakesNamed clients (message m) = NamesClients clients m
-TakesNamed clients time = Unit {0}
+abbrev pub TakesNamed : ℕ → Cue → Type 0
+TakesNamed clients (cue_command bytes) = Unit {0}
+TakesNamed clients (cue_message m) = NamesClients clients m
+TakesNamed clients cue_time = Unit {0}
 
 -- ---- of what names parties of the cluster alone
 
@@ -107,14 +107,14 @@ module _ (x : Setup) (p : Party) where
         asks = asker_below x.cluster.f x.cluster.clients p m x.cluster.in_bounds.some_client all;
       }
 
-  messages_named : (bytes : List ℕ) (r : Result Msg OpenFault) (t : Taken) → opening_at x p bytes ≡ r → messages r ≡ Ok t → TakesNamed x.cluster.clients t
-  messages_named bytes (Ok m) t opens is =
-      let same : message m ≡ t = cc (is) in
-      subst (λ (z : Taken). TakesNamed x.cluster.clients z) same (opened_names bytes m opens)
-  messages_named bytes (Err fault) t opens is = absurd (cc (is))
+  messages_named : (bytes : List ℕ) (r : Result Msg OpenFault) (cue : Cue) → opening_at x p bytes ≡ r → messages r ≡ Ok cue → TakesNamed x.cluster.clients cue
+  messages_named bytes (Ok m) cue opens is =
+      let same : cue_message m ≡ cue = cc (is) in
+      subst (λ (z : Cue). TakesNamed x.cluster.clients z) same (opened_names bytes m opens)
+  messages_named bytes (Err fault) cue opens is = absurd (cc (is))
 
   -- what a core takes names clients of the cluster
-  pub taken_named : (g : Given) (t : Taken) → taken_from x p g ≡ Ok t → TakesNamed x.cluster.clients t
-  taken_named (ask bytes) t is = let same : command bytes ≡ t = cc (is) in subst (λ (z : Taken). TakesNamed x.cluster.clients z) same tt
-  taken_named (hand bytes) t is = messages_named bytes (opening_at x p bytes) t refl is
-  taken_named ring t is = let same : time ≡ t = cc (is) in subst (λ (z : Taken). TakesNamed x.cluster.clients z) same tt
+  pub taken_named : (g : Given) (cue : Cue) → cue_from x p g ≡ Ok cue → TakesNamed x.cluster.clients cue
+  taken_named (ask bytes) cue is = let same : cue_command bytes ≡ cue = cc (is) in subst (λ (z : Cue). TakesNamed x.cluster.clients z) same tt
+  taken_named (hand bytes) cue is = messages_named bytes (opening_at x p bytes) cue refl is
+  taken_named ring cue is = let same : cue_time ≡ cue = cc (is) in subst (λ (z : Cue). TakesNamed x.cluster.clients z) same tt

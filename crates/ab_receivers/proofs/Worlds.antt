@@ -12,17 +12,18 @@ use Rattle.ab_abs.specs.Ensembles.{Proto, entry_of}
 use Rattle.ab_abs.specs.Messages.{took, timed}
 use Rattle.ab_abs.proofs.Statements.{one_of, none_of}
 use Rattle.ab_lock.proofs.Lists.{Contains-map_cases, Contains-nth}
+use Rattle.ab_run.specs.Local.{Cue, cue_command, cue_message, cue_time}
 use Rattle.ab_client.specs.Clients.{Seat}
 use Rattle.ab_replica.specs.Sites.{Site}
 use Rattle.ab_post.specs.Packets.{Packet, total, most_bytes}
 use Rattle.ab_cast.specs.declared.place.Place.{Place}
 use Rattle.ab_cast.specs.declared.place.Place.TheVariants as place
 use Rattle.ab_cast.specs.Setups.{Setup, run_setup, party_at, replica_twins, ring_at}
-use Rattle.ab_cast.specs.Cores.{Core, replica, client, Taken, command, message, time, core_after, core_sends, cue_of, number_of}
+use Rattle.ab_cast.specs.Cores.{Core, replica, client, core_after, core_sends, number_of}
 use Rattle.ab_cast.specs.Casts.{Cast, core_at, first_site, first_sites, with_core}
 use Rattle.ab_world.specs.declared.fault.WorldFault.{WorldFault}
 use Rattle.ab_world.specs.declared.fault.WorldFault.TheVariants.{PacketLimit}
-use Rattle.ab_world.specs.Steps.{Happening, posted, taken_from, moved, moved_at, after_taking, after, stepped, stepped_by, ready}
+use Rattle.ab_world.specs.Steps.{Happening, posted, cue_from, moved, moved_at, after_taking, after, stepped, stepped_by, ready}
 use Rattle.ab_world.specs.Runs.{outcome, refused_or}
 use Rattle.ab_world.specs.Worlds.{World, start}
 use Rattle.ab_storm_run.specs.Runs.{SendsToParties}
@@ -75,17 +76,17 @@ module _ {P : Type 0} (proto : Proto P) (x : Setup) (Knows : P → Type 0) (stay
       of_seat None is' = absurd (cc (is'))
       of_seat (Some q) is' = let same : client q ≡ s = cc (is') in subst (λ (z : Core P). CoreKnows z) same tt
 
-  core_knows : (p : Party) (s : Core P) (t : Taken) → TakesNamed x.cluster.clients t → CoreKnows s → CoreKnows (core_after x proto p s t)
-  core_knows p (replica s) (command bytes) named knows = knows
-  core_knows p (replica s) (message m) named knows = replica_knows (run_setup x) proto Knows stays (number_of p) s.rep (took m) named knows
-  core_knows p (replica s) time named knows = replica_knows (run_setup x) proto Knows stays (number_of p) s.rep timed named knows
-  core_knows p (client s) t named knows = tt
+  core_knows : (p : Party) (s : Core P) (cue : Cue) → TakesNamed x.cluster.clients cue → CoreKnows s → CoreKnows (core_after x proto p s cue)
+  core_knows p (replica s) (cue_command bytes) named knows = knows
+  core_knows p (replica s) (cue_message m) named knows = replica_knows (run_setup x) proto Knows stays (number_of p) s.rep (took m) named knows
+  core_knows p (replica s) cue_time named knows = replica_knows (run_setup x) proto Knows stays (number_of p) s.rep timed named knows
+  core_knows p (client s) cue named knows = tt
 
-  core_within : (p : Party) (s : Core P) (t : Taken) → TakesNamed x.cluster.clients t → CoreKnows s → AreWithin x.cluster (core_sends x proto p s t)
-  core_within p (replica s) (command bytes) named knows o has = absurd (none_of o has)
-  core_within p (replica s) (message m) named knows o has = replica_sends (run_setup x) proto Knows stays (number_of p) s.rep (took m) named knows o has
-  core_within p (replica s) time named knows o has = replica_sends (run_setup x) proto Knows stays (number_of p) s.rep timed named knows o has
-  core_within p (client s) t named knows o has = client_sends (run_setup x) (number_of p) s.cli (cue_of t) o has
+  core_within : (p : Party) (s : Core P) (cue : Cue) → TakesNamed x.cluster.clients cue → CoreKnows s → AreWithin x.cluster (core_sends x proto p s cue)
+  core_within p (replica s) (cue_command bytes) named knows o has = absurd (none_of o has)
+  core_within p (replica s) (cue_message m) named knows o has = replica_sends (run_setup x) proto Knows stays (number_of p) s.rep (took m) named knows o has
+  core_within p (replica s) cue_time named knows o has = replica_sends (run_setup x) proto Knows stays (number_of p) s.rep timed named knows o has
+  core_within p (client s) cue named knows o has = client_sends (run_setup x) (number_of p) s.cli cue o has
 
   -- ---- one event
 
@@ -134,33 +135,33 @@ module _ {P : Type 0} (proto : Proto P) (x : Setup) (Knows : P → Type 0) (stay
   sent_on : (packets more : List Packet) → AllSent packets → AllSent more → AllSent (packets ++ more)
   sent_on packets more old new q has = elim (Contains-append_cases packets more q has) [ inl before ↦ old q before | inr now ↦ new q now ]
 
-  moved_stands : (w : World P) (at : Place) (t : Taken) (s : Core P) → Stands w → TakesNamed x.cluster.clients t → CoreKnows s → Stands (moved proto w at (party_at at) t s)
-  moved_stands w at t s stands named knows =
+  moved_stands : (w : World P) (at : Place) (cue : Cue) (s : Core P) → Stands w → TakesNamed x.cluster.clients cue → CoreKnows s → Stands (moved proto w at (party_at at) cue s)
+  moved_stands w at cue s stands named knows =
       let p = party_at at in
       let same = stands.setup in
-      let later : CoreKnows (core_after w.cast.setup proto p s t) = subst (λ (y : Setup). CoreKnows (core_after y proto p s t)) (sym same) (core_knows p s t named knows) in
-      let within : AreWithin x.cluster (core_sends w.cast.setup proto p s t) = subst (λ (y : Setup). AreWithin x.cluster (core_sends y proto p s t)) (sym same) (core_within p s t named knows) in
-      let now : (with_core w.cast at (core_after w.cast.setup proto p s t)).setup ≡ x = put_setup w.cast at (core_after w.cast.setup proto p s t) ∙ same in
-      let outs = subst (λ (y : Setup). AllSent (posted y p (core_sends w.cast.setup proto p s t))) (sym now) (posted_within p (core_sends w.cast.setup proto p s t) within) in
+      let later : CoreKnows (core_after w.cast.setup proto p s cue) = subst (λ (y : Setup). CoreKnows (core_after y proto p s cue)) (sym same) (core_knows p s cue named knows) in
+      let within : AreWithin x.cluster (core_sends w.cast.setup proto p s cue) = subst (λ (y : Setup). AreWithin x.cluster (core_sends y proto p s cue)) (sym same) (core_within p s cue named knows) in
+      let now : (with_core w.cast at (core_after w.cast.setup proto p s cue)).setup ≡ x = put_setup w.cast at (core_after w.cast.setup proto p s cue) ∙ same in
+      let outs = subst (λ (y : Setup). AllSent (posted y p (core_sends w.cast.setup proto p s cue))) (sym now) (posted_within p (core_sends w.cast.setup proto p s cue) within) in
       record {
         setup = now;
-        replicas = put_replicas w.cast at (core_after w.cast.setup proto p s t) stands.replicas later;
-        twins = put_twins w.cast at (core_after w.cast.setup proto p s t) stands.twins later;
+        replicas = put_replicas w.cast at (core_after w.cast.setup proto p s cue) stands.replicas later;
+        twins = put_twins w.cast at (core_after w.cast.setup proto p s cue) stands.twins later;
         packets = sent_on w.packets _ stands.packets outs;
       }
 
-  at_stands : (w : World P) (at : Place) (t : Taken) (o : Option (Core P)) → core_at w.cast at ≡ o → Stands w → TakesNamed x.cluster.clients t → Stands (moved_at proto w at t o)
-  at_stands w at t None there stands named = stands
-  at_stands w at t (Some s) there stands named = moved_stands w at t s stands named (core_there w at s stands there)
+  at_stands : (w : World P) (at : Place) (cue : Cue) (o : Option (Core P)) → core_at w.cast at ≡ o → Stands w → TakesNamed x.cluster.clients cue → Stands (moved_at proto w at cue o)
+  at_stands w at cue None there stands named = stands
+  at_stands w at cue (Some s) there stands named = moved_stands w at cue s stands named (core_there w at s stands there)
 
-  taking_stands : (w : World P) (h : Happening) (r : Result Taken OpenFault) → taken_from w.cast.setup (party_at h.place) h.given ≡ r → Stands w → Stands (after_taking proto w h.place r)
-  taking_stands w h (Ok t) is stands =
-      let opens : taken_from x (party_at h.place) h.given ≡ Ok t = ap (λ (y : Setup). taken_from y (party_at h.place) h.given) (sym stands.setup) ∙ is in
-      at_stands w h.place t (core_at w.cast h.place) refl stands (taken_named x (party_at h.place) h.given t opens)
+  taking_stands : (w : World P) (h : Happening) (r : Result Cue OpenFault) → cue_from w.cast.setup (party_at h.place) h.given ≡ r → Stands w → Stands (after_taking proto w h.place r)
+  taking_stands w h (Ok cue) is stands =
+      let opens : cue_from x (party_at h.place) h.given ≡ Ok cue = ap (λ (y : Setup). cue_from y (party_at h.place) h.given) (sym stands.setup) ∙ is in
+      at_stands w h.place cue (core_at w.cast h.place) refl stands (taken_named x (party_at h.place) h.given cue opens)
   taking_stands w h (Err fault) is stands = record { setup = stands.setup; replicas = stands.replicas; twins = stands.twins; packets = stands.packets }
 
   after_stands : (w : World P) (h : Happening) → Stands w → Stands (after proto w h)
-  after_stands w h stands = taking_stands w h (taken_from w.cast.setup (party_at h.place) h.given) refl stands
+  after_stands w h stands = taking_stands w h (cue_from w.cast.setup (party_at h.place) h.given) refl stands
 
   kept_world : (w v : World P) (b : Bool) → ◌≡◌ {A = Result (World P) WorldFault} (if b then Ok w else Err PacketLimit) (Ok v) → w ≡ v
   kept_world w v true is = cc (is)

@@ -19,17 +19,18 @@ use Rattle.arrayvec.specs.ArrayVec.{ArrayVec}
 use Rattle.ab_text.specs.declared.event.Core.{Core as CoreName}
 use Rattle.ab_text.specs.declared.event.Event.TheVariants.{Invoke, Deliver, Timeout, Inject}
 use Rattle.ab_post.specs.Packets.{Packet, nth}
+use Rattle.ab_run.specs.Local.{Cue}
 use Rattle.ab_cast.specs.declared.fault.CommandFault.{CommandFault}
 use Rattle.ab_cast.specs.declared.fault.CommandFault.TheVariants as command_fault
 use Rattle.ab_cast.specs.declared.place.Place.{Place}
 use Rattle.ab_cast.specs.declared.place.Place.TheVariants as place
 use Rattle.ab_cast.specs.Setups.{Setup, party_at, place_of}
-use Rattle.ab_cast.specs.Cores.{Core, Taken, replica, client, core_after}
+use Rattle.ab_cast.specs.Cores.{Core, replica, client, core_after}
 use Rattle.ab_cast.specs.Casts.{Cast, with_core, core_at, command_refusal, first_site, first_sites}
 use Rattle.ab_world.specs.declared.fault.WorldFault.{WorldFault}
 use Rattle.ab_world.specs.declared.fault.WorldFault.TheVariants.{EventLimit, BadCommand, PacketLimit}
 use Rattle.ab_world.specs.Runs.{outcome, refused_or}
-use Rattle.ab_world.specs.Steps.{Happening, ready, ready_in, happening, asked, asked_at, handed, addressed, delivered, rung, refuse_command, after, after_taking, moved_at, stepped, stepped_by, taken_from}
+use Rattle.ab_world.specs.Steps.{Happening, ready, ready_in, happening, asked, asked_at, handed, addressed, delivered, rung, refuse_command, after, after_taking, moved_at, stepped, stepped_by, cue_from}
 use Rattle.ab_world.specs.Worlds.{World, start}
 use Rattle.ab_replay.specs.Protocols.{Any}
 use Rattle.ab_replay.specs.declared.running.ReplayFault.{ReplayFault}
@@ -116,13 +117,13 @@ sites_length proto x zero = refl
 sites_length proto x (suc n) = length-append (first_sites x proto n) (first_site x proto n ∷ []) ∙ omega (arith, sites_length proto x n)
 
 module _ (proto : Proto Any) where
-  move_stays : (w : World Any) (at : Place) (t : Taken) (s : Option (Core Any)) → Stays w.cast (moved_at proto w at t s).cast
-  move_stays w at t None = record { setup = refl; replicas = refl }
-  move_stays w at t (Some s) =
-      let stays = core_stays w.cast at (core_after w.cast.setup proto (party_at at) s t) in record { setup = stays.setup; replicas = stays.replicas }
+  move_stays : (w : World Any) (at : Place) (cue : Cue) (s : Option (Core Any)) → Stays w.cast (moved_at proto w at cue s).cast
+  move_stays w at cue None = record { setup = refl; replicas = refl }
+  move_stays w at cue (Some s) =
+      let stays = core_stays w.cast at (core_after w.cast.setup proto (party_at at) s cue) in record { setup = stays.setup; replicas = stays.replicas }
 
-  taking_stays : (w : World Any) (at : Place) (t : Result Taken OpenFault) → Stays w.cast (after_taking proto w at t).cast
-  taking_stays w at (Ok t) = move_stays w at t (core_at w.cast at)
+  taking_stays : (w : World Any) (at : Place) (cue : Result Cue OpenFault) → Stays w.cast (after_taking proto w at cue).cast
+  taking_stays w at (Ok cue) = move_stays w at cue (core_at w.cast at)
   taking_stays w at (Err fault) = record { setup = refl; replicas = refl }
 
   -- a step is one event more at most, and ends no world
@@ -130,12 +131,12 @@ module _ (proto : Proto Any) where
     events : v.cast.events ≤ w.cast.events + 1
     ended : v.ended ≡ w.ended
 
-  move_steps : (w : World Any) (at : Place) (t : Taken) (s : Option (Core Any)) → Steps w (moved_at proto w at t s)
-  move_steps w at t None = record { events = omega arith; ended = refl }
-  move_steps w at t (Some s) = record { events = omega (arith, core_events w.cast at (core_after w.cast.setup proto (party_at at) s t)); ended = refl }
+  move_steps : (w : World Any) (at : Place) (cue : Cue) (s : Option (Core Any)) → Steps w (moved_at proto w at cue s)
+  move_steps w at cue None = record { events = omega arith; ended = refl }
+  move_steps w at cue (Some s) = record { events = omega (arith, core_events w.cast at (core_after w.cast.setup proto (party_at at) s cue)); ended = refl }
 
-  taking_steps : (w : World Any) (at : Place) (t : Result Taken OpenFault) → Steps w (after_taking proto w at t)
-  taking_steps w at (Ok t) = move_steps w at t (core_at w.cast at)
+  taking_steps : (w : World Any) (at : Place) (cue : Result Cue OpenFault) → Steps w (after_taking proto w at cue)
+  taking_steps w at (Ok cue) = move_steps w at cue (core_at w.cast at)
   taking_steps w at (Err fault) = record { events = omega arith; ended = refl }
 
   kept_within : (w v : World Any) (fits : Bool) → (if fits then Ok w else Err PacketLimit) ≡ Ok v → v ≡ w
@@ -146,14 +147,14 @@ module _ (proto : Proto Any) where
   step_stays w v (Ok h) is =
       let u = after proto w h in
       let same = stays_still u v (kept_within u v _ is) in
-      let stays = taking_stays w h.place (taken_from w.cast.setup (party_at h.place) h.given) in
+      let stays = taking_stays w h.place (cue_from w.cast.setup (party_at h.place) h.given) in
       record { setup = same.setup ∙ stays.setup; replicas = same.replicas ∙ stays.replicas }
   step_stays w v (Err fault) is = absurd (cc)
 
   stepped_steps : (w v : World Any) (h : Result Happening WorldFault) → stepped_by proto w h ≡ Ok v → Steps w v
   stepped_steps w v (Ok h) is =
       let same = kept_within (after proto w h) v _ is in
-      subst (Steps w) (sym same) (taking_steps w h.place (taken_from w.cast.setup (party_at h.place) h.given))
+      subst (Steps w) (sym same) (taking_steps w h.place (cue_from w.cast.setup (party_at h.place) h.given))
   stepped_steps w v (Err fault) is = absurd (cc (is))
 
   pub step_steps : (w v : World Any) (e : Event) → stepped proto w e ≡ Ok v → (v.cast.events ≤ w.cast.events + 1) × (v.ended ≡ w.ended)

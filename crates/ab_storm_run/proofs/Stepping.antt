@@ -6,13 +6,14 @@ use Rattle.ab_num.specs.declared.party.Party.{Party}
 use Rattle.ab_num.specs.declared.party.Party.TheVariants.{Replica, Client}
 use Rattle.ab_open.specs.declared.fault.OpenFault.{OpenFault}
 use Rattle.ab_abs.specs.Ensembles.{Proto}
+use Rattle.ab_run.specs.Local.{Cue, cue_command, cue_message, cue_time}
 use Rattle.ab_run.proofs.Listed.{set_length}
 use Rattle.ab_replica.specs.Sites.{Site}
 use Rattle.ab_client.specs.Clients.{Seat}
 use Rattle.ab_cast.specs.Setups.{own_place, party_at}
-use Rattle.ab_cast.specs.Cores.{replica, client, Taken, command, message, time}
+use Rattle.ab_cast.specs.Cores.{replica, client}
 use Rattle.ab_cast.specs.Casts.{core_at}
-use Rattle.ab_world.specs.Steps.{Given, taken_from, moved_at, after_taking, after}
+use Rattle.ab_world.specs.Steps.{Given, cue_from, moved_at, after_taking, after}
 use Rattle.ab_world.specs.Worlds.{World}
 
 module _ {P : Type 0} (proto : Proto P) (w : World P) where
@@ -27,24 +28,24 @@ module _ {P : Type 0} (proto : Proto P) (w : World P) where
   still : Keeps w
   still = record { setup = refl; replicas = refl; clients = refl; events = omega arith; ended = refl }
 
-  replica_keeps : (r : ℕ) (t : Taken) (o : Option (Site P)) → Keeps (moved_at proto w (own_place (Replica r)) t (option_map replica o))
-  replica_keeps r t None = still
-  replica_keeps r (command bytes) (Some s) = record { setup = refl; replicas = set_length w.cast.replicas r _; clients = refl; events = omega arith; ended = refl }
-  replica_keeps r (message m) (Some s) = record { setup = refl; replicas = set_length w.cast.replicas r _; clients = refl; events = omega arith; ended = refl }
-  replica_keeps r time (Some s) = record { setup = refl; replicas = set_length w.cast.replicas r _; clients = refl; events = omega arith; ended = refl }
+  replica_keeps : (r : ℕ) (cue : Cue) (o : Option (Site P)) → Keeps (moved_at proto w (own_place (Replica r)) cue (option_map replica o))
+  replica_keeps r cue None = still
+  replica_keeps r (cue_command bytes) (Some s) = record { setup = refl; replicas = set_length w.cast.replicas r _; clients = refl; events = omega arith; ended = refl }
+  replica_keeps r (cue_message m) (Some s) = record { setup = refl; replicas = set_length w.cast.replicas r _; clients = refl; events = omega arith; ended = refl }
+  replica_keeps r cue_time (Some s) = record { setup = refl; replicas = set_length w.cast.replicas r _; clients = refl; events = omega arith; ended = refl }
 
-  client_keeps : (c : ℕ) (t : Taken) (o : Option Seat) → Keeps (moved_at proto w (own_place (Client c)) t (option_map client o))
-  client_keeps c t None = still
-  client_keeps c t (Some s) = record { setup = refl; replicas = refl; clients = set_length w.cast.clients c _; events = omega arith; ended = refl }
+  client_keeps : (c : ℕ) (cue : Cue) (o : Option Seat) → Keeps (moved_at proto w (own_place (Client c)) cue (option_map client o))
+  client_keeps c cue None = still
+  client_keeps c cue (Some s) = record { setup = refl; replicas = refl; clients = set_length w.cast.clients c _; events = omega arith; ended = refl }
 
-  own_keeps : (p : Party) (t : Taken) → Keeps (moved_at proto w (own_place p) t (core_at w.cast (own_place p)))
-  own_keeps (Replica r) t = replica_keeps r t (slice_get w.cast.replicas r)
-  own_keeps (Client c) t = client_keeps c t (slice_get w.cast.clients c)
+  own_keeps : (p : Party) (cue : Cue) → Keeps (moved_at proto w (own_place p) cue (core_at w.cast (own_place p)))
+  own_keeps (Replica r) cue = replica_keeps r cue (slice_get w.cast.replicas r)
+  own_keeps (Client c) cue = client_keeps c cue (slice_get w.cast.clients c)
 
-  taking_keeps : (p : Party) (r : Result Taken OpenFault) → Keeps (after_taking proto w (own_place p) r)
-  taking_keeps p (Ok t) = own_keeps p t
+  taking_keeps : (p : Party) (r : Result Cue OpenFault) → Keeps (after_taking proto w (own_place p) r)
+  taking_keeps p (Ok cue) = own_keeps p cue
   taking_keeps p (Err fault) = record { setup = refl; replicas = refl; clients = refl; events = omega arith; ended = refl }
 
   -- what is given to a party's own core
   pub given_keeps : (p : Party) (g : Given) → Keeps (after proto w (record { place = own_place p; given = g }))
-  given_keeps p g = taking_keeps p (taken_from w.cast.setup (party_at (own_place p)) g)
+  given_keeps p g = taking_keeps p (cue_from w.cast.setup (party_at (own_place p)) g)

@@ -21,6 +21,7 @@ use Rattle.ab_abs.specs.Messages.{Call, took, timed}
 use Rattle.ab_abs.specs.Ensembles.{Proto}
 use Rattle.ab_carried.specs.Carried.{carried_histories, carried_requests}
 use Rattle.ab_hist.specs.declared.request.Request.{Request}
+use Rattle.ab_run.specs.Local.{Cue, cue_command, cue_message, cue_time}
 use Rattle.ab_run.specs.Setups.{Setup as RunSetup, replicas}
 use Rattle.ab_run.specs.Runs.{to_replica, to_client, replica_time, Run, run, histories_for, requests_for}
 use Rattle.ab_replica.specs.Sites.{Site}
@@ -35,7 +36,7 @@ use Rattle.ab_cast.specs.declared.place.Place.{Place}
 use Rattle.ab_cast.specs.declared.place.Place.TheVariants as place
 use Rattle.ab_cast.proofs.StandLemmas.{some_injective}
 use Rattle.ab_cast.specs.Setups.{Setup, run_setup, is_bad, party_at, replica_twins, client_twins}
-use Rattle.ab_cast.specs.Cores.{Core, replica, client, Taken, command, message, time, site_after, core_after, core_marks, core_spends}
+use Rattle.ab_cast.specs.Cores.{Core, replica, client, site_after, core_after, core_marks, core_spends}
 use Rattle.ab_cast.specs.Casts.{core_at, with_core, next, reps_of, first_seat, first_site}
 use Rattle.ab_premise.specs.Collisions.{Watch, checked_items, state_items, call_items, client_items, items_of, looked, looked_in, watched}
 use Rattle.ab_premise.specs.Spelled.{IsSpelledInput, AreSpelledInputs}
@@ -44,7 +45,7 @@ use Rattle.ab_world.specs.declared.fault.WorldFault.{WorldFault}
 use Rattle.ab_world.specs.declared.fault.WorldFault.TheVariants.{PacketLimit}
 use Rattle.ab_world.specs.Lines.{line_of, note, spent_lines, is_observed, line_of_noted}
 use Rattle.ab_world.specs.Worlds.{World, start, shown_on, opening_at, opened, opener}
-use Rattle.ab_world.specs.Steps.{Given, ask, hand, ring, Happening, ready, messages, taken_from, moved_at, after_taking, after, stepped_by, input_at, input_of, standing_of, replica_items}
+use Rattle.ab_world.specs.Steps.{Given, ask, hand, ring, Happening, ready, messages, cue_from, moved_at, after_taking, after, stepped_by, input_at, input_of, standing_of, replica_items}
 use Rattle.ab_world.specs.Runs.{refused_or, outcome, input_or, inputs_of, came_to}
 use Rattle.ab_world.proofs.SeatLemmas.{clis_of-first, length-first_seats, length-first_sites, reps_of-first, reps_of-get, get_there}
 use Rattle.ab_world.proofs.PlaceLemmas.{IsAt, Takes, Happens, ready_happens}
@@ -127,25 +128,25 @@ module _ {P : Type 0} (proto : Proto P) (w : World P) where
       ]
 
   watch_replica : (r : ℕ) (m : Msg) (s : Site P) → r < replicas k → slice_get w.cast.replicas r ≡ Some s
-      → (moved_at proto w (place.Replica r) (message m) (core_at w.cast (place.Replica r))).watch ≡ looked w.watch n (Replica r) (if nat_lt r (replicas k) then call_items k proto r s.rep (took m) else [])
+      → (moved_at proto w (place.Replica r) (cue_message m) (core_at w.cast (place.Replica r))).watch ≡ looked w.watch n (Replica r) (if nat_lt r (replicas k) then call_items k proto r s.rep (took m) else [])
   watch_replica r m s lt there =
-      ap (λ o. (moved_at proto w (place.Replica r) (message m) (option_map replica o)).watch) there
+      ap (λ o. (moved_at proto w (place.Replica r) (cue_message m) (option_map replica o)).watch) there
       ∙ looks_as_run r s (took m) (carried_histories k.cluster.f (Replica r) m) (carried_requests k.cluster.f (Replica r) m) lt there refl refl
 
   watch_rung : (r : ℕ) (s : Site P) → r < replicas k → slice_get w.cast.replicas r ≡ Some s
-      → (moved_at proto w (place.Replica r) time (core_at w.cast (place.Replica r))).watch ≡ looked w.watch n (Replica r) (if nat_lt r (replicas k) then call_items k proto r s.rep timed else [])
+      → (moved_at proto w (place.Replica r) cue_time (core_at w.cast (place.Replica r))).watch ≡ looked w.watch n (Replica r) (if nat_lt r (replicas k) then call_items k proto r s.rep timed else [])
   watch_rung r s lt there =
-      ap (λ o. (moved_at proto w (place.Replica r) time (option_map replica o)).watch) there
+      ap (λ o. (moved_at proto w (place.Replica r) cue_time (option_map replica o)).watch) there
       ∙ looks_as_run r s timed [] [] lt there (sym (either_none (is_bad w.cast.setup (Replica r)))) (sym (either_none (is_bad w.cast.setup (Replica r))))
 
   watch_client : (c : ℕ) (m : Msg) (seat : Seat) → c < k.cluster.clients → slice_get w.cast.clients c ≡ Some seat
-      → (moved_at proto w (place.Client c) (message m) (core_at w.cast (place.Client c))).watch ≡ looked w.watch n (Client c) (if nat_lt c k.cluster.clients then client_items k proto c m else [])
+      → (moved_at proto w (place.Client c) (cue_message m) (core_at w.cast (place.Client c))).watch ≡ looked w.watch n (Client c) (if nat_lt c k.cluster.clients then client_items k proto c m else [])
   watch_client c m seat lt there =
       let p = Client c in
       let told = carried_histories k.cluster.f p m in
       let asked = carried_requests k.cluster.f p m in
       let within : (if nat_lt c k.cluster.clients then client_items k proto c m else []) ≡ client_items k proto c m = ap (λ (b : Bool). if b then client_items k proto c m else []) (lt-ltb c k.cluster.clients lt) in
-      ap (λ o. (moved_at proto w (place.Client c) (message m) (option_map client o)).watch) there
+      ap (λ o. (moved_at proto w (place.Client c) (cue_message m) (option_map client o)).watch) there
       ∙ (elim (cases_Bool (is_bad w.cast.setup p)) [
         | inl bad ↦
             let hs : histories_for k p m ≡ [] = ap (λ (b : Bool). if b then [] else told) bad in
@@ -157,41 +158,41 @@ module _ {P : Type 0} (proto : Proto P) (w : World P) where
             (rw good refl) ∙ ap (looked w.watch n p) (append-nil (checked_items told asked)) ∙ ap (looked w.watch n p) (sym (within ∙ (λ j. checked_items (hs j) (ms j))))
       ])
 
-  watch_client_rung : (c : ℕ) (seat : Seat) → slice_get w.cast.clients c ≡ Some seat → (moved_at proto w (place.Client c) time (core_at w.cast (place.Client c))).watch ≡ w.watch
+  watch_client_rung : (c : ℕ) (seat : Seat) → slice_get w.cast.clients c ≡ Some seat → (moved_at proto w (place.Client c) cue_time (core_at w.cast (place.Client c))).watch ≡ w.watch
   watch_client_rung c seat there =
-      ap (λ o. (moved_at proto w (place.Client c) time (option_map client o)).watch) there
+      ap (λ o. (moved_at proto w (place.Client c) cue_time (option_map client o)).watch) there
       ∙ (elim (cases_Bool (is_bad w.cast.setup (Client c))) [
         | inl bad ↦ rw bad refl
         | inr good ↦ (rw good refl) ∙ looked_none w.watch n (Client c)
       ])
 
-  watch_told : (c : ℕ) (bytes : _) (seat : Seat) → slice_get w.cast.clients c ≡ Some seat → (moved_at proto w (place.Client c) (command bytes) (core_at w.cast (place.Client c))).watch ≡ w.watch
+  watch_told : (c : ℕ) (bytes : _) (seat : Seat) → slice_get w.cast.clients c ≡ Some seat → (moved_at proto w (place.Client c) (cue_command bytes) (core_at w.cast (place.Client c))).watch ≡ w.watch
   watch_told c bytes seat there =
-      ap (λ o. (moved_at proto w (place.Client c) (command bytes) (option_map client o)).watch) there
+      ap (λ o. (moved_at proto w (place.Client c) (cue_command bytes) (option_map client o)).watch) there
       ∙ (elim (cases_Bool (is_bad w.cast.setup (Client c))) [
         | inl bad ↦ rw bad refl
         | inr good ↦ (rw good refl) ∙ looked_none w.watch n (Client c)
       ])
 
-  watch_replica_twin : (r i : ℕ) (t : Taken) (o : Option (Site P)) → is_bad w.cast.setup (Replica r) ≡ true → (moved_at proto w (place.ReplicaTwin r i) t (option_map replica o)).watch ≡ w.watch
-  watch_replica_twin r i t None bad = refl
-  watch_replica_twin r i (command bytes) (Some s) bad = rw bad refl
-  watch_replica_twin r i (message m) (Some s) bad = rw bad refl
-  watch_replica_twin r i time (Some s) bad = rw bad refl
+  watch_replica_twin : (r i : ℕ) (cue : Cue) (o : Option (Site P)) → is_bad w.cast.setup (Replica r) ≡ true → (moved_at proto w (place.ReplicaTwin r i) cue (option_map replica o)).watch ≡ w.watch
+  watch_replica_twin r i cue None bad = refl
+  watch_replica_twin r i (cue_command bytes) (Some s) bad = rw bad refl
+  watch_replica_twin r i (cue_message m) (Some s) bad = rw bad refl
+  watch_replica_twin r i cue_time (Some s) bad = rw bad refl
 
-  watch_client_twin : (c i : ℕ) (t : Taken) (o : Option Seat) → is_bad w.cast.setup (Client c) ≡ true → (moved_at proto w (place.ClientTwin c i) t (option_map client o)).watch ≡ w.watch
-  watch_client_twin c i t None bad = refl
-  watch_client_twin c i t (Some s) bad = rw bad refl
+  watch_client_twin : (c i : ℕ) (cue : Cue) (o : Option Seat) → is_bad w.cast.setup (Client c) ≡ true → (moved_at proto w (place.ClientTwin c i) cue (option_map client o)).watch ≡ w.watch
+  watch_client_twin c i cue None bad = refl
+  watch_client_twin c i cue (Some s) bad = rw bad refl
 
   -- what is seen and written of an event
-  moved_lines : (at : Place) (t : Taken) (o : Option (Core P)) → filter is_observed w.lines ≡ map line_of_noted w.seen
-      → filter is_observed (moved_at proto w at t o).lines ≡ map line_of_noted (moved_at proto w at t o).seen
-  moved_lines at t None was = was
-  moved_lines at t (Some s) was =
+  moved_lines : (at : Place) (cue : Cue) (o : Option (Core P)) → filter is_observed w.lines ≡ map line_of_noted w.seen
+      → filter is_observed (moved_at proto w at cue o).lines ≡ map line_of_noted (moved_at proto w at cue o).seen
+  moved_lines at cue None was = was
+  moved_lines at cue (Some s) was =
       let x = w.cast.setup in
       let p = party_at at in
-      let cast = next (with_core w.cast at (core_after x proto p s t)) in
-      more_lines (is_bad cast.setup p) cast.events p (core_spends x proto p s t) (core_marks x proto p s t) w.lines w.seen was
+      let cast = next (with_core w.cast at (core_after x proto p s cue)) in
+      more_lines (is_bad cast.setup p) cast.events p (core_spends x proto p s cue) (core_marks x proto p s cue) w.lines w.seen was
 
 -- ---- a world and the run over what came, the newest first
 
@@ -244,7 +245,7 @@ module _ {P : Type 0} (proto : Proto P) (x : Setup) where
     same_items r call has = λ j. looked (watch j) (number j) (Replica r) (if nat_lt r (replicas (run_setup (setup j))) then call_items (run_setup (setup j)) proto r (has.rep j) call else [])
 
     heard_replica : (r : ℕ) (m : Msg) → r < 3 * x.cluster.f + 1
-        → (moved_at proto w (place.Replica r) (message m) (core_at w.cast (place.Replica r))).watch ≡ looked_in K proto known (length before + 1) (Some (Replica r)) (flat_map (items_of K proto (at before)) (to_replica r m ∷ []))
+        → (moved_at proto w (place.Replica r) (cue_message m) (core_at w.cast (place.Replica r))).watch ≡ looked_in K proto known (length before + 1) (Some (Replica r)) (flat_map (items_of K proto (at before)) (to_replica r m ∷ []))
     heard_replica r m lt =
         let has = replica_there r lt in
         watch_replica proto w r m has.site (subst (λ (y : Setup). r < 3 * y.cluster.f + 1) (sym setup) lt) has.there
@@ -252,7 +253,7 @@ module _ {P : Type 0} (proto : Proto P) (x : Setup) where
         ∙ ap (looked known (length before + 1) (Replica r)) (sym (append-nil (items_of K proto (at before) (to_replica r m))))
 
     rung_replica : (r : ℕ) → r < 3 * x.cluster.f + 1
-        → (moved_at proto w (place.Replica r) time (core_at w.cast (place.Replica r))).watch ≡ looked_in K proto known (length before + 1) (Some (Replica r)) (flat_map (items_of K proto (at before)) (replica_time r ∷ []))
+        → (moved_at proto w (place.Replica r) cue_time (core_at w.cast (place.Replica r))).watch ≡ looked_in K proto known (length before + 1) (Some (Replica r)) (flat_map (items_of K proto (at before)) (replica_time r ∷ []))
     rung_replica r lt =
         let has = replica_there r lt in
         watch_rung proto w r has.site (subst (λ (y : Setup). r < 3 * y.cluster.f + 1) (sym setup) lt) has.there
@@ -260,7 +261,7 @@ module _ {P : Type 0} (proto : Proto P) (x : Setup) where
         ∙ ap (looked known (length before + 1) (Replica r)) (sym (append-nil (items_of K proto (at before) (replica_time r))))
 
     heard_client : (c : ℕ) (m : Msg) → c < x.cluster.clients
-        → (moved_at proto w (place.Client c) (message m) (core_at w.cast (place.Client c))).watch ≡ looked_in K proto known (length before + 1) (Some (Client c)) (flat_map (items_of K proto (at before)) (to_client c m ∷ []))
+        → (moved_at proto w (place.Client c) (cue_message m) (core_at w.cast (place.Client c))).watch ≡ looked_in K proto known (length before + 1) (Some (Client c)) (flat_map (items_of K proto (at before)) (to_client c m ∷ []))
     heard_client c m lt =
         let lt' : c < w.cast.setup.cluster.clients = subst (λ (y : Setup). c < y.cluster.clients) (sym setup) lt in
         let found = get_there w.cast.clients c (subst (λ n. c < n) (sym stands.clients) lt') in
@@ -282,24 +283,24 @@ module _ {P : Type 0} (proto : Proto P) (x : Setup) where
     hears_client c (Err fault) lt = quiet_watch w.watch (Client c) refl
 
     hears_replica_twin : (r i : ℕ) (o : Result Msg OpenFault) → is_bad w.cast.setup (Replica r) ≡ true → (after_taking proto w (place.ReplicaTwin r i) (messages o)).watch ≡ w.watch
-    hears_replica_twin r i (Ok m) bad = watch_replica_twin proto w r i (message m) (slice_get w.cast.replica_twins i) bad
+    hears_replica_twin r i (Ok m) bad = watch_replica_twin proto w r i (cue_message m) (slice_get w.cast.replica_twins i) bad
     hears_replica_twin r i (Err fault) bad = refl
 
     hears_client_twin : (c i : ℕ) (o : Result Msg OpenFault) → is_bad w.cast.setup (Client c) ≡ true → (after_taking proto w (place.ClientTwin c i) (messages o)).watch ≡ w.watch
-    hears_client_twin c i (Ok m) bad = watch_client_twin proto w c i (message m) (slice_get w.cast.client_twins i) bad
+    hears_client_twin c i (Ok m) bad = watch_client_twin proto w c i (cue_message m) (slice_get w.cast.client_twins i) bad
     hears_client_twin c i (Err fault) bad = refl
 
     same_opening : (p : Party) (bytes : List ℕ) → opening_at w.cast.setup p bytes ≡ opening_at x p bytes
     same_opening p bytes = ap (λ (y : Setup). opening_at y p bytes) setup
 
     watch_at : (spot : Place) (g : Given) → IsAt w.cast.setup spot → Takes spot g
-        → (after_taking proto w spot (taken_from w.cast.setup (party_at spot) g)).watch ≡ watched K proto (opener x) (input_at spot g ∷ before)
+        → (after_taking proto w spot (cue_from w.cast.setup (party_at spot) g)).watch ≡ watched K proto (opener x) (input_at spot g ∷ before)
     watch_at (place.Replica r) (ask bytes) is takes = absurd takes
     watch_at (place.Client c) (ask bytes) is takes =
         let found = get_there w.cast.clients c (subst (λ n. c < n) (sym stands.clients) is) in
         quiet_watch _ (Client c) (watch_told proto w c bytes found.0 found.1)
-    watch_at (place.ReplicaTwin r i) (ask bytes) is takes = watch_replica_twin proto w r i (command bytes) (slice_get w.cast.replica_twins i) is.0 ∙ watch
-    watch_at (place.ClientTwin c i) (ask bytes) is takes = watch_client_twin proto w c i (command bytes) (slice_get w.cast.client_twins i) is.0 ∙ watch
+    watch_at (place.ReplicaTwin r i) (ask bytes) is takes = watch_replica_twin proto w r i (cue_command bytes) (slice_get w.cast.replica_twins i) is.0 ∙ watch
+    watch_at (place.ClientTwin c i) (ask bytes) is takes = watch_client_twin proto w c i (cue_command bytes) (slice_get w.cast.client_twins i) is.0 ∙ watch
     watch_at (place.Replica r) (hand bytes) is takes =
         ap (λ o. (after_taking proto w (place.Replica r) (messages o)).watch) (same_opening (Replica r) bytes)
         ∙ hears_replica r (opening_at x (Replica r) bytes) (subst (λ (y : Setup). r < 3 * y.cluster.f + 1) setup is)
@@ -312,11 +313,11 @@ module _ {P : Type 0} (proto : Proto P) (x : Setup) where
     watch_at (place.Client c) ring is takes =
         let found = get_there w.cast.clients c (subst (λ n. c < n) (sym stands.clients) is) in
         quiet_watch _ (Client c) (watch_client_rung proto w c found.0 found.1)
-    watch_at (place.ReplicaTwin r i) ring is takes = watch_replica_twin proto w r i time (slice_get w.cast.replica_twins i) is.0 ∙ watch
-    watch_at (place.ClientTwin c i) ring is takes = watch_client_twin proto w c i time (slice_get w.cast.client_twins i) is.0 ∙ watch
+    watch_at (place.ReplicaTwin r i) ring is takes = watch_replica_twin proto w r i cue_time (slice_get w.cast.replica_twins i) is.0 ∙ watch
+    watch_at (place.ClientTwin c i) ring is takes = watch_client_twin proto w c i cue_time (slice_get w.cast.client_twins i) is.0 ∙ watch
 
-    lines_taken : (spot : Place) (o : Result Taken OpenFault) → filter is_observed (after_taking proto w spot o).lines ≡ map line_of_noted (after_taking proto w spot o).seen
-    lines_taken spot (Ok t) = moved_lines proto w spot t (core_at w.cast spot) lines
+    lines_taken : (spot : Place) (o : Result Cue OpenFault) → filter is_observed (after_taking proto w spot o).lines ≡ map line_of_noted (after_taking proto w spot o).seen
+    lines_taken spot (Ok cue) = moved_lines proto w spot cue (core_at w.cast spot) lines
     lines_taken spot (Err fault) = refused_lines (is_bad w.cast.setup (party_at spot)) _ (party_at spot) _ w.lines ∙ lines
 
   spelled_at : (spot : Place) (g : Given) → Takes spot g → IsSpelledInput (input_at spot g)
@@ -344,7 +345,7 @@ module _ {P : Type 0} (proto : Proto P) (x : Setup) where
         shows = subst (λ (s : Stage P). shown_on v (stage_after K proto spell_content (opener x) s g) ≡ stage_after K proto spell_content (opener x) s g) is.shows
             (subst (λ (y : Setup). shown_on v (stage_after (run_setup y) proto spell_content (opener y) (shown_on w (back before)) g) ≡ stage_after (run_setup y) proto spell_content (opener y) (shown_on w (back before)) g) is.setup adv.shows);
         watch = watch_at w before is.setup is.stands is.shows is.watch is.lines h.place h.given happens.there happens.takes;
-        lines = lines_taken w before is.setup is.stands is.shows is.watch is.lines h.place (taken_from w.cast.setup (party_at h.place) h.given);
+        lines = lines_taken w before is.setup is.stands is.shows is.watch is.lines h.place (cue_from w.cast.setup (party_at h.place) h.given);
         spelled = (spelled_at h.place h.given happens.takes, is.spelled);
         few = omega (arith, happens.few, number w before is.setup is.stands is.shows is.watch is.lines);
       }

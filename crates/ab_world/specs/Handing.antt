@@ -10,16 +10,17 @@ use Rattle.ab_msg.specs.declared.message.Out.{Out}
 use Rattle.ab_open.specs.declared.fault.OpenFault.{OpenFault}
 use Rattle.ab_abs.specs.declared.seen.Seen.{Seen}
 use Rattle.ab_abs.specs.Ensembles.{Proto}
+use Rattle.ab_run.specs.Local.{cue_message}
 use Rattle.ab_run.specs.Stages.{forged_in}
 use Rattle.ab_cast.specs.declared.place.Place.{Place}
 use Rattle.ab_cast.specs.Setups.{run_setup, party_at}
-use Rattle.ab_cast.specs.Cores.{Core, message}
+use Rattle.ab_cast.specs.Cores.{Core}
 use Rattle.ab_cast.specs.Casts.{Cast, IsTaken, core_at, next}
 use Rattle.ab_world.specs.declared.handing.Handed.{Handed}
 use Rattle.ab_world.specs.declared.handing.Handed.TheVariants.{Missed, Heard}
 use Rattle.ab_world.specs.Lines.{cause_of}
 use Rattle.ab_world.specs.Worlds.{World, opening_at}
-use Rattle.ab_world.specs.Steps.{settled, missed, taken_histories, taken_requests}
+use Rattle.ab_world.specs.Steps.{settled, missed, cue_histories, cue_requests}
 
 -- the bytes do not open, for this cause, and no core changes
 pub record IsMissed {P : Type 0} (bytes : List ℕ) (at : Place) (old new : Cast P) (cause : Cause) : Type 0 where
@@ -35,9 +36,9 @@ pub record IsHeard {P : Type 0} (proto : Proto P) (made : List (List ℕ)) (byte
   pub opens : opening_at old.setup (party_at at) bytes ≡ Ok msg
   pub there : core_at old at ≡ Some core
   pub forged : found ≡ forged_in (run_setup old.setup) spell_content made (claims old.setup.cluster.f (party_at at) msg)
-  pub histories : told ≡ taken_histories old.setup.cluster.f (party_at at) (message msg)
-  pub requests : asked ≡ taken_requests old.setup.cluster.f (party_at at) (message msg)
-  pub taken : IsTaken proto old at core (message msg) new outs marks spent
+  pub histories : told ≡ cue_histories old.setup.cluster.f (party_at at) (cue_message msg)
+  pub requests : asked ≡ cue_requests old.setup.cluster.f (party_at at) (cue_message msg)
+  pub taken : IsTaken proto old at core (cue_message msg) new outs marks spent
 
 abbrev pub IsHanded : {P : Type 0} → Proto P → List (List ℕ) → List ℕ → Place → Cast P → Cast P → Handed → Type 0
 IsHanded proto made bytes at old new (Missed cause) = IsMissed bytes at old new cause

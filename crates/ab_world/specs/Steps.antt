@@ -22,6 +22,7 @@ use Rattle.ab_seal.specs.Sealing.{sealed}
 use Rattle.ab_abs.specs.declared.seen.Seen.{Seen}
 use Rattle.ab_abs.specs.Ensembles.{Proto}
 use Rattle.ab_replica.specs.Sites.{Site}
+use Rattle.ab_run.specs.Local.{Cue, cue_command, cue_message, cue_time}
 use Rattle.ab_run.specs.Stages.{Forgery, noted, made_after, forged_in, forgery, first_of}
 use Rattle.ab_run.specs.Inputs.{Input, told, came, rang, elsewhere}
 use Rattle.ab_post.specs.Packets.{Packet, nth, total, most_bytes}
@@ -30,7 +31,7 @@ use Rattle.ab_cast.specs.declared.fault.CommandFault.TheVariants as command_faul
 use Rattle.ab_cast.specs.declared.place.Place.{Place}
 use Rattle.ab_cast.specs.declared.place.Place.TheVariants as place
 use Rattle.ab_cast.specs.Setups.{Setup, run_setup, is_bad, party_at, place_of, ring_at}
-use Rattle.ab_cast.specs.Cores.{Core, Taken, command, message, time, taken_claims, core_after, core_sends, core_marks, core_spends}
+use Rattle.ab_cast.specs.Cores.{Core, cue_claims, core_after, core_sends, core_marks, core_spends}
 use Rattle.ab_cast.specs.Casts.{Cast, core_at, with_core, next, command_refusal}
 use Rattle.ab_premise.specs.Collisions.{looked, checked_items, first_items}
 use Rattle.ab_world.specs.declared.fault.WorldFault.{WorldFault}
@@ -105,14 +106,14 @@ ready w e = ready_in w e w.ended
 -- ---- what comes of it
 
 -- as a message that opens, or why it doesn't
-abbrev pub messages : Result Msg OpenFault → Result Taken OpenFault
-messages (Ok m) = Ok (message m)
+abbrev pub messages : Result Msg OpenFault → Result Cue OpenFault
+messages (Ok m) = Ok (cue_message m)
 messages (Err fault) = Err fault
 
-abbrev pub taken_from : Setup → Party → Given → Result Taken OpenFault
-taken_from x p (ask bytes) = Ok (command bytes)
-taken_from x p (hand bytes) = messages (opening_at x p bytes)
-taken_from x p ring = Ok time
+abbrev pub cue_from : Setup → Party → Given → Result Cue OpenFault
+cue_from x p (ask bytes) = Ok (cue_command bytes)
+cue_from x p (hand bytes) = messages (opening_at x p bytes)
+cue_from x p ring = Ok cue_time
 
 -- messages with the tags of the ring's party
 abbrev pub packets_by : Ring → List Out → List Packet
@@ -156,15 +157,15 @@ abbrev pub items_now : {P : Type 0} → Proto P → Cast P → Party → ℕ × 
 items_now proto x p before histories requests = checked_items histories requests ++ own_items proto x p before
 
 -- the histories and requests that party p checks in what comes
-abbrev pub taken_histories : ℕ → Party → Taken → List (List Request)
-taken_histories f p (command bytes) = []
-taken_histories f p (message m) = carried_histories f p m
-taken_histories f p time = []
+abbrev pub cue_histories : ℕ → Party → Cue → List (List Request)
+cue_histories f p (cue_command bytes) = []
+cue_histories f p (cue_message m) = carried_histories f p m
+cue_histories f p cue_time = []
 
-abbrev pub taken_requests : ℕ → Party → Taken → List Request
-taken_requests f p (command bytes) = []
-taken_requests f p (message m) = carried_requests f p m
-taken_requests f p time = []
+abbrev pub cue_requests : ℕ → Party → Cue → List Request
+cue_requests f p (cue_command bytes) = []
+cue_requests f p (cue_message m) = carried_requests f p m
+cue_requests f p cue_time = []
 
 -- the world where in its present event a core of party p, whose own core stood there before, has taken such a claim and these histories
 -- and requests, sends this, shows this, and was spent or not
@@ -187,24 +188,24 @@ missed w p cause = record w { lines = written w.cast.setup p w.lines (Refused w.
 
 module _ {P : Type 0} (proto : Proto P) where
   -- the core s of party p at a place takes what comes
-  abbrev pub moved : World P → Place → Party → Taken → Core P → World P
-  moved w at p t s =
+  abbrev pub moved : World P → Place → Party → Cue → Core P → World P
+  moved w at p cue s =
       let x = w.cast.setup in
-      settled proto (record w { cast = next (with_core w.cast at (core_after x proto p s t)) }) p
-      (standing proto w.cast p) (forged_in (run_setup x) spell_content w.made (taken_claims x.cluster.f p t)) (taken_histories x.cluster.f p t) (taken_requests x.cluster.f p t)
-      (core_sends x proto p s t) (core_marks x proto p s t) (core_spends x proto p s t)
+      settled proto (record w { cast = next (with_core w.cast at (core_after x proto p s cue)) }) p
+      (standing proto w.cast p) (forged_in (run_setup x) spell_content w.made (cue_claims x.cluster.f p cue)) (cue_histories x.cluster.f p cue) (cue_requests x.cluster.f p cue)
+      (core_sends x proto p s cue) (core_marks x proto p s cue) (core_spends x proto p s cue)
 
-  abbrev pub moved_at : World P → Place → Taken → Option (Core P) → World P
-  moved_at w at t None = w
-  moved_at w at t (Some s) = moved w at (party_at at) t s
+  abbrev pub moved_at : World P → Place → Cue → Option (Core P) → World P
+  moved_at w at cue None = w
+  moved_at w at cue (Some s) = moved w at (party_at at) cue s
 
-  abbrev pub after_taking : World P → Place → Result Taken OpenFault → World P
-  after_taking w at (Ok t) = moved_at w at t (core_at w.cast at)
+  abbrev pub after_taking : World P → Place → Result Cue OpenFault → World P
+  after_taking w at (Ok cue) = moved_at w at cue (core_at w.cast at)
   after_taking w at (Err fault) = missed (record w { cast = next w.cast }) (party_at at) (cause_of fault)
 
   -- the world after something is given to a core
   abbrev pub after : World P → Happening → World P
-  after w h = after_taking w h.place (taken_from w.cast.setup (party_at h.place) h.given)
+  after w h = after_taking w h.place (cue_from w.cast.setup (party_at h.place) h.given)
 
   abbrev pub within_limit : World P → Result (World P) WorldFault
   within_limit w = if nat_le (total w.packets) most_bytes then Ok w else Err PacketLimit

@@ -5,7 +5,7 @@ ghost use Rattle.ab_run.specs.Forms.{IsDraftOf};
 ghost use Rattle.ab_cast.specs.Setups.{party_at, place_of};
 ghost use Rattle.ab_world.specs.Handing.{IsHanded, EachOut};
 
-use crate::opening::{cause_of, forged_in, open_at};
+use crate::arrival::{cause_of, forged_in, open_at};
 use ab_abs::Protocol;
 use ab_carried::{Carried, carried};
 use ab_cast::{Cast, Place, places_have_cores};

@@ -1,4 +1,5 @@
 use Rattle.std.proofs.Common.{◌≡◌, ℕ, ◌≤◌, None, Some, Ok, Err, length, sym, ap, ◌∙◌, subst, arith}
+use Rattle.ab_run.specs.Local.{cue_command}
 use Rattle.ab_run.specs.Forms.{IsDraftOf}
 use Rattle.std.specs.Prelude.{All, IsTrue, IfErr, OnOk}
 use Rattle.std.proofs.lemmas.Result.{on_ok_weaker}
@@ -8,7 +9,7 @@ use Rattle.ab_text.specs.declared.event.Event.TheVariants.{Invoke}
 use Rattle.ab_keys.specs.Keys.{is_party}
 use Rattle.ab_cast.specs.declared.fault.CommandFault.{CommandFault}
 use Rattle.ab_cast.specs.Setups.{Setup, party_at, place_of}
-use Rattle.ab_cast.specs.Cores.{command, core_after}
+use Rattle.ab_cast.specs.Cores.{core_after}
 use Rattle.ab_cast.specs.Casts.{IsTaken, CommandCause}
 use Rattle.ab_world.specs.declared.fault.WorldFault.{WorldFault}
 use Rattle.ab_world.specs.declared.fault.WorldFault.TheVariants.{BadParty, Busy}
@@ -75,8 +76,8 @@ finish-requires-clause-party g c =
     let there = found.1 in
     let asks = asks_core proto w core cmd at s some few place there in
     let same : record { items = c.as_slice-bytes.result.now } ≡ cmd = ap (λ xs. record { items = xs }) c.as_slice-bytes.ensures.value in
-    let taken = subst (λ (b : ArrayVec ℕ). IsTaken proto w.cast at s (command b) c.invoke.new.self c.in-Ok.effects.outs c.in-Ok.effects.marks.items c.in-Ok.effects.spent) same (c.in-Ok.ensures.taken s there) in
-    let stays = ap (λ x. x.setup) taken.after ∙ core_setup w.cast at (core_after w.cast.setup proto (party_at at) s (command cmd)) in
+    let taken = subst (λ (b : ArrayVec ℕ). IsTaken proto w.cast at s (cue_command b) c.invoke.new.self c.in-Ok.effects.outs c.in-Ok.effects.marks.items c.in-Ok.effects.spent) same (c.in-Ok.ensures.taken s there) in
+    let stays = ap (λ x. x.setup) taken.after ∙ core_setup w.cast at (core_after w.cast.setup proto (party_at at) s (cue_command cmd)) in
     subst (λ (y : Setup). IsTrue (is_party y.cluster.f y.cluster.clients c.party-in-Ok.result)) (sym stays)
     (subst (λ (p : Party). IsTrue (is_party w.cast.setup.cluster.f w.cast.setup.cluster.clients p)) (sym c.party-in-Ok.ensures) (place_party w.cast.setup at (place_is w.cast.setup core.party core.twin at place)))
 
@@ -106,8 +107,8 @@ finish-requires-clause-drafts g c =
     let there = found.1 in
     let asks = asks_core proto w core cmd at s some few place there in
     let same : record { items = c.as_slice-bytes.result.now } ≡ cmd = ap (λ xs. record { items = xs }) c.as_slice-bytes.ensures.value in
-    let taken = subst (λ (b : ArrayVec ℕ). IsTaken proto w.cast at s (command b) c.invoke.new.self c.in-Ok.effects.outs c.in-Ok.effects.marks.items c.in-Ok.effects.spent) same (c.in-Ok.ensures.taken s there) in
-    let stays = ap (λ x. x.setup) taken.after ∙ core_setup w.cast at (core_after w.cast.setup proto (party_at at) s (command cmd)) in
+    let taken = subst (λ (b : ArrayVec ℕ). IsTaken proto w.cast at s (cue_command b) c.invoke.new.self c.in-Ok.effects.outs c.in-Ok.effects.marks.items c.in-Ok.effects.spent) same (c.in-Ok.ensures.taken s there) in
+    let stays = ap (λ x. x.setup) taken.after ∙ core_setup w.cast at (core_after w.cast.setup proto (party_at at) s (cue_command cmd)) in
     subst (λ (y : Setup). All (IsDraftOf y.cluster.f c.party-in-Ok.result) c.in-Ok.effects.outs) (sym stays)
     (subst (λ (p : Party). All (IsDraftOf w.cast.setup.cluster.f p) c.in-Ok.effects.outs) (sym c.party-in-Ok.ensures) taken.drafts)
 
@@ -139,7 +140,7 @@ returns-in-Ok-clause-ok g c =
     let same : record { items = c.as_slice-bytes.result.now } ≡ cmd = ap (λ xs. record { items = xs }) c.as_slice-bytes.ensures.value in
     let h : Happening = record { place = at; given = ask cmd } in
     let happens : happening w (Invoke core cmd) ≡ Ok h = asks ∙ ap (λ o. refuse_command o at cmd) (c.in-Ok.ensures.idle s there) in
-    let taken = subst (λ (b : ArrayVec ℕ). IsTaken proto w.cast at s (command b) c.invoke.new.self c.in-Ok.effects.outs c.in-Ok.effects.marks.items c.in-Ok.effects.spent) same (c.in-Ok.ensures.taken s there) in
+    let taken = subst (λ (b : ArrayVec ℕ). IsTaken proto w.cast at s (cue_command b) c.invoke.new.self c.in-Ok.effects.outs c.in-Ok.effects.marks.items c.in-Ok.effects.spent) same (c.in-Ok.ensures.taken s there) in
     let handed = Heard None c.none.result c.in-Ok.effects in
     let new = c.invoke.new.self in
     let before : c.standing-before.result ≡ standing proto w.cast (party_at at) = c.standing-before.ensures ∙ ap (λ p. standing proto w.cast p) c.party.ensures in
@@ -177,7 +178,7 @@ returns-in-Ok-clause-cause g c =
     let same : record { items = c.as_slice-bytes.result.now } ≡ cmd = ap (λ xs. record { items = xs }) c.as_slice-bytes.ensures.value in
     let h : Happening = record { place = at; given = ask cmd } in
     let happens : happening w (Invoke core cmd) ≡ Ok h = asks ∙ ap (λ o. refuse_command o at cmd) (c.in-Ok.ensures.idle s there) in
-    let taken = subst (λ (b : ArrayVec ℕ). IsTaken proto w.cast at s (command b) c.invoke.new.self c.in-Ok.effects.outs c.in-Ok.effects.marks.items c.in-Ok.effects.spent) same (c.in-Ok.ensures.taken s there) in
+    let taken = subst (λ (b : ArrayVec ℕ). IsTaken proto w.cast at s (cue_command b) c.invoke.new.self c.in-Ok.effects.outs c.in-Ok.effects.marks.items c.in-Ok.effects.spent) same (c.in-Ok.ensures.taken s there) in
     let handed = Heard None c.none.result c.in-Ok.effects in
     let new = c.invoke.new.self in
     let before : c.standing-before.result ≡ standing proto w.cast (party_at at) = c.standing-before.ensures ∙ ap (λ p. standing proto w.cast p) c.party.ensures in
@@ -217,7 +218,7 @@ returns-in-Ok-clause-err g c =
     let same : record { items = c.as_slice-bytes.result.now } ≡ cmd = ap (λ xs. record { items = xs }) c.as_slice-bytes.ensures.value in
     let h : Happening = record { place = at; given = ask cmd } in
     let happens : happening w (Invoke core cmd) ≡ Ok h = asks ∙ ap (λ o. refuse_command o at cmd) (c.in-Ok.ensures.idle s there) in
-    let taken = subst (λ (b : ArrayVec ℕ). IsTaken proto w.cast at s (command b) c.invoke.new.self c.in-Ok.effects.outs c.in-Ok.effects.marks.items c.in-Ok.effects.spent) same (c.in-Ok.ensures.taken s there) in
+    let taken = subst (λ (b : ArrayVec ℕ). IsTaken proto w.cast at s (cue_command b) c.invoke.new.self c.in-Ok.effects.outs c.in-Ok.effects.marks.items c.in-Ok.effects.spent) same (c.in-Ok.ensures.taken s there) in
     let handed = Heard None c.none.result c.in-Ok.effects in
     let new = c.invoke.new.self in
     let before : c.standing-before.result ≡ standing proto w.cast (party_at at) = c.standing-before.ensures ∙ ap (λ p. standing proto w.cast p) c.party.ensures in
@@ -225,7 +226,7 @@ returns-in-Ok-clause-err g c =
     (λ j. finished proto (record w { cast = new }) (c.party-in-Ok.ensures j) (before j) handed)
     ∙ asked_is proto w at cmd s new c.in-Ok.effects c.none.result there c.none.ensures.histories c.none.ensures.requests taken in
     let end = finished proto (record w { cast = new }) c.party-in-Ok.result c.standing-before.result handed in
-    let stays = ap (λ x. x.setup) taken.after ∙ core_setup w.cast at (core_after w.cast.setup proto (party_at at) s (command cmd)) in
+    let stays = ap (λ x. x.setup) taken.after ∙ core_setup w.cast at (core_after w.cast.setup proto (party_at at) s (cue_command cmd)) in
     subst (λ (v : World g.row.P.Denot). IfErr c.finish.result (λ f. Leaves f v c.finish.new.self)) c.self.view_is
     (if_err_both c.finish.result (λ f. SettleCause f end) (λ f. HasEnded f (record w { cast = new }) c.finish.new.self) (λ f. Leaves f w c.finish.new.self)
     (λ f cause ended. ended_leaves f w c.finish.new.self end new stays cause ended) c.finish.ensures.cause c.finish.ensures.err)

@@ -3,10 +3,11 @@ use Rattle.std.specs.Prelude.{All, IsTrue, IfErr, OnOk}
 use Rattle.std.proofs.lemmas.Result.{on_ok_weaker}
 use Rattle.ab_num.specs.declared.party.Party.{Party}
 use Rattle.ab_keys.specs.Keys.{is_party}
+use Rattle.ab_run.specs.Local.{cue_time}
 use Rattle.ab_run.specs.Forms.{IsDraftOf}
 use Rattle.ab_premise.specs.Premises.{forged_first}
 use Rattle.ab_cast.specs.Setups.{Setup, party_at, place_of}
-use Rattle.ab_cast.specs.Cores.{time, core_after}
+use Rattle.ab_cast.specs.Cores.{core_after}
 use Rattle.ab_world.specs.declared.handing.Handed.TheVariants.{Heard}
 use Rattle.ab_world.specs.Worlds.{World}
 use Rattle.ab_world.specs.Steps.{Happening, standing, ring, rung, after, stepped_by, CauseIn, SettleCause, HasEnded, Leaves}
@@ -40,7 +41,7 @@ finish-requires-clause-party g c =
     let s = found.0 in
     let there = found.1 in
     let taken = c.in-Ok.ensures.taken s there in
-    let stays = ap (λ x. x.setup) taken.after ∙ core_setup w.cast at (core_after w.cast.setup proto (party_at at) s time) in
+    let stays = ap (λ x. x.setup) taken.after ∙ core_setup w.cast at (core_after w.cast.setup proto (party_at at) s cue_time) in
     subst (λ (y : Setup). IsTrue (is_party y.cluster.f y.cluster.clients c.party-in-Ok.result)) (sym stays)
     (subst (λ (p : Party). IsTrue (is_party w.cast.setup.cluster.f w.cast.setup.cluster.clients p)) (sym c.party-in-Ok.ensures) (place_party w.cast.setup at (place_is w.cast.setup core.party core.twin at place)))
 
@@ -65,7 +66,7 @@ finish-requires-clause-drafts g c =
     let s = found.0 in
     let there = found.1 in
     let taken = c.in-Ok.ensures.taken s there in
-    let stays = ap (λ x. x.setup) taken.after ∙ core_setup w.cast at (core_after w.cast.setup proto (party_at at) s time) in
+    let stays = ap (λ x. x.setup) taken.after ∙ core_setup w.cast at (core_after w.cast.setup proto (party_at at) s cue_time) in
     subst (λ (y : Setup). All (IsDraftOf y.cluster.f c.party-in-Ok.result) c.in-Ok.effects.outs) (sym stays)
     (subst (λ (p : Party). All (IsDraftOf w.cast.setup.cluster.f p) c.in-Ok.effects.outs) (sym c.party-in-Ok.ensures) taken.drafts)
 
@@ -90,7 +91,7 @@ returns-in-Ok-clause-ok g c =
     let s = found.0 in
     let there = found.1 in
     let taken = c.in-Ok.ensures.taken s there in
-    let stays = ap (λ x. x.setup) taken.after ∙ core_setup w.cast at (core_after w.cast.setup proto (party_at at) s time) in
+    let stays = ap (λ x. x.setup) taken.after ∙ core_setup w.cast at (core_after w.cast.setup proto (party_at at) s cue_time) in
     let h : Happening = record { place = at; given = ring } in
     let happens : rung (place_of w.cast.setup core.party core.twin) ≡ Ok h = ap rung place in
     let new = c.ring.new.self in
@@ -123,7 +124,7 @@ returns-in-Ok-clause-cause g c =
     let s = found.0 in
     let there = found.1 in
     let taken = c.in-Ok.ensures.taken s there in
-    let stays = ap (λ x. x.setup) taken.after ∙ core_setup w.cast at (core_after w.cast.setup proto (party_at at) s time) in
+    let stays = ap (λ x. x.setup) taken.after ∙ core_setup w.cast at (core_after w.cast.setup proto (party_at at) s cue_time) in
     let h : Happening = record { place = at; given = ring } in
     let happens : rung (place_of w.cast.setup core.party core.twin) ≡ Ok h = ap rung place in
     let new = c.ring.new.self in
@@ -158,7 +159,7 @@ returns-in-Ok-clause-err g c =
     let s = found.0 in
     let there = found.1 in
     let taken = c.in-Ok.ensures.taken s there in
-    let stays = ap (λ x. x.setup) taken.after ∙ core_setup w.cast at (core_after w.cast.setup proto (party_at at) s time) in
+    let stays = ap (λ x. x.setup) taken.after ∙ core_setup w.cast at (core_after w.cast.setup proto (party_at at) s cue_time) in
     let h : Happening = record { place = at; given = ring } in
     let happens : rung (place_of w.cast.setup core.party core.twin) ≡ Ok h = ap rung place in
     let new = c.ring.new.self in

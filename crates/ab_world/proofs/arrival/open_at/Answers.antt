@@ -8,7 +8,7 @@ use Rattle.ab_open.specs.declared.fault.OpenFault.TheVariants.{NotMine}
 use Rattle.ab_open.specs.Opening.{opening}
 use Rattle.ab_cast.specs.Setups.{Setup, judge_at}
 use Rattle.ab_world.specs.Worlds.{opening_at}
-use Rattle.ab_world.proofs.opening.open_at.Goals as goal
+use Rattle.ab_world.proofs.arrival.open_at.Goals as goal
 
 is_byte : (b : ℕ) → b < 256 → nat_lt b 256 ≡ true
 is_byte b lt = search arith
