@@ -17,9 +17,10 @@ use Rattle.ab_run.specs.Setups.{Setup}
 use Rattle.ab_run.specs.Replicas.{Turn, turn_enter, turn_call, accepted, accepted_marks, if_offered, new_first, after_turn, pen_of, wanted, taken, due}
 use Rattle.ab_run.specs.Local.{after_turns, sent_in_turns, marks_in_turns}
 use Rattle.ab_replica.specs.Sites.{Site, IsSetupOf, setup_of}
+use Rattle.ab_replica.specs.Entries.{with_entry}
 use Rattle.ab_replica.specs.declared.crossing.Crossing.{Crossing}
 use Rattle.ab_replica.specs.declared.effects.Effects.{Effects}
-use Rattle.ab_replica.specs.Doings.{Does, Hears, entering, are_spent, entries_in}
+use Rattle.ab_replica.specs.Doings.{Arrives, Does, Hears, entering, are_spent, entries_in}
 
 not_below : (a b : ℕ) → b ≤ a → nat_lt a b ≡ false
 not_below a b le = grind (arith, nat_tests)
@@ -139,6 +140,20 @@ module _ {P : Type 0} (proto : Proto P) (pen : Pen) (s : Site P) where
 
 -- ---- an entry
 
+module _ {P : Type 0} (proto : Proto P) (pen : Pen) (s : Site P) where
+  -- a replica that has just entered arrives where it takes turns and its entry is seen too
+  pub arrives_if : {E : Type 0} (ts : List Turn) (now : Site P) (e : Effects) (i me : ℕ) (h : List Request) (r : Result Effects E)
+      → Does proto pen s ts now e.outs e.marks.items e.spent → with_entry i me h e.marks.items e.spent ≡ with_entry s.rep.at s.me s.rep.entry.base e.marks.items e.spent
+      → IfOk r (λ x. x.outs ≡ e.outs) → IfOk r (λ x. x.marks.items ≡ with_entry i me h e.marks.items e.spent) → IfOk r (λ x. x.spent ≡ e.spent)
+      → IfOk r (λ x. Arrives proto pen s ts now x.outs x.marks.items x.spent)
+  arrives_if ts now e i me h (Ok x) does entry outs marks spent = record {
+    marks = e.marks.items;
+    does = subst (λ (b : Bool). Does proto pen s ts now x.outs e.marks.items b) (sym spent)
+        (subst (λ (l : List Out). Does proto pen s ts now l e.marks.items e.spent) (sym outs) does);
+    shows = marks ∙ entry ∙ ap (with_entry s.rep.at s.me s.rep.entry.base e.marks.items) (sym spent);
+  }
+  arrives_if ts now e i me h (Err x) does entry outs marks spent = tt
+
 module _ {P : Type 0} (proto : Proto P) (pen : Pen) (s : Site P) (j : ℕ) (cert : List Signed) (h : List Request) where
   -- the replica as it has entered
   abbrev pub there : Site P
@@ -168,26 +183,27 @@ module _ {P : Type 0} (proto : Proto P) (pen : Pen) (s : Site P) (j : ℕ) (cert
   crossing_there : (x : Crossing) (t : Site P) → x ≡ record { instance = j + 1; entry = entry_of h (Some cert) } → t ≡ entered_by x → t ≡ there
   crossing_there x t leads is = is ∙ ap entered_by leads
 
-  pub crosses_spent : (m : Msg) (x : Crossing) (t now : Site P) (outs : List Out) (marks : List Seen) (spent : Bool) → x ≡ record { instance = j + 1; entry = entry_of h (Some cert) } → t ≡ entered_by x → spent ≡ true
-      → Does proto pen t (taken (setup_of t pen) proto t.rep m) now outs marks spent → Does proto pen s (entering (setup_of s pen) proto s.me s.rep m j cert h) s outs marks spent
-  crosses_spent m x t now outs marks spent leads is over does =
-      subst (λ (b : Bool). Does proto pen s (entering (setup_of s pen) proto s.me s.rep m j cert h) s outs marks b) (sym over)
-      (enters_spent (taken (setup_of s pen) proto there.rep m) now outs marks
-      (subst (λ (b : Bool). Does proto pen there (taken (setup_of s pen) proto there.rep m) now outs marks b) over
-      (subst (λ (u : Site P). Does proto pen u (taken (setup_of u pen) proto u.rep m) now outs marks spent) (crossing_there x t leads is) does)))
+  pub crosses_spent : (m : Msg) (x : Crossing) (t now : Site P) (outs : List Out) (shown : List Seen) (spent : Bool) → x ≡ record { instance = j + 1; entry = entry_of h (Some cert) } → t ≡ entered_by x → spent ≡ true
+      → Arrives proto pen t (taken (setup_of t pen) proto t.rep m) now outs shown spent → Does proto pen s (entering (setup_of s pen) proto s.me s.rep m j cert h) s outs shown spent
+  crosses_spent m x t now outs shown spent leads is over arrives =
+      subst (λ (b : Bool). Does proto pen s (entering (setup_of s pen) proto s.me s.rep m j cert h) s outs shown b) (sym over)
+      (subst (λ (l : List Seen). Does proto pen s (entering (setup_of s pen) proto s.me s.rep m j cert h) s outs l true)
+      (sym (arrives.shows ∙ ap (with_entry t.rep.at t.me t.rep.entry.base arrives.marks) over))
+      (enters_spent (taken (setup_of s pen) proto there.rep m) now outs arrives.marks
+      (subst (λ (b : Bool). Does proto pen there (taken (setup_of s pen) proto there.rep m) now outs arrives.marks b) over
+      (subst (λ (u : Site P). Does proto pen u (taken (setup_of u pen) proto u.rep m) now outs arrives.marks spent) (crossing_there x t leads is) arrives.does))))
 
-  pub crosses_taken : (m : Msg) (x : Crossing) (t now last : Site P) (outs : List Out) (marks all : List Seen) (spent : Bool) → x ≡ record { instance = j + 1; entry = entry_of h (Some cert) } → t ≡ entered_by x → spent ≡ false → last ≡ now
-      → all ≡ Cert (x.instance - 1) (Replica s.me) x.entry.base ∷ Init x.instance s.me x.entry.base ∷ marks
-      → Does proto pen t (taken (setup_of t pen) proto t.rep m) now outs marks spent → Does proto pen s (entering (setup_of s pen) proto s.me s.rep m j cert h) last outs all spent
-  crosses_taken m x t now last outs marks all spent leads is under same shows does =
+  pub crosses_taken : (m : Msg) (x : Crossing) (t now last : Site P) (outs : List Out) (shown : List Seen) (spent : Bool) → x ≡ record { instance = j + 1; entry = entry_of h (Some cert) } → t ≡ entered_by x → spent ≡ false → last ≡ now
+      → Arrives proto pen t (taken (setup_of t pen) proto t.rep m) now outs shown spent → Does proto pen s (entering (setup_of s pen) proto s.me s.rep m j cert h) last outs shown spent
+  crosses_taken m x t now last outs shown spent leads is under same arrives =
       let back : j + 1 - 1 ≡ j = omega arith in
-      subst (λ (b : Bool). Does proto pen s (entering (setup_of s pen) proto s.me s.rep m j cert h) last outs all b) (sym under)
-      (subst (λ (u : Site P). Does proto pen s (entering (setup_of s pen) proto s.me s.rep m j cert h) u outs all false) (sym same)
+      subst (λ (b : Bool). Does proto pen s (entering (setup_of s pen) proto s.me s.rep m j cert h) last outs shown b) (sym under)
+      (subst (λ (u : Site P). Does proto pen s (entering (setup_of s pen) proto s.me s.rep m j cert h) u outs shown false) (sym same)
       (subst (λ (l : List Seen). Does proto pen s (entering (setup_of s pen) proto s.me s.rep m j cert h) now outs l false)
-      (sym (shows ∙ ap (λ (y : Crossing). Cert (y.instance - 1) (Replica s.me) y.entry.base ∷ Init y.instance s.me y.entry.base ∷ marks) leads ∙ ap (λ i. Cert i (Replica s.me) h ∷ Init (j + 1) s.me h ∷ marks) back))
-      (enters_taken (taken (setup_of s pen) proto there.rep m) now outs marks
-      (subst (λ (b : Bool). Does proto pen there (taken (setup_of s pen) proto there.rep m) now outs marks b) under
-      (subst (λ (u : Site P). Does proto pen u (taken (setup_of u pen) proto u.rep m) now outs marks spent) (crossing_there x t leads is) does)))))
+      (sym (arrives.shows ∙ ap (λ (u : Site P). with_entry u.rep.at u.me u.rep.entry.base arrives.marks spent) (crossing_there x t leads is) ∙ ap (with_entry (j + 1) s.me h arrives.marks) under ∙ ap (λ i. Cert i (Replica s.me) h ∷ Init (j + 1) s.me h ∷ arrives.marks) back))
+      (enters_taken (taken (setup_of s pen) proto there.rep m) now outs arrives.marks
+      (subst (λ (b : Bool). Does proto pen there (taken (setup_of s pen) proto there.rep m) now outs arrives.marks b) under
+      (subst (λ (u : Site P). Does proto pen u (taken (setup_of u pen) proto u.rep m) now outs arrives.marks spent) (crossing_there x t leads is) arrives.does)))))
 
 -- ---- whatever the run
 

@@ -12,6 +12,7 @@ use Rattle.ab_run.specs.Setups.{Setup}
 use Rattle.ab_run.specs.Replicas.{Rep, Turn, turn_enter, turn_call, turn_halt, turn_sign, turn_bring, turn_abort, after_turn, taken, wanted, is_spent, turns}
 use Rattle.ab_run.specs.Local.{after_turns, sent_in_turns, marks_in_turns, rep_after, rep_sends, rep_marks}
 use Rattle.ab_replica.specs.Sites.{Site, setup_of}
+use Rattle.ab_replica.specs.Entries.{with_entry}
 
 abbrev pub enters : Turn → ℕ
 enters (turn_enter j cert h) = 1
@@ -55,3 +56,9 @@ pub record Does {P : Type 0} (proto : Proto P) (pen : Pen) (s : Site P) (ts : Li
   pub sends : outs ≡ sent_in_turns (setup_of s pen) proto s.me s.rep (unless_spent proto (setup_of s pen) s ts)
   pub shows : marks ≡ marks_in_turns (setup_of s pen) proto s.me s.rep (unless_spent proto (setup_of s pen) s ts)
   pub spends : spent ≡ are_spent proto (setup_of s pen) s ts
+
+-- the same of one that has just entered its instance: that is seen too
+pub record Arrives {P : Type 0} (proto : Proto P) (pen : Pen) (s : Site P) (ts : List Turn) (now : Site P) (outs : List Out) (shown : List Seen) (spent : Bool) : Type 0 where
+  pub marks : List Seen
+  pub does : Does proto pen s ts now outs marks spent
+  pub shows : shown ≡ with_entry s.rep.at s.me s.rep.entry.base marks spent

@@ -3,3 +3,4 @@ pub mod Sites
 pub mod Doings
 pub mod Purposes
 pub mod Crossings
+pub mod Entries

@@ -13,9 +13,9 @@ ghost use Rattle.ab_run.specs.Setups.{Setup};
 ghost use Rattle.ab_run.specs.Runs.{first_rep};
 ghost use Rattle.ab_run.specs.Replicas.{aborting, halting, here, late, taken, turn_call};
 ghost use Rattle.ab_replica.specs.Sites.{IsPenAfter, IsPenOf, IsSetupOf, Site, first_site, setup_of, timer_number};
-ghost use Rattle.ab_replica.specs.Doings.{Does, Hears, entering};
+ghost use Rattle.ab_replica.specs.Doings.{Arrives, Does, Hears, entering};
 
-use crate::accepted::{init_marks, marks_between};
+use crate::accepted::marks_between;
 use crate::answers::{abort_to, cert_to};
 use crate::crossing::{Crossing, crossing_in};
 use crate::effects::Effects;
@@ -28,6 +28,7 @@ use ab_svc::Service;
 use ab_wire::MsgRef;
 use std::alloc::Global;
 use std::marker::{Model, PhantomData};
+use std::mem::{drop, replace};
 
 /// A replica in its present instance, with the certificate by which it entered, and its ABORT there
 /// once it is signed.
@@ -223,24 +224,47 @@ impl<S: Service, P: Protocol<S>> Replica<S, P> {
         ensures pen { IfOk result (λ e. e.spent ≡ false → IsPenAfter (N.pen n.old) (N.pen n.new) (N.remains n.new) self.new) }
         ensures err { OnErr result (self.new ≡ self.old) }
     {
-        let instance = next.instance;
-        let base = next.entry.base.copy(alloc)?;
         let mut there = self.entered(alloc, next)?;
-        let effects = there.take(alloc, m, n)?;
-        if effects.spent {
-            return Ok(effects);
+        // Where it isn't kept a call lets it go: in place each form of what it holds would be taken apart.
+        match there.arrive(alloc, m, n) {
+            Ok(effects) => {
+                if effects.spent {
+                    drop(there);
+                    return Ok(effects);
+                }
+                self.settle(there);
+                Ok(effects)
+            }
+            Err(refused) => {
+                drop(there);
+                Err(refused)
+            }
         }
-        let Effects { outs, marks, spent } = effects;
-        let marks = init_marks(alloc, instance, self.me, base, marks)?;
-        self.settle(there);
-        Ok(Effects { outs, marks, spent })
+    }
+
+    /// Takes the first message of the instance that it has just entered, and shows its entry too.
+    fn arrive<'a, N: Notary>(
+        &mut self,
+        alloc: Global,
+        m: MsgRef<'a>,
+        n: &mut N,
+    ) -> Result<Effects, OutOfMemory>
+        requires received { IsReceived m }
+        requires pen { IsPenOf (N.pen n.old) (N.remains n.old) self.old }
+        ensures does { IfOk result (λ e. Arrives P.proto (N.pen n.old) self.old (taken (setup_of self.old (N.pen n.old)) P.proto self.old.rep (message m.entry)) self.new e.outs e.marks.items e.spent) }
+        ensures pen { IfOk result (λ e. e.spent ≡ false → IsPenAfter (N.pen n.old) (N.pen n.new) (N.remains n.new) self.new) }
+    {
+        let (instance, me) = (self.instance, self.me);
+        let base = self.entry.base.copy(alloc)?;
+        let effects = self.take(alloc, m, n)?;
+        effects.with_entry(alloc, instance, me, base)
     }
 
     /// It is the other one from now on.
     fn settle(&mut self, other: Self)
         ensures { self.new ≡ other }
     {
-        *self = other;
+        drop(replace(self, other));
     }
 
     /// Takes a message in the present instance.
