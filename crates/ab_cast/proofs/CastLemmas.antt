@@ -1,6 +1,9 @@
 -- What holds of the cores stays in each event.
 use Rattle.std.proofs.Common.{◌≡◌, ℕ, zero, suc, ◌+◌, ◌*◌, ◌<◌, ◌≤◌, Bool, false, List, [], ◌∷◌, ◌++◌, Some, None, length, map, get_or, refl, sym, ap, ◌∙◌, subst, inl, inr, arith, length-append}
-use Rattle.std.specs.Prelude.{Option, if◌then◌else◌, slice_get, slice_set, All, IsTrue}
+use Rattle.std.specs.Prelude.{Option, Result, Ok, Err, if◌then◌else◌, slice_get, slice_set, All, IsTrue, IfOk, IsOkAnd, MatchResult, OnOk, OnErr}
+use Rattle.arrayvec.specs.ArrayVec.{ArrayVec}
+use Rattle.ab_num.specs.declared.memory.OutOfMemory.{OutOfMemory}
+use Rattle.ab_replica.specs.declared.effects.Effects.{Effects}
 use Rattle.std.specs.Option.{option_map}
 use Rattle.std.proofs.lemmas.Bool.{cases_eq, cases_order}
 use Rattle.std.proofs.lemmas.Option.{slice_get-map, slice_get_past, slice_get_within, slice_get_read}
@@ -31,7 +34,7 @@ use Rattle.ab_run.specs.declared.phase.Phase.TheVariants.{Idle}
 use Rattle.ab_cast.specs.Setups.{Setup, run_setup, replica_twins, client_twins, place_of, party_at}
 use Rattle.ab_cast.specs.Cores.{ClientCommits, CommitsAtOnce, Core, replica, client}
 use Rattle.ab_cast.specs.declared.given.Given.{Given}
-use Rattle.ab_cast.specs.Hearing.{IsGiven, RepHears, call_of, cue_of}
+use Rattle.ab_cast.specs.Hearing.{CliHears, IsGiven, RepHears, call_of, cue_of}
 use Rattle.ab_cast.specs.Casts.{Cast, core_at, with_core, next, first_seat, first_seats, first_site, first_sites, first_cast, is_idle, command_refusal, IsTaken, IsSeat, AreSeats, AreTwinSeats, IsSite, AreOwn, AreTwins, IsCast}
 use Rattle.ab_cast.proofs.StandLemmas.{IsThere, some_injective, mapped_cases, is_there}
 use Rattle.ab_cast.proofs.ReplicaLemmas.{given_formed, after_given, sends_given, marks_given, spends_given, first_is_site, after_is, goes_on, sends_is, own_drafts}
@@ -81,13 +84,9 @@ the_same xs i s t at lt read = some_injective s t (sym at ∙ slice_get_read xs 
 
 -- ---- events
 
--- what the code says of the client at a place, as it takes what comes
-pub record DoesAt (at : ℕ) (cue : Cue) (items all : List Seat) (sent : List Out) (shown : List Seen) : Type 0 where
-  pub cores : (s : Seat) → slice_get items at ≡ Some s → all ≡ slice_set items at (after s cue)
-  pub stamp : (s : Seat) → slice_get items at ≡ Some s → (after s cue).cli.stamp ≤ s.cli.stamp + 1
-  pub outs : (s : Seat) → slice_get items at ≡ Some s → sent ≡ sends s cue
-  pub marks : (s : Seat) → slice_get items at ≡ Some s → shown ≡ marks s cue
-  pub drafts : (s : Seat) → slice_get items at ≡ Some s → s.me ≤ 15 → All (IsDraftOf s.cluster.f (Client s.me)) sent
+-- what the code says of the client at a place
+abbrev pub CliHearsAt : ℕ → Cue → List Seat → List Seat → List Out → List Seen → Bool → Type 0
+CliHearsAt at cue items all outs marks spent = (s : Seat) → slice_get items at ≡ Some s → CliHears at s cue items all outs marks spent
 
 module _ {P : Type 0} (proto : Proto P) (serves : Kind → Bool) (x : Cast P) (is : IsCast proto serves x) where
   abbrev c : Cluster
@@ -295,39 +294,74 @@ module _ {P : Type 0} (proto : Proto P) (serves : Kind → Bool) (x : Cast P) (i
   pub few_clients : (n events : ℕ) (s : Seat) → n < c.clients → IsSeat c events n s → s.me ≤ 15
   few_clients n events s lt seat = omega (arith, lt, seat.own, c.in_bounds.few_clients)
 
-  module _ (few : x.events < 100000) (n : ℕ) (cue : Cue) (all : List Seat) (outs : List Out) (shown : List Seen) (there : IsThere x.setup (place.Client n)) (does : DoesAt n cue x.clients all outs shown) where
+  module _ (few : x.events < 100000) (n : ℕ) (cue : Cue) (all : List Seat) (outs : List Out) (shown : List Seen) (spent : Bool) (there : IsThere x.setup (place.Client n)) (hears : CliHearsAt n cue x.clients all outs shown spent) where
     pub client_stays : IsCast proto serves (record x { clients = all; events = x.events + 1 })
     client_stays =
         let s = client_at n there in
-        IsCast-client few n s.0 (after s.0 cue) all s.1 (refl, (refl, does.stamp s.0 s.1)) (does.cores s.0 s.1)
+        let h = hears s.0 s.1 in
+        IsCast-client few n s.0 (after s.0 cue) all s.1 (refl, (refl, h.stamp)) h.set
 
-    pub client_taken : (s : Seat) → slice_get x.clients n ≡ Some s → IsTaken proto x (place.Client n) (client s) cue (record x { clients = all; events = x.events + 1 }) outs shown false
+    pub client_taken : (s : Seat) → slice_get x.clients n ≡ Some s → IsTaken proto x (place.Client n) (client s) cue (record x { clients = all; events = x.events + 1 }) outs shown spent
     client_taken s here =
+        let h = hears s here in
         let seat = is.seats n s here in
         record {
-          after = ap (λ v. record x { clients = v; events = x.events + 1 }) (does.cores s here ∙ ap (slice_set x.clients n) (seat_after n x.events s seat cue));
-          sends = does.outs s here ∙ seat_sends n x.events s seat cue;
-          shows = does.marks s here ∙ seat_marks n x.events s seat cue;
-          spends = refl;
-          drafts = seat_drafts n x.events s seat cue outs (does.drafts s here (few_clients n x.events s there seat));
+          after = ap (λ v. record x { clients = v; events = x.events + 1 }) (h.set ∙ ap (slice_set x.clients n) (seat_after n x.events s seat cue));
+          sends = h.sends ∙ seat_sends n x.events s seat cue;
+          shows = h.shows ∙ seat_marks n x.events s seat cue;
+          spends = h.spends;
+          drafts = seat_drafts n x.events s seat cue outs (h.drafts (few_clients n x.events s there seat));
         }
 
-  module _ (few : x.events < 100000) (n at : ℕ) (cue : Cue) (all : List Seat) (outs : List Out) (shown : List Seen) (there : IsThere x.setup (place.ClientTwin n at)) (does : DoesAt at cue x.client_twins all outs shown) where
+  module _ (few : x.events < 100000) (n at : ℕ) (cue : Cue) (all : List Seat) (outs : List Out) (shown : List Seen) (spent : Bool) (there : IsThere x.setup (place.ClientTwin n at)) (hears : CliHearsAt at cue x.client_twins all outs shown spent) where
     pub client_twin_stays : IsCast proto serves (record x { client_twins = all; events = x.events + 1 })
     client_twin_stays =
         let s = client_twin_at n at there in
-        IsCast-client_twin few at s.0 (after s.0 cue) all s.1 (refl, (refl, does.stamp s.0 s.1)) (does.cores s.0 s.1)
+        let h = hears s.0 s.1 in
+        IsCast-client_twin few at s.0 (after s.0 cue) all s.1 (refl, (refl, h.stamp)) h.set
 
-    pub client_twin_taken : (s : Seat) → slice_get x.client_twins at ≡ Some s → IsTaken proto x (place.ClientTwin n at) (client s) cue (record x { client_twins = all; events = x.events + 1 }) outs shown false
+    pub client_twin_taken : (s : Seat) → slice_get x.client_twins at ≡ Some s → IsTaken proto x (place.ClientTwin n at) (client s) cue (record x { client_twins = all; events = x.events + 1 }) outs shown spent
     client_twin_taken s here =
+        let h = hears s here in
         let seat = seat_at n at s there here in
         record {
-          after = ap (λ v. record x { client_twins = v; events = x.events + 1 }) (does.cores s here ∙ ap (slice_set x.client_twins at) (seat_after n x.events s seat cue));
-          sends = does.outs s here ∙ seat_sends n x.events s seat cue;
-          shows = does.marks s here ∙ seat_marks n x.events s seat cue;
-          spends = refl;
-          drafts = seat_drafts n x.events s seat cue outs (does.drafts s here (few_clients n x.events s there.0 seat));
+          after = ap (λ v. record x { client_twins = v; events = x.events + 1 }) (h.set ∙ ap (slice_set x.client_twins at) (seat_after n x.events s seat cue));
+          sends = h.sends ∙ seat_sends n x.events s seat cue;
+          shows = h.shows ∙ seat_marks n x.events s seat cue;
+          spends = h.spends;
+          drafts = seat_drafts n x.events s seat cue outs (h.drafts (few_clients n x.events s there.0 seat));
         }
+
+-- what a client sends and shows, where the code has it without what it spends
+module _ (done : Result (List Out × ArrayVec Seen) OutOfMemory) where
+  abbrev pub Unspent : Result Effects OutOfMemory → Type 0
+  Unspent result = MatchResult result (λ e. (done ≡ Ok (e.outs, e.marks)) × (e.spent ≡ false)) (λ e. done ≡ Err e)
+
+  pub unspent_hears : (result : Result Effects OutOfMemory) (at : ℕ) (s now : Seat) (cue : Cue) (items : List Seat) → Unspent result
+      → OnOk done (now ≡ after s cue) → IfOk done (λ r. r.0 ≡ sends s cue) → IfOk done (λ r. r.1.items ≡ marks s cue)
+      → (s.me ≤ 15 → IfOk done (λ r. All (IsDraftOf s.cluster.f (Client s.me)) r.0)) → OnOk done (now.cli.stamp ≡ s.cli.stamp)
+      → IfOk result (λ e. CliHears at s cue items (slice_set items at now) e.outs e.marks.items e.spent)
+  unspent_hears (Err refused) at s now cue items same moves outs shown drafts stamp = tt
+  unspent_hears (Ok e) at s now cue items same moves outs shown drafts stamp =
+      let of : (Q : List Out × ArrayVec Seen → Type 0) → IfOk done Q → Q (e.outs, e.marks) = λ Q holds. subst (λ (d : Result (List Out × ArrayVec Seen) OutOfMemory). IfOk d Q) same.0 holds in
+      let moved : now ≡ after s cue = of (λ r. now ≡ after s cue) moves in
+      let keeps : now.cli.stamp ≡ s.cli.stamp = of (λ r. now.cli.stamp ≡ s.cli.stamp) stamp in
+      record {
+        set = ap (slice_set items at) moved;
+        sends = of (λ r. r.0 ≡ sends s cue) outs;
+        shows = of (λ r. r.1.items ≡ marks s cue) shown;
+        stamp = omega (arith, ap (λ (q : Seat). q.cli.stamp) moved, keeps);
+        drafts = λ few. of (λ r. All (IsDraftOf s.cluster.f (Client s.me)) r.0) (drafts few);
+        spends = same.1;
+      }
+
+  pub unspent_shows : (result : Result Effects OutOfMemory) (seen : List Seen) → Unspent result → IsOkAnd done (λ r. r.1.items ≡ seen) → IsOkAnd result (λ e. e.marks.items ≡ seen)
+  unspent_shows (Ok e) seen same shows = subst (λ (d : Result (List Out × ArrayVec Seen) OutOfMemory). IsOkAnd d (λ r. r.1.items ≡ seen)) same.0 shows
+  unspent_shows (Err refused) seen same shows = absurd (subst (λ (d : Result (List Out × ArrayVec Seen) OutOfMemory). IsOkAnd d (λ r. r.1.items ≡ seen)) same shows)
+
+  pub unspent_err : (Q : Type 0) (result : Result Effects OutOfMemory) → Unspent result → OnErr done Q → OnErr result Q
+  unspent_err Q (Ok e) same holds = tt
+  unspent_err Q (Err refused) same holds = subst (λ (d : Result (List Out × ArrayVec Seen) OutOfMemory). OnErr d Q) same holds
 
 -- ---- commits at once
 
@@ -374,9 +408,9 @@ module _ {P : Type 0} where
     at_there twin given =
         subst (IsThere x.setup) placed (subst (λ (y : Cast P). IsThere y.setup p) (sym view) (is_there now.setup (party_at p) twin p given))
 
-pub spends_nothing : {P : Type 0} (proto : Proto P) (x : Cast P) (at : Place) (s : Core P) (cue : Cue) (now : Cast P) (outs : List Out) (marks : List Seen) (spent : Bool) → spent ≡ false
-    → IsTaken proto x at s cue now outs marks false → IsTaken proto x at s cue now outs marks spent
-spends_nothing proto x at s cue now outs marks spent is taken = subst (λ (b : Bool). IsTaken proto x at s cue now outs marks b) (sym is) taken
+pub on_err : {T E Q : Type 0} (r : Result T E) → Q → OnErr r Q
+on_err (Ok x) q = tt
+on_err (Err e) q = q
 
 -- a client without an open request takes a command
 pub is_free_core : (P : Type 0) (s : Seat) → s.cli.phase ≡ Idle → command_refusal {P = P} (client s) ≡ None

@@ -100,11 +100,18 @@ impl<S: Service, P: Protocol<S>> Cast<S, P> {
         self.events
     }
 
+    /// The own core of replica `r`. None exactly where there is no such replica.
+    fn replica(&self, r: u8) -> Option<&Replica<S, P>>
+        ensures { option_map (λ q. q.now) result ≡ slice_get self.now.replicas r }
+    {
+        self.replicas.get(r as usize)
+    }
+
     /// The log that replica `r` has. None exactly where there is no such replica.
     pub fn log_of(&self, r: u8) -> Option<&History>
         ensures { option_map (λ log. log.now) result ≡ option_map (λ s. (P.proto.state s.rep.value).log) (slice_get self.now.replicas r) }
     {
-        let replica = self.replicas.get(r as usize)?;
+        let replica = self.replica(r)?;
         Some(replica.log())
     }
 
@@ -113,7 +120,7 @@ impl<S: Service, P: Protocol<S>> Cast<S, P> {
     pub fn first_of(&self, r: u8) -> Option<&History>
         ensures { option_map (λ h. h.now) result ≡ option_and_then (λ s. (P.proto.state s.rep.value).first) (slice_get self.now.replicas r) }
     {
-        let replica = self.replicas.get(r as usize)?;
+        let replica = self.replica(r)?;
         replica.first()
     }
 
@@ -122,7 +129,7 @@ impl<S: Service, P: Protocol<S>> Cast<S, P> {
     pub fn base_of(&self, r: u8) -> Option<&History>
         ensures { option_map (λ h. h.now) result ≡ option_map (λ s. s.rep.entry.base) (slice_get self.now.replicas r) }
     {
-        let replica = self.replicas.get(r as usize)?;
+        let replica = self.replica(r)?;
         Some(&replica.entry().base)
     }
 
@@ -130,7 +137,7 @@ impl<S: Service, P: Protocol<S>> Cast<S, P> {
     pub fn instance_of(&self, r: u8) -> Option<u32>
         ensures { result ≡ option_map (λ s. s.rep.at) (slice_get self.now.replicas r) }
     {
-        let replica = self.replicas.get(r as usize)?;
+        let replica = self.replica(r)?;
         Some(replica.instance())
     }
 

@@ -1,23 +1,22 @@
 //! Events of single cores, and the cores before the first event.
 
-ghost use Rattle.std.specs.Prelude.{◌≡◌, ◌≢◌, ◌+◌, ◌*◌, ◌-◌, ◌^◌, ◌<◌, ◌≤◌, ◌++◌, ◌⊎◌, false, [], ◌∷◌, ℕ, All, IsTrue, IsOkAnd, IfOk, IfErr, OnOk, OnErr, length, map, replicate, slice_get, slice_set, vec_len};
-ghost use Rattle.ab_num.specs.declared.party.Party.TheVariants.{Client as ClientParty};
+ghost use Rattle.std.specs.Prelude.{◌≡◌, ◌≢◌, ◌+◌, ◌*◌, ◌-◌, ◌^◌, ◌<◌, ◌≤◌, ◌++◌, ◌⊎◌, false, [], ◌∷◌, ℕ, Ok, Err, IsTrue, IsOkAnd, IfOk, IfErr, OnOk, OnErr, MatchResult, length, map, replicate, slice_get, slice_set, vec_len};
 ghost use Rattle.ab_abs.specs.declared.seen.Seen.{Seen};
 ghost use Rattle.ab_abs.specs.Promises.{ServesAll};
-ghost use Rattle.ab_run.specs.Forms.{IsDraftOf};
 ghost use Rattle.ab_run.specs.declared.phase.Phase.TheVariants.{Idle};
 ghost use Rattle.ab_replica.specs.Sites.{Site};
-ghost use Rattle.ab_client.specs.Clients.{Seat, told, after, sends, marks};
+ghost use Rattle.ab_client.specs.Clients.{Seat, told};
 ghost use Rattle.ab_cast.specs.Setups.{client_twins, replica_twins, signatures_of};
 ghost use Rattle.ab_cast.specs.Cores.{ClientCommits};
-ghost use Rattle.ab_cast.specs.Hearing.{IsGiven, RepHears, call_of, cue_of};
+ghost use Rattle.ab_cast.specs.Hearing.{CliHears, IsGiven, RepHears, call_of, cue_of};
 ghost use Rattle.ab_cast.specs.Casts.{IsSite, first_seat, first_seats, first_site, first_sites};
 
 use crate::fault::CommandFault;
 use crate::given::Given;
 use crate::setup::Setup;
-use ab_abs::Protocol;
+use ab_abs::{Marks, Protocol};
 use ab_client::{Client, InvokeFault};
+use ab_msg::Outs;
 use ab_num::{Cluster, OutOfMemory, Party};
 use ab_replica::{Effects, Replica};
 use ab_sign::Pen;
@@ -163,6 +162,20 @@ pub(crate) fn hear_replica<S: Service, P: Protocol<S>>(
     }
 }
 
+/// What a client sends and shows. It has no signatures to spend.
+fn unspent(done: Result<(Outs, Marks), OutOfMemory>) -> Result<Effects, OutOfMemory>
+    ensures { MatchResult result (λ e. (done ≡ Ok (e.outs, e.marks)) × (e.spent ≡ false)) (λ e. done ≡ Err e) }
+{
+    match done {
+        Ok((outs, marks)) => Ok(Effects {
+            outs,
+            marks,
+            spent: false,
+        }),
+        Err(refused) => Err(refused),
+    }
+}
+
 /// One client takes what comes. After an `Err` all are as before.
 pub(crate) fn hear_client(
     alloc: Global,
@@ -172,25 +185,16 @@ pub(crate) fn hear_client(
 ) -> Result<Effects, OutOfMemory>
     requires given { IsGiven given }
     requires there { at < vec_len cores.old }
-    ensures cores { (s : Seat) → slice_get cores.old.items at ≡ Some s → OnOk result (cores.new.items ≡ slice_set cores.old.items at (after s (cue_of given.entry))) }
-    ensures outs { (s : Seat) → slice_get cores.old.items at ≡ Some s → IfOk result (λ e. e.outs ≡ sends s (cue_of given.entry)) }
-    ensures marks { (s : Seat) → slice_get cores.old.items at ≡ Some s → IfOk result (λ e. e.marks.items ≡ marks s (cue_of given.entry)) }
-    ensures drafts { (s : Seat) → slice_get cores.old.items at ≡ Some s → s.me ≤ 15 → IfOk result (λ e. All (IsDraftOf s.cluster.f (ClientParty s.me)) e.outs) }
-    ensures spent { IfOk result (λ e. e.spent ≡ false) }
-    ensures stamp { (s : Seat) → slice_get cores.old.items at ≡ Some s → OnOk result ((after s (cue_of given.entry)).cli.stamp ≡ s.cli.stamp) }
+    ensures heard { (s : Seat) → slice_get cores.old.items at ≡ Some s
+        → IfOk result (λ e. CliHears at s (cue_of given.entry) cores.old.items cores.new.items e.outs e.marks.items e.spent) }
     ensures at_once { (s : Seat) (seen : Seen) → slice_get cores.old.items at ≡ Some s → ClientCommits s (cue_of given.entry) seen → IsOkAnd result (λ e. e.marks.items ≡ seen ∷ []) }
     ensures err { OnErr result (cores.new.items ≡ cores.old.items) }
 {
     let core = &mut cores[at];
-    let (outs, marks) = match given {
-        Given::Message(m) => core.on(alloc, m)?,
-        Given::Time => core.timeout(alloc)?,
-    };
-    Ok(Effects {
-        outs,
-        marks,
-        spent: false,
-    })
+    match given {
+        Given::Message(m) => unspent(core.on(alloc, m)),
+        Given::Time => unspent(core.timeout(alloc)),
+    }
 }
 
 /// One client takes a command. After an `Err` all are as before.
@@ -203,12 +207,8 @@ pub(crate) fn tell_client(
     requires there { at < vec_len cores.old }
     requires stamp { (s : Seat) → slice_get cores.old.items at ≡ Some s → s.cli.stamp < 2 ^ 63 }
     requires form { (0 < length bytes.now) × (length bytes.now ≤ 128) }
-    ensures cores { (s : Seat) → slice_get cores.old.items at ≡ Some s → OnOk result (cores.new.items ≡ slice_set cores.old.items at (after s (told bytes.now))) }
-    ensures outs { (s : Seat) → slice_get cores.old.items at ≡ Some s → IfOk result (λ e. e.outs ≡ sends s (told bytes.now)) }
-    ensures marks { (s : Seat) → slice_get cores.old.items at ≡ Some s → IfOk result (λ e. e.marks.items ≡ marks s (told bytes.now)) }
-    ensures stamp { (s : Seat) → slice_get cores.old.items at ≡ Some s → OnOk result ((after s (told bytes.now)).cli.stamp ≡ s.cli.stamp + 1) }
-    ensures drafts { (s : Seat) → slice_get cores.old.items at ≡ Some s → s.me ≤ 15 → IfOk result (λ e. All (IsDraftOf s.cluster.f (ClientParty s.me)) e.outs) }
-    ensures spent { IfOk result (λ e. e.spent ≡ false) }
+    ensures heard { (s : Seat) → slice_get cores.old.items at ≡ Some s
+        → IfOk result (λ e. CliHears at s (told bytes.now) cores.old.items cores.new.items e.outs e.marks.items e.spent) }
     ensures idle { (s : Seat) → slice_get cores.old.items at ≡ Some s → OnOk result (s.cli.phase ≡ Idle) }
     ensures cause { (s : Seat) → slice_get cores.old.items at ≡ Some s → IfErr result (λ e. ((e ≡ CommandFault.Busy) × (s.cli.phase ≢ Idle)) ⊎ ((e ≡ CommandFault.OutOfMemory) × (s.cli.phase ≡ Idle))) }
     ensures err { OnErr result (cores.new.items ≡ cores.old.items) }

@@ -1,9 +1,11 @@
-use Rattle.std.proofs.Common.{◌≡◌, ◌<◌, ◌+◌, [], ◌∷◌, IsOkAnd, arith, sym, ap}
+use Rattle.std.proofs.Common.{◌≡◌, ◌<◌, ◌+◌, List, [], ◌∷◌, IsOkAnd, arith, sym, ap, ◌∙◌, subst}
+use Rattle.ab_replica.specs.Sites.{Site}
+use Rattle.ab_client.specs.Clients.{Seat}
 use Rattle.ab_cast.specs.declared.place.Place.TheVariants as place
 use Rattle.ab_cast.specs.Cores.{client}
 use Rattle.ab_cast.specs.Hearing.{cue_of}
-use Rattle.ab_cast.specs.Casts.{Cast, IsTaken}
-use Rattle.ab_cast.proofs.CastLemmas.{WhereCommits, no_replica_commits, client_commits, at_core, at_there, replica_core, client_core, replica_stays, replica_taken, replica_twin_stays, replica_twin_taken, twin_of, DoesAt, client_stays, client_taken, client_twin_stays, client_twin_taken, client_twin_within, spends_nothing}
+use Rattle.ab_cast.specs.Casts.{Cast, IsCast, IsTaken}
+use Rattle.ab_cast.proofs.CastLemmas.{on_err, WhereCommits, no_replica_commits, client_commits, at_core, at_there, replica_core, client_core, replica_stays, replica_taken, replica_twin_stays, replica_twin_taken, twin_of, client_stays, client_taken, client_twin_stays, client_twin_taken, client_twin_within}
 use Rattle.ab_cast.proofs.cast.Cast.give.Goals as goal
 
 pub invariant_of-self-in-Replica : goal.invariant_of-self-in-Replica
@@ -55,9 +57,7 @@ invariant_of-self-in-Client g c =
     let x : Cast g.row.P.Denot = record { setup = c.self.inside.setup; replicas = c.self.inside.replicas.items; clients = c.self.inside.clients.items; replica_twins = c.self.inside.replica_twins.items; client_twins = c.self.inside.client_twins.items; events = c.self.inside.events } in
     let few : x.events < 100000 = omega (arith, c.requires.few, ap (λ y. y.events) c.self.view_is) in
     let there = at_there x c.args.self.now c.self.view_is c.args.place (place.Client c.in-Client.c) c.in-Client.is c.requires.there.0 c.requires.there.1 in
-    let e = c.in_ok-effects-in-Client.ensures in
-    let does : DoesAt (c.in-Client.c) (cue_of c.args.given) x.clients c.hear_client.new.cores.items c.in_ok-effects-in-Client.effects.outs c.in_ok-effects-in-Client.effects.marks.items = record { cores = e.cores; stamp = λ s at. omega (arith, e.stamp s at); outs = e.outs; marks = e.marks; drafts = e.drafts } in
-    client_stays proto serves x c.self.invariant few c.in-Client.c (cue_of c.args.given) c.hear_client.new.cores.items c.in_ok-effects-in-Client.effects.outs c.in_ok-effects-in-Client.effects.marks.items there does
+    client_stays proto serves x c.self.invariant few c.in-Client.c (cue_of c.args.given) c.hear_client.new.cores.items c.in_ok-effects-in-Client.effects.outs c.in_ok-effects-in-Client.effects.marks.items c.in_ok-effects-in-Client.effects.spent there c.in_ok-effects-in-Client.ensures.heard
 
 pub returns-in_ok-effects-in-Client-clause-taken : goal.returns-in_ok-effects-in-Client-clause-taken
 returns-in_ok-effects-in-Client-clause-taken g c =
@@ -66,12 +66,10 @@ returns-in_ok-effects-in-Client-clause-taken g c =
     let x : Cast g.row.P.Denot = record { setup = c.self.inside.setup; replicas = c.self.inside.replicas.items; clients = c.self.inside.clients.items; replica_twins = c.self.inside.replica_twins.items; client_twins = c.self.inside.client_twins.items; events = c.self.inside.events } in
     let few : x.events < 100000 = omega (arith, c.requires.few, ap (λ y. y.events) c.self.view_is) in
     let there = at_there x c.args.self.now c.self.view_is c.args.place (place.Client c.in-Client.c) c.in-Client.is c.requires.there.0 c.requires.there.1 in
-    let e = c.in_ok-effects-in-Client.ensures in
-    let does : DoesAt (c.in-Client.c) (cue_of c.args.given) x.clients c.hear_client.new.cores.items c.in_ok-effects-in-Client.effects.outs c.in_ok-effects-in-Client.effects.marks.items = record { cores = e.cores; stamp = λ s at. omega (arith, e.stamp s at); outs = e.outs; marks = e.marks; drafts = e.drafts } in
     let new : Cast g.row.P.Denot = record x { clients = c.hear_client.new.cores.items; events = x.events + 1 } in
     at_core x c.args.self.now c.self.view_is c.args.place (place.Client c.in-Client.c) c.in-Client.is (λ y q s. IsTaken proto y q s (cue_of c.args.given) new c.in_ok-effects-in-Client.effects.outs c.in_ok-effects-in-Client.effects.marks.items c.in_ok-effects-in-Client.effects.spent)
     (client_core x.clients (c.in-Client.c) (λ s. IsTaken proto x (place.Client c.in-Client.c) s (cue_of c.args.given) new c.in_ok-effects-in-Client.effects.outs c.in_ok-effects-in-Client.effects.marks.items c.in_ok-effects-in-Client.effects.spent)
-    (λ s here. spends_nothing proto x (place.Client c.in-Client.c) (client s) (cue_of c.args.given) new c.in_ok-effects-in-Client.effects.outs c.in_ok-effects-in-Client.effects.marks.items c.in_ok-effects-in-Client.effects.spent e.spent (client_taken proto serves x c.self.invariant few c.in-Client.c (cue_of c.args.given) c.hear_client.new.cores.items c.in_ok-effects-in-Client.effects.outs c.in_ok-effects-in-Client.effects.marks.items there does s here)))
+    (client_taken proto serves x c.self.invariant few c.in-Client.c (cue_of c.args.given) c.hear_client.new.cores.items c.in_ok-effects-in-Client.effects.outs c.in_ok-effects-in-Client.effects.marks.items c.in_ok-effects-in-Client.effects.spent there c.in_ok-effects-in-Client.ensures.heard))
 
 pub invariant_of-self-in-ClientTwin : goal.invariant_of-self-in-ClientTwin
 invariant_of-self-in-ClientTwin g c =
@@ -80,9 +78,7 @@ invariant_of-self-in-ClientTwin g c =
     let x : Cast g.row.P.Denot = record { setup = c.self.inside.setup; replicas = c.self.inside.replicas.items; clients = c.self.inside.clients.items; replica_twins = c.self.inside.replica_twins.items; client_twins = c.self.inside.client_twins.items; events = c.self.inside.events } in
     let few : x.events < 100000 = omega (arith, c.requires.few, ap (λ y. y.events) c.self.view_is) in
     let there = at_there x c.args.self.now c.self.view_is c.args.place (place.ClientTwin c.in-ClientTwin.field-0 c.in-ClientTwin.at) c.in-ClientTwin.is c.requires.there.0 c.requires.there.1 in
-    let e = c.in_ok-effects-in-ClientTwin.ensures in
-    let does : DoesAt (c.in-ClientTwin.at) (cue_of c.args.given) x.client_twins c.hear_client-in-ClientTwin.new.cores.items c.in_ok-effects-in-ClientTwin.effects.outs c.in_ok-effects-in-ClientTwin.effects.marks.items = record { cores = e.cores; stamp = λ s at. omega (arith, e.stamp s at); outs = e.outs; marks = e.marks; drafts = e.drafts } in
-    client_twin_stays proto serves x c.self.invariant few c.in-ClientTwin.field-0 c.in-ClientTwin.at (cue_of c.args.given) c.hear_client-in-ClientTwin.new.cores.items c.in_ok-effects-in-ClientTwin.effects.outs c.in_ok-effects-in-ClientTwin.effects.marks.items there does
+    client_twin_stays proto serves x c.self.invariant few c.in-ClientTwin.field-0 c.in-ClientTwin.at (cue_of c.args.given) c.hear_client-in-ClientTwin.new.cores.items c.in_ok-effects-in-ClientTwin.effects.outs c.in_ok-effects-in-ClientTwin.effects.marks.items c.in_ok-effects-in-ClientTwin.effects.spent there c.in_ok-effects-in-ClientTwin.ensures.heard
 
 pub returns-in_ok-effects-in-ClientTwin-clause-taken : goal.returns-in_ok-effects-in-ClientTwin-clause-taken
 returns-in_ok-effects-in-ClientTwin-clause-taken g c =
@@ -91,12 +87,10 @@ returns-in_ok-effects-in-ClientTwin-clause-taken g c =
     let x : Cast g.row.P.Denot = record { setup = c.self.inside.setup; replicas = c.self.inside.replicas.items; clients = c.self.inside.clients.items; replica_twins = c.self.inside.replica_twins.items; client_twins = c.self.inside.client_twins.items; events = c.self.inside.events } in
     let few : x.events < 100000 = omega (arith, c.requires.few, ap (λ y. y.events) c.self.view_is) in
     let there = at_there x c.args.self.now c.self.view_is c.args.place (place.ClientTwin c.in-ClientTwin.field-0 c.in-ClientTwin.at) c.in-ClientTwin.is c.requires.there.0 c.requires.there.1 in
-    let e = c.in_ok-effects-in-ClientTwin.ensures in
-    let does : DoesAt (c.in-ClientTwin.at) (cue_of c.args.given) x.client_twins c.hear_client-in-ClientTwin.new.cores.items c.in_ok-effects-in-ClientTwin.effects.outs c.in_ok-effects-in-ClientTwin.effects.marks.items = record { cores = e.cores; stamp = λ s at. omega (arith, e.stamp s at); outs = e.outs; marks = e.marks; drafts = e.drafts } in
     let new : Cast g.row.P.Denot = record x { client_twins = c.hear_client-in-ClientTwin.new.cores.items; events = x.events + 1 } in
     at_core x c.args.self.now c.self.view_is c.args.place (place.ClientTwin c.in-ClientTwin.field-0 c.in-ClientTwin.at) c.in-ClientTwin.is (λ y q s. IsTaken proto y q s (cue_of c.args.given) new c.in_ok-effects-in-ClientTwin.effects.outs c.in_ok-effects-in-ClientTwin.effects.marks.items c.in_ok-effects-in-ClientTwin.effects.spent)
     (client_core x.client_twins (c.in-ClientTwin.at) (λ s. IsTaken proto x (place.ClientTwin c.in-ClientTwin.field-0 c.in-ClientTwin.at) s (cue_of c.args.given) new c.in_ok-effects-in-ClientTwin.effects.outs c.in_ok-effects-in-ClientTwin.effects.marks.items c.in_ok-effects-in-ClientTwin.effects.spent)
-    (λ s here. spends_nothing proto x (place.ClientTwin c.in-ClientTwin.field-0 c.in-ClientTwin.at) (client s) (cue_of c.args.given) new c.in_ok-effects-in-ClientTwin.effects.outs c.in_ok-effects-in-ClientTwin.effects.marks.items c.in_ok-effects-in-ClientTwin.effects.spent e.spent (client_twin_taken proto serves x c.self.invariant few c.in-ClientTwin.field-0 c.in-ClientTwin.at (cue_of c.args.given) c.hear_client-in-ClientTwin.new.cores.items c.in_ok-effects-in-ClientTwin.effects.outs c.in_ok-effects-in-ClientTwin.effects.marks.items there does s here)))
+    (client_twin_taken proto serves x c.self.invariant few c.in-ClientTwin.field-0 c.in-ClientTwin.at (cue_of c.args.given) c.hear_client-in-ClientTwin.new.cores.items c.in_ok-effects-in-ClientTwin.effects.outs c.in_ok-effects-in-ClientTwin.effects.marks.items c.in_ok-effects-in-ClientTwin.effects.spent there c.in_ok-effects-in-ClientTwin.ensures.heard))
 
 pub hear_replica-requires-clause-own : goal.hear_replica-requires-clause-own
 hear_replica-requires-clause-own g c = λ s at. c.self.invariant.own_replicas c.in-Replica.r s at
@@ -165,3 +159,55 @@ returns-in_err-effects-in-ClientTwin-clause-at_once g c s seen =
     let T = IsOkAnd c.from_residual-in_err-effects-in-ClientTwin.result (λ e. e.marks.items ≡ seen ∷ []) in
     at_core x c.args.self.now c.self.view_is c.args.place (place.ClientTwin c.in-ClientTwin.field-0 c.in-ClientTwin.at) c.in-ClientTwin.is (λ y q t. WhereCommits (cue_of c.args.given) seen T t)
     (client_commits x.client_twins c.in-ClientTwin.at (cue_of c.args.given) seen T (λ t here commits. absurd (c.in_err-effects-in-ClientTwin.ensures.at_once t seen here commits))) s
+
+pub invariant_of-self : goal.invariant_of-self
+invariant_of-self g c =
+    let x : Cast g.row.P.Denot = record { setup = c.self.inside.setup; replicas = c.self.inside.replicas.items; clients = c.self.inside.clients.items; replica_twins = c.self.inside.replica_twins.items; client_twins = c.self.inside.client_twins.items; events = c.self.inside.events } in
+    subst (λ (items : List (Site g.row.P.Denot)). IsCast g.P.Protocol.proto g.P.Protocol.serves (record x { replicas = items })) (sym c.in_err-effects-in-Replica.ensures.err) c.self.invariant
+
+pub returns-in_err-effects-in-Replica-clause-err : goal.returns-in_err-effects-in-Replica-clause-err
+returns-in_err-effects-in-Replica-clause-err g c =
+    let x : Cast g.row.P.Denot = record { setup = c.self.inside.setup; replicas = c.self.inside.replicas.items; clients = c.self.inside.clients.items; replica_twins = c.self.inside.replica_twins.items; client_twins = c.self.inside.client_twins.items; events = c.self.inside.events } in
+    on_err c.from_residual.result (ap (λ items. record x { replicas = items }) c.in_err-effects-in-Replica.ensures.err ∙ c.self.view_is)
+
+pub overflow_add-self : goal.overflow_add-self
+overflow_add-self g c = omega (arith, c.requires.few, ap (λ y. y.events) c.self.view_is)
+
+pub invariant_of-self-in_err-effects-in-Client : goal.invariant_of-self-in_err-effects-in-Client
+invariant_of-self-in_err-effects-in-Client g c =
+    let x : Cast g.row.P.Denot = record { setup = c.self.inside.setup; replicas = c.self.inside.replicas.items; clients = c.self.inside.clients.items; replica_twins = c.self.inside.replica_twins.items; client_twins = c.self.inside.client_twins.items; events = c.self.inside.events } in
+    subst (λ (items : List Seat). IsCast g.P.Protocol.proto g.P.Protocol.serves (record x { clients = items })) (sym c.in_err-effects-in-Client.ensures.err) c.self.invariant
+
+pub returns-in_err-effects-in-Client-clause-err : goal.returns-in_err-effects-in-Client-clause-err
+returns-in_err-effects-in-Client-clause-err g c =
+    let x : Cast g.row.P.Denot = record { setup = c.self.inside.setup; replicas = c.self.inside.replicas.items; clients = c.self.inside.clients.items; replica_twins = c.self.inside.replica_twins.items; client_twins = c.self.inside.client_twins.items; events = c.self.inside.events } in
+    on_err c.from_residual-in_err-effects-in-Client.result (ap (λ items. record x { clients = items }) c.in_err-effects-in-Client.ensures.err ∙ c.self.view_is)
+
+pub overflow_add-self-in-Client : goal.overflow_add-self-in-Client
+overflow_add-self-in-Client g c = omega (arith, c.requires.few, ap (λ y. y.events) c.self.view_is)
+
+pub invariant_of-self-in_err-effects-in-ReplicaTwin : goal.invariant_of-self-in_err-effects-in-ReplicaTwin
+invariant_of-self-in_err-effects-in-ReplicaTwin g c =
+    let x : Cast g.row.P.Denot = record { setup = c.self.inside.setup; replicas = c.self.inside.replicas.items; clients = c.self.inside.clients.items; replica_twins = c.self.inside.replica_twins.items; client_twins = c.self.inside.client_twins.items; events = c.self.inside.events } in
+    subst (λ (items : List (Site g.row.P.Denot)). IsCast g.P.Protocol.proto g.P.Protocol.serves (record x { replica_twins = items })) (sym c.in_err-effects-in-ReplicaTwin.ensures.err) c.self.invariant
+
+pub returns-in_err-effects-in-ReplicaTwin-clause-err : goal.returns-in_err-effects-in-ReplicaTwin-clause-err
+returns-in_err-effects-in-ReplicaTwin-clause-err g c =
+    let x : Cast g.row.P.Denot = record { setup = c.self.inside.setup; replicas = c.self.inside.replicas.items; clients = c.self.inside.clients.items; replica_twins = c.self.inside.replica_twins.items; client_twins = c.self.inside.client_twins.items; events = c.self.inside.events } in
+    on_err c.from_residual-in_err-effects-in-ReplicaTwin.result (ap (λ items. record x { replica_twins = items }) c.in_err-effects-in-ReplicaTwin.ensures.err ∙ c.self.view_is)
+
+pub overflow_add-self-in-ReplicaTwin : goal.overflow_add-self-in-ReplicaTwin
+overflow_add-self-in-ReplicaTwin g c = omega (arith, c.requires.few, ap (λ y. y.events) c.self.view_is)
+
+pub invariant_of-self-in_err-effects-in-ClientTwin : goal.invariant_of-self-in_err-effects-in-ClientTwin
+invariant_of-self-in_err-effects-in-ClientTwin g c =
+    let x : Cast g.row.P.Denot = record { setup = c.self.inside.setup; replicas = c.self.inside.replicas.items; clients = c.self.inside.clients.items; replica_twins = c.self.inside.replica_twins.items; client_twins = c.self.inside.client_twins.items; events = c.self.inside.events } in
+    subst (λ (items : List Seat). IsCast g.P.Protocol.proto g.P.Protocol.serves (record x { client_twins = items })) (sym c.in_err-effects-in-ClientTwin.ensures.err) c.self.invariant
+
+pub returns-in_err-effects-in-ClientTwin-clause-err : goal.returns-in_err-effects-in-ClientTwin-clause-err
+returns-in_err-effects-in-ClientTwin-clause-err g c =
+    let x : Cast g.row.P.Denot = record { setup = c.self.inside.setup; replicas = c.self.inside.replicas.items; clients = c.self.inside.clients.items; replica_twins = c.self.inside.replica_twins.items; client_twins = c.self.inside.client_twins.items; events = c.self.inside.events } in
+    on_err c.from_residual-in_err-effects-in-ClientTwin.result (ap (λ items. record x { client_twins = items }) c.in_err-effects-in-ClientTwin.ensures.err ∙ c.self.view_is)
+
+pub overflow_add-self-in-ClientTwin : goal.overflow_add-self-in-ClientTwin
+overflow_add-self-in-ClientTwin g c = omega (arith, c.requires.few, ap (λ y. y.events) c.self.view_is)
