@@ -1,6 +1,6 @@
 //! A replica of Backup in one instance.
 
-ghost use Rattle.std.specs.Prelude.{◌≡◌, if◌then◌else◌};
+ghost use Rattle.std.specs.Prelude.{◌≡◌, [], IfOk, if◌then◌else◌};
 ghost use Rattle.ab_order.specs.Backups.{is_done};
 
 use crate::asked::{asked_in, copied};
@@ -14,6 +14,14 @@ use ab_svc::Service;
 use ab_wire::MsgRef;
 use std::alloc::Global;
 use std::marker::Model;
+
+/// The book of the empty log.
+fn empty_book<S: Service>(alloc: Global) -> Result<Book<S>, OutOfMemory>
+    ensures { IfOk result (λ book. book ≡ []) }
+{
+    let none = History::new(alloc);
+    Book::new(alloc, &none)
+}
 
 /// Replicas log what an orderer orders, answer it, and stop after so many requests as the instance commits. A
 /// client commits on f + 1 equal answers, so a Backup commits whatever f replicas do.
@@ -55,9 +63,9 @@ impl<S: Service, O: Orderer> Protocol<S> for Backup<S, O> {
     }
 
     fn start(alloc: Global, c: &Cluster, i: u32, me: u8, e: &Entry) -> Result<Self, OutOfMemory> {
+        let order = O::start(alloc, c, i, me, e)?;
         let entered = e.base.copy(alloc)?;
-        let none = History::new(alloc);
-        let book = Book::new(alloc, &none)?;
+        let book = empty_book(alloc)?;
         Ok(Backup {
             parts: Parts {
                 instance: i,
@@ -65,7 +73,7 @@ impl<S: Service, O: Orderer> Protocol<S> for Backup<S, O> {
                 limit: c.limit(i),
                 entered,
                 kept: Vec::new(alloc),
-                order: O::start(alloc, c, i, me, e)?,
+                order,
                 book,
             },
         })
@@ -99,15 +107,19 @@ impl<S: Service, O: Orderer> Protocol<S> for Backup<S, O> {
     }
 
     fn copy(&self, alloc: Global) -> Result<Self, OutOfMemory> {
+        let order = self.parts.order.copy(alloc)?;
+        let kept = copied(alloc, self.parts.kept.as_slice())?;
+        let entered = self.parts.entered.copy(alloc)?;
+        let book = self.parts.book.copy(alloc)?;
         Ok(Backup {
             parts: Parts {
                 instance: self.parts.instance,
                 me: self.parts.me,
                 limit: self.parts.limit,
-                entered: self.parts.entered.copy(alloc)?,
-                kept: copied(alloc, self.parts.kept.as_slice())?,
-                order: self.parts.order.copy(alloc)?,
-                book: self.parts.book.copy(alloc)?,
+                entered,
+                kept,
+                order,
+                book,
             },
         })
     }

@@ -172,8 +172,28 @@ impl Desk {
         Ok(book)
     }
 
-    /// The book of a log whose base has just been executed, with the answers to the kept requests that stand in the
+    /// Adds the answers where the base of a book's log has just been executed: to the kept requests that stand in the
     /// base, and to what stands behind it.
+    fn answer_first<S: Service>(
+        self,
+        alloc: Global,
+        outs: &mut Vec<Out>,
+        book: &mut Book<S>,
+        log: &History,
+        base: &History,
+        kept: &[Request],
+    ) -> Result<(), OutOfMemory>
+        requires within { (self.base ≤ length log.now) × (length base.now ≤ length log.now) }
+        requires booked { book.old ≡ log.now }
+        ensures ok { OnOk result (outs.new.items ≡ outs.old.items ++ answers_to S.machine self.instance self.me self.base log.now (those_in base.now kept.now ++ drop (length base.now) log.now)) }
+        ensures same { book.new ≡ book.old }
+    {
+        self.answer_those_in(alloc, outs, book, base, kept)?;
+        self.answer_all(alloc, outs, book, &log.entries()[base.len()..])?;
+        Ok(())
+    }
+
+    /// The book of a log whose base has just been executed, with those answers.
     pub fn begin<S: Service>(
         self,
         alloc: Global,
@@ -187,8 +207,7 @@ impl Desk {
             × (outs.new.items ≡ outs.old.items ++ answers_to S.machine self.instance self.me self.base log.now (those_in base.now kept.now ++ drop (length base.now) log.now))) }
     {
         let mut book = Book::new(alloc, log)?;
-        self.answer_those_in(alloc, outs, &mut book, base, kept)?;
-        self.answer_all(alloc, outs, &mut book, &log.entries()[base.len()..])?;
+        self.answer_first(alloc, outs, &mut book, log, base, kept)?;
         Ok(book)
     }
 
