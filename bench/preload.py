@@ -1,8 +1,12 @@
-"""What scripts share that come between the built program and the C library."""
+"""What scripts share that come between a built program and the C library."""
 
+import argparse
+import collections
+import concurrent.futures
 import os
 import pathlib
 import subprocess
+import time
 
 from timing import PROGRAM
 
@@ -63,3 +67,33 @@ def ran(words, text, **environment):
     """The status of the program, and what it writes and says."""
     done = subprocess.run([PROGRAM, *words], input=text, capture_output=True, env={**os.environ, **environment}, timeout=600)
     return done.returncode, done.stdout, done.stderr
+
+
+def options_of(names):
+    """The words of a script that refuses allocations, some of them under this name."""
+    parser = argparse.ArgumentParser()
+    parser.add_argument(names, nargs="*")
+    parser.add_argument("--lanes", type=int, default=1)
+    parser.add_argument("--minutes", type=float, default=10)
+    return parser.parse_args()
+
+
+def swept(runs, folder, options):
+    """How many allocations the runs ask for, at which step they were refused, and how many of the runs ended in which way. `whole`
+    runs with all memory and has the count written to a file, and `end` says how a run ends where the allocation of a number is
+    refused. Where all would take more than so many minutes, each second is refused, or each third, and so on."""
+    asked, begin = os.path.join(folder, "asked"), time.perf_counter()
+    runs.whole(asked)
+    seconds = time.perf_counter() - begin
+    with open(asked) as f:
+        count = int(f.read())
+    step = 1 + int(count * seconds / (60 * options.minutes * options.lanes))
+    with concurrent.futures.ThreadPoolExecutor(options.lanes) as lanes:
+        ends = collections.Counter(lanes.map(runs.end, range(1, count + 1, step)))
+    return count, step, ends
+
+
+def told(count, step, ends):
+    """What `swept` found, in words."""
+    each = f", of which each {step}th was refused" if step > 1 else ""
+    return f"{count} allocations{each}: " + ", ".join(f"{number} {end}" for end, number in sorted(ends.items()))

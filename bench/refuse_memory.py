@@ -1,51 +1,55 @@
 #!/usr/bin/env python3
 """Runs the built program again and again, and refuses its first allocation, then its second, and so on to the last.
 
-    bench/refuse_memory.py TEXT.. [--every K]
+    bench/refuse_memory.py TEXT.. [--lanes N] [--minutes N]
 
 A text is a schedule, which is replayed, or one that sets up a node, which is served for three turns with nobody else there.
 Each run has to end with status 9, the line `out of memory` and nothing or a front of its report, or as it ends with
 memory, where the allocation that was refused could be done without. Anything else is told, and the status is then 1.
-`--every K` refuses each K-th allocation alone. It needs a C compiler."""
-import os
+As many runs go side by side as there are lanes (1). Where all runs of a text would take more than so many minutes (10), each second
+allocation is refused, or each third, and so on. It needs a C compiler."""
 import sys
 import tempfile
 
-from preload import REFUSER, built, ran
+from preload import REFUSER, built, options_of, ran, swept, told
 
 
-def run(library, path, number, **environment):
-    """A run in which the allocation of this number is refused; 0 refuses none."""
-    with open(path, 'rb') as f:
-        text = f.read()
-    words = ['node', '--base', '24200', '--wait', '20', '--turns', '3'] if text.startswith(b'keys') else ['replay']
-    return ran(words, text, LD_PRELOAD=library, REFUSE=str(number), **environment)
+class Runs:
+    """The runs over a text."""
+
+    def __init__(self, path, library):
+        self.path, self.library, self.all = path, library, None
+        with open(path, "rb") as f:
+            self.text = f.read()
+
+    def run(self, number, **environment):
+        words = ["replay"]
+        if self.text.startswith(b"keys"):
+            # nodes that run side by side have ports of their own
+            words = ["node", "--base", str(24_200 + number % 100 * 50), "--wait", "20", "--turns", "3"]
+        return ran(words, self.text, LD_PRELOAD=self.library, REFUSE=str(number), **environment)
+
+    def whole(self, asked):
+        self.all = self.run(0, ASKED=asked)
+
+    def end(self, number):
+        got = self.run(number)
+        if got == self.all:
+            return "did without"
+        if got[0] == 9 and got[2] == b"out of memory\n" and self.all[1].startswith(got[1]):
+            return "ended with status 9"
+        print(f"{self.path}: allocation {number}: status {got[0]}, {len(got[1])} bytes, {got[2][:80]!r}")
+        return "ended in another way"
 
 
 def main():
-    words, every = sys.argv[1:], 1
-    if '--every' in words:
-        at = words.index('--every')
-        every = int(words[at + 1])
-        del words[at:at + 2]
-    bad = 0
+    options, bad = options_of("texts"), 0
     with tempfile.TemporaryDirectory() as folder:
-        library, asked = built(folder, REFUSER), os.path.join(folder, 'asked')
-        for schedule in words:
-            whole = run(library, schedule, 0, ASKED=asked)
-            with open(asked) as f:
-                count = int(f.read())
-            spared = refused = 0
-            for number in range(1, count + 1, every):
-                got = run(library, schedule, number)
-                if got == whole:
-                    spared += 1
-                elif got[0] == 9 and got[2] == b'out of memory\n' and whole[1].startswith(got[1]):
-                    refused += 1
-                else:
-                    bad += 1
-                    print(f'{schedule}: allocation {number}: status {got[0]}, {len(got[1])} bytes, {got[2][:80]!r}')
-            print(f'{schedule}: {count} allocations; refused: {refused} runs ended with status 9, {spared} did without')
+        library = built(folder, REFUSER)
+        for path in options.texts:
+            count, step, ends = swept(Runs(path, library), folder, options)
+            bad += ends["ended in another way"]
+            print(f"{path}: {told(count, step, ends)}", flush=True)
     sys.exit(1 if bad else 0)
 
 
