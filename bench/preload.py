@@ -10,7 +10,7 @@ import time
 
 from timing import PROGRAM
 
-# Refuses the allocation whose number REFUSE has, and writes how many there were to the file ASKED.
+# Refuses the allocation whose number REFUSE has, and with REFUSE_REST all after it. Writes how many there were to the file ASKED.
 REFUSER = r'''
 #define _GNU_SOURCE
 #include <dlfcn.h>
@@ -19,9 +19,18 @@ REFUSER = r'''
 #include <stdio.h>
 #include <unistd.h>
 static long asked, refused;
-static int ready;
-static void begin(void) { const char *n = getenv("REFUSE"); refused = n ? atol(n) : 0; ready = 1; }
-static int refuse(void) { if (!ready) begin(); return ++asked == refused; }
+static int ready, rest;
+static void begin(void) {
+    const char *n = getenv("REFUSE");
+    refused = n ? atol(n) : 0;
+    rest = getenv("REFUSE_REST") != NULL;
+    ready = 1;
+}
+static int refuse(void) {
+    if (!ready) begin();
+    asked++;
+    return asked == refused || (rest && 0 < refused && refused < asked);
+}
 void *malloc(size_t n) {
     static void *(*real)(size_t);
     if (!real) real = dlsym(RTLD_NEXT, "malloc");
@@ -75,7 +84,13 @@ def options_of(names):
     parser.add_argument(names, nargs="*")
     parser.add_argument("--lanes", type=int, default=1)
     parser.add_argument("--minutes", type=float, default=10)
+    parser.add_argument("--rest", action="store_true")
     return parser.parse_args()
+
+
+def refusing(library, number, options):
+    """The environment in which the allocation of this number is refused; none is if it is 0."""
+    return {"LD_PRELOAD": library, "REFUSE": str(number), **({"REFUSE_REST": "1"} if options.rest else {})}
 
 
 def swept(runs, folder, options):

@@ -1,24 +1,25 @@
 #!/usr/bin/env python3
 """Runs the built program again and again, and refuses its first allocation, then its second, and so on to the last.
 
-    bench/refuse_memory.py TEXT.. [--lanes N] [--minutes N]
+    bench/refuse_memory.py TEXT.. [--lanes N] [--minutes N] [--rest]
 
 A text is a schedule, which is replayed, or one that sets up a node, which is served for three turns with nobody else there.
 Each run has to end with status 9, the line `out of memory` and nothing or a front of its report, or as it ends with
 memory, where the allocation that was refused could be done without. Anything else is told, and the status is then 1.
-As many runs go side by side as there are lanes (1). Where all runs of a text would take more than so many minutes (10), each second
-allocation is refused, or each third, and so on. It needs a C compiler."""
+With `--rest` all allocations after the first that is refused are refused too. As many runs go side by side as there are lanes (1).
+Where all runs of a text would take more than so many minutes (10), each second allocation is refused, or each third, and so on. It
+needs a C compiler."""
 import sys
 import tempfile
 
-from preload import REFUSER, built, options_of, ran, swept, told
+from preload import REFUSER, built, options_of, ran, refusing, swept, told
 
 
 class Runs:
     """The runs over a text."""
 
-    def __init__(self, path, library):
-        self.path, self.library, self.all = path, library, None
+    def __init__(self, path, library, options):
+        self.path, self.library, self.options, self.all = path, library, options, None
         with open(path, "rb") as f:
             self.text = f.read()
 
@@ -27,7 +28,7 @@ class Runs:
         if self.text.startswith(b"keys"):
             # nodes that run side by side have ports of their own
             words = ["node", "--base", str(24_200 + number % 100 * 50), "--wait", "20", "--turns", "3"]
-        return ran(words, self.text, LD_PRELOAD=self.library, REFUSE=str(number), **environment)
+        return ran(words, self.text, **refusing(self.library, number, self.options), **environment)
 
     def whole(self, asked):
         self.all = self.run(0, ASKED=asked)
@@ -47,7 +48,7 @@ def main():
     with tempfile.TemporaryDirectory() as folder:
         library = built(folder, REFUSER)
         for path in options.texts:
-            count, step, ends = swept(Runs(path, library), folder, options)
+            count, step, ends = swept(Runs(path, library, options), folder, options)
             bad += ends["ended in another way"]
             print(f"{path}: {told(count, step, ends)}", flush=True)
     sys.exit(1 if bad else 0)

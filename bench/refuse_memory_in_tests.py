@@ -1,14 +1,14 @@
 #!/usr/bin/env python3
 """Runs each built test again and again, and refuses its first allocation, then its second, and so on to the last.
 
-    bench/refuse_memory_in_tests.py [NAME..] [--lanes N] [--minutes N]
+    bench/refuse_memory_in_tests.py [NAME..] [--lanes N] [--minutes N] [--rest]
 
 Tests are built by `rt test NAME`; those of the named crates are run, or of all that are built. Each run has to pass, where the
 allocation could be done without, or to fail by its result or an assertion. Of those that fail it is counted how many say that
 memory was refused: a test whose helpers answer whether something is so doesn't say why it isn't. Anything else, such as another
-signal or a run that takes more than a minute, is told, and the status is then 1. As many runs go side by side as there are lanes (1).
-Where all runs of a test would take more than so many minutes (10), each second allocation is refused, or each third, and so on. It
-needs a C compiler."""
+signal or a run that takes more than a minute, is told, and the status is then 1. With `--rest` all allocations after the first that
+is refused are refused too. As many runs go side by side as there are lanes (1). Where all runs of a test would take more than so many
+minutes (10), each second allocation is refused, or each third, and so on. It needs a C compiler."""
 import collections
 import os
 import re
@@ -17,7 +17,7 @@ import subprocess
 import sys
 import tempfile
 
-from preload import REFUSER, built, options_of, swept, told
+from preload import REFUSER, built, options_of, refusing, swept, told
 from timing import TOP
 
 # The status of a test whose result is an error; an assertion that fails ends it by SIGABRT.
@@ -36,11 +36,11 @@ def tests_of(program):
 class Runs:
     """The runs of a test."""
 
-    def __init__(self, program, test, library):
-        self.program, self.test, self.library = program, test, library
+    def __init__(self, program, test, library, options):
+        self.program, self.test, self.library, self.options = program, test, library, options
 
     def run(self, number, **environment):
-        words = {**os.environ, "LD_PRELOAD": self.library, "REFUSE": str(number), **environment}
+        words = {**os.environ, **refusing(self.library, number, self.options), **environment}
         try:
             done = subprocess.run([self.program, self.test], capture_output=True, env=words, timeout=60)
         except subprocess.TimeoutExpired:
@@ -70,7 +70,7 @@ def main():
         library = built(folder, REFUSER)
         for name in options.names or found:
             for test in tests_of(found[name]):
-                count, step, ends = swept(Runs(found[name], test, library), folder, options)
+                count, step, ends = swept(Runs(found[name], test, library, options), folder, options)
                 asked += count
                 sums += ends
                 print(f"{name} {test}: {told(count, step, ends)}", flush=True)
