@@ -1,8 +1,11 @@
 //! Datagrams over the loopback address.
 
-ghost use Rattle.std.specs.Prelude.{◌≤◌, length};
+ghost use Rattle.std.specs.Prelude.{◌≡◌, ◌≤◌, length, Err, IfErr, IsSome, OnOk};
 ghost use Rattle.std.specs.declared.option.Option.TheVariants.{None};
+ghost use Rattle.ab_io.specs.Causes.{HasCause, HasGotCause, HasRefusalCause};
 ghost use Rattle.ab_io.specs.Datagrams.{FitsIn};
+ghost use Rattle.ab_io.specs.declared.fault.Refused.TheVariants as refused;
+ghost use Rattle.ab_io.specs.declared.link.Got.TheVariants as got;
 
 use ab_io::{Failed, Got, LONGEST_DATAGRAM, Link, Refused};
 use std::io::ErrorKind;
@@ -21,7 +24,9 @@ pub struct UdpLink<R: Net + Drop> {
 
 impl<R: Net + Drop> UdpLink<R> {
     /// A link that isn't open.
-    pub fn new(net: R) -> Self {
+    pub fn new(net: R) -> Self
+        ensures { (result.socket ≡ None) × (result.faults ≡ 0) × (result.losses ≡ 0) }
+    {
         UdpLink {
             net,
             socket: None,
@@ -64,7 +69,11 @@ impl<R: Net + Drop> Link for UdpLink<R> {
 
     ghost losses = { λ l. l.losses };
 
-    fn open(&mut self, port: u16) -> Result<(), Failed> {
+    fn open(&mut self, port: u16) -> Result<(), Failed>
+        ensures open { OnOk result (IsSome self.new.socket) }
+        ensures cause { HasCause self.old.faults self.new.faults result }
+        ensures losses { self.new.losses ≡ self.old.losses }
+    {
         match UdpSocket::bind(&self.net, address(port)) {
             Ok(socket) => {
                 self.socket = Some(socket);
@@ -77,7 +86,15 @@ impl<R: Net + Drop> Link for UdpLink<R> {
         }
     }
 
-    fn recv(&mut self, buf: &mut [u8], wait_ms: u32) -> Got {
+    /// Nothing comes before the port is open.
+    fn recv(&mut self, buf: &mut [u8], wait_ms: u32) -> Got
+        requires { 8209 ≤ length buf.old }
+        ensures closed { self.old.socket ≡ None → result ≡ got.Failed }
+        ensures socket { self.new.socket ≡ self.old.socket }
+        ensures bound { FitsIn 8209 result }
+        ensures cause { HasGotCause self.old.faults self.new.faults result }
+        ensures losses { self.new.losses ≡ self.old.losses }
+    {
         let got = match &self.socket {
             Some(socket) => received(socket, buf, wait_ms),
             None => Got::Failed,
@@ -88,7 +105,14 @@ impl<R: Net + Drop> Link for UdpLink<R> {
         got
     }
 
-    fn send(&mut self, port: u16, bytes: &[u8]) -> Result<(), Refused> {
+    /// Nothing is sent before the port is open.
+    fn send(&mut self, port: u16, bytes: &[u8]) -> Result<(), Refused>
+        ensures closed { self.old.socket ≡ None → result ≡ Err refused.Failed }
+        ensures refused { IfErr result (λ why. why ≡ refused.Failed) }
+        ensures socket { self.new.socket ≡ self.old.socket }
+        ensures faults { self.new.faults ≡ self.old.faults }
+        ensures cause { HasRefusalCause self.old.losses self.new.losses result }
+    {
         let sent = match &self.socket {
             Some(socket) => socket.send_to(bytes, address(port)).is_ok(),
             None => false,

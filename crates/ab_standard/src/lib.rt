@@ -5,5 +5,5 @@
 mod arguments;
 mod standard;
 
-pub use arguments::words;
+pub use arguments::{texts, words};
 pub use standard::{StdSink, StdSource};

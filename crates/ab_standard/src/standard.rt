@@ -1,8 +1,9 @@
 //! A source and a sink over any reader and writer of std, which do not tell their bytes.
 
-ghost use Rattle.std.specs.Prelude.{◌≡◌, ◌<◌, ◌≤◌, length, IfOk};
+ghost use Rattle.std.specs.Prelude.{◌≡◌, ◌<◌, ◌≤◌, length, IfErr, IfOk};
 ghost use Rattle.std.specs.Io.KnownBytes.{ReadConsumes, WriteAppends};
 ghost use Rattle.ab_io.specs.Causes.{HasCause, HasRefusalCause};
+ghost use Rattle.ab_io.specs.declared.fault.Refused.TheVariants as refused;
 ghost use Rattle.std.specs.declared.option.Option.TheVariants.{None};
 
 use ab_io::{Failed, Refused, Sink, Source};
@@ -20,7 +21,7 @@ pub struct StdSource<R> {
 
 impl<R> StdSource<R> {
     pub fn new(inner: R) -> StdSource<R>
-        ensures { result.inner ≡ inner }
+        ensures { (result.inner ≡ inner) × (result.faults ≡ 0) }
     {
         StdSource { inner, faults: 0 }
     }
@@ -59,7 +60,7 @@ pub struct StdSink<W> {
 
 impl<W> StdSink<W> {
     pub fn new(inner: W) -> StdSink<W>
-        ensures { result.inner ≡ inner }
+        ensures { (result.inner ≡ inner) × (result.faults ≡ 0) }
     {
         StdSink { inner, faults: 0 }
     }
@@ -74,6 +75,7 @@ impl<W: Write> Sink for StdSink<W> {
         ensures bound { IfOk result (λ n. (0 < n) × (n ≤ length bytes.now)) }
         ensures bytes { WriteAppends None None result bytes.now }
         ensures cause { HasRefusalCause self.old.faults self.new.faults result }
+        ensures refused { IfErr result (λ why. why ≡ refused.Failed) }
         // what the writer says that it took was given to it
         ensures writer { WriteAppends (W.contents self.old.inner) (W.contents self.new.inner) result bytes.now }
     {

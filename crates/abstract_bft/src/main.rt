@@ -7,24 +7,20 @@
 //! commands are unanswered, and 9 where memory was refused.
 #![tactic(auto)]
 
+ghost use Rattle.std.specs.Prelude.{◌≡◌, IfOk};
+ghost use Rattle.std.specs.declared.option.Option.TheVariants.{None};
+
 use ab_command::{refuse_memory, run};
 use ab_net::{StdClock, UdpLink};
-use ab_standard::{StdSink, StdSource, words};
-use std::alloc::{AllocError, Global};
+use ab_standard::{StdSink, StdSource, texts, words};
+use std::alloc::AllocError;
 use std::io;
 use std::process::ExitCode;
 
-/// The words as texts.
-fn texts<'a>(alloc: Global, words: &'a [String]) -> Result<Vec<&'a str>, AllocError> {
-    let mut all = Vec::new(alloc);
-    for word in words {
-        all.push(word.as_str())?;
-    }
-    Ok(all)
-}
-
 /// Datagrams over the loopback address, and the system's clock.
-fn network(rt: &HostRuntime) -> Result<(UdpLink<HostRuntime>, StdClock<HostRuntime>), AllocError> {
+fn network(rt: &HostRuntime) -> Result<(UdpLink<HostRuntime>, StdClock<HostRuntime>), AllocError>
+    ensures { IfOk result (λ both. (both.0.socket ≡ None) × (both.1 ≡ 0)) }
+{
     let link = UdpLink::new(rt.clone()?);
     let clock = StdClock::new(rt.clone()?);
     Ok((link, clock))

@@ -6,20 +6,10 @@
 #![tactic(auto)]
 
 use ab_command::refuse_memory;
-use ab_standard::{StdSink, words};
+use ab_standard::{StdSink, texts, words};
 use ab_storm_schedule::serve;
-use std::alloc::{AllocError, Global};
 use std::io;
 use std::process::ExitCode;
-
-/// The words as texts.
-fn texts<'a>(alloc: Global, words: &'a [String]) -> Result<Vec<&'a str>, AllocError> {
-    let mut all = Vec::new(alloc);
-    for word in words {
-        all.push(word.as_str())?;
-    }
-    Ok(all)
-}
 
 fn main(rt: HostRuntime) -> ExitCode {
     let alloc = rt.alloc();
