@@ -1,5 +1,6 @@
 -- The lemmas that the proofs of this crate share.
 pub mod Answering
 pub mod NodeStatuses
+pub mod Settled
 pub mod StatusLemmas
 pub mod StormWords

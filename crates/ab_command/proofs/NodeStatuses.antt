@@ -23,7 +23,8 @@ use Rattle.ab_command.specs.declared.status.Status.TheVariants.{Done, Broken, Us
 use Rattle.ab_command.specs.Texts.{code_of, stop_status}
 use Rattle.ab_command.specs.Calls.{Call, meeting_of}
 use Rattle.ab_command.specs.Commands.{AsksNode}
-use Rattle.ab_command.specs.Statuses.{HasFront, IsClearForNode, IsServedOut, Says, Settles, StatusCause}
+use Rattle.ab_command.specs.Endings.{Says, Settles}
+use Rattle.ab_command.specs.Statuses.{HasFront, IsClearForNode, IsServedOut, StatusCause}
 use Rattle.ab_command.proofs.StatusLemmas.{keys_or_node, not_none, not_too_long, replay_or_node, same_input, settled, storm_or_node}
 
 -- ---- whose counts rose, whatever the party
@@ -85,7 +86,7 @@ module _ (c : Call) (k : NodeCommand) (clear : IsClearForNode c k) where
 
 -- ---- a node that stopped
 
-stopped_status : (c : Call) (k : NodeCommand) (why : Stop) → AsksNode c.words k → StopCause why c.left c.read_before c.read_now (meeting_of k c) → HasFront c → Says (stop_status why) c → StatusCause (stop_status why) c
+stopped_status : (c : Call) (k : NodeCommand) (why : Stop) → AsksNode c.words k → StopCause why c.left c.read_before c.read_now (meeting_of k c) → HasFront c → Says (stop_status why) c.err → StatusCause (stop_status why) c
 stopped_status c k stop.Read asks cause front said = (inr (k, asks, cause), said)
 stopped_status c k stop.TooLong asks cause front said = (inr (k, asks, cause), said)
 stopped_status c k (stop.Refused r) asks cause front said = (inr (k, asks, cause), said)
@@ -98,7 +99,7 @@ stopped_status c k (stop.Serving (serving.TurnsSpent n)) asks cause front said =
 stopped_status c k stop.OutOfMemory asks cause front said = (front, inl said)
 
 -- and that was to be said
-pub stop_settled : (c : Call) (k : NodeCommand) (r : Status) (why : Stop) → Settles r (stop_status why) c.err_old c.err_new c.err_before c.err_now → AsksNode c.words k
+pub stop_settled : (c : Call) (k : NodeCommand) (r : Status) (why : Stop) → Settles r (stop_status why) c.err → AsksNode c.words k
     → StopCause why c.left c.read_before c.read_now (meeting_of k c) → StatusCause r c
 stop_settled c k r why how asks cause =
     let front : HasFront c = inr (inr (inr (inr (why, (k, asks, cause))))) in

@@ -1,7 +1,6 @@
 -- What follows from the causes of statuses.
 use Rattle.std.proofs.Common.{◌≡◌, ◌↔◌, ℕ, ◌<◌, ◌≤◌, ◌⊎◌, List, Bool, true, false, IsTrue, Ok, Err, Result, if◌then◌else◌, length, arith, refl, sym, ap, ◌∙◌, subst, inl, inr}
 use Rattle.std.proofs.Common.{Option, None, Some}
-use Rattle.std.specs.Io.KnownBytes.{Appends, Keeps}
 use Rattle.ab_num.specs.declared.plan.ServiceName.{ServiceName}
 use Rattle.ab_num.specs.declared.plan.ServiceName.TheVariants.{Echo, Kv}
 use Rattle.ab_svc.specs.Machines.{Machine}
@@ -22,18 +21,20 @@ use Rattle.ab_words.specs.Commands.{KeysCommand, NodeCommand, StormCommand}
 use Rattle.ab_words.specs.Language.{command_in}
 use Rattle.ab_command.specs.Calls.{Call}
 use Rattle.ab_command.specs.Commands.{AsksKeys, AsksNode, AsksStorm, IsReplay, key_text}
-use Rattle.ab_io.specs.Causes.{Rose}
 use Rattle.ab_world.specs.declared.fault.WorldFault.{WorldFault}
 use Rattle.ab_world.specs.declared.fault.WorldFault.TheVariants.{PacketLimit}
 use Rattle.ab_world.specs.Worlds.{World, premise_of}
-use Rattle.ab_replay.specs.Replays.{Performs, PerformsAs, IsRefused, ReplayCause, RunsTo, proto_of, Runs}
+use Rattle.ab_replay.specs.Replays.{Performs, PerformsAs, IsRefused, ReplayCause, Replays, RunsTo, proto_of, Runs}
 use Rattle.ab_replay.proofs.RunLemmas.{one_end}
 use Rattle.ab_kv.specs.KvMachines.{kv_machine}
 use Rattle.ab_replay.specs.declared.refusal.Refusal.{Refusal}
 use Rattle.ab_replay.specs.declared.running.ReplayFault.{ReplayFault}
 use Rattle.ab_replay.specs.declared.running.ReplayFault.TheVariants as replaying
 use Rattle.ab_storm_run.specs.Runs.{Storms}
-use Rattle.ab_command.specs.Statuses.{StatusCause, Says, SaysNoMemoryOn, Settles, HasFront, HasReport, HasSummary, IsToldWhole, KeepsOut, Passes, kv, IsClear, IsClearForKeys, IsClearForStorm, premise_code}
+use Rattle.ab_command.specs.Endings.{HasInput, Says, SaysNoMemory, Settles, WritesOrSays}
+use Rattle.ab_command.specs.Outputs.{Output, Gets, GetsFront, HasFailed, IsKept}
+use Rattle.ab_command.specs.Statuses.{StatusCause, HasFront, HasReport, HasSummary, IsToldWhole, Passes, kv, IsClear, IsClearForKeys, IsClearForStorm, premise_code}
+use Rattle.ab_command.proofs.Settled.{settled_as, written_or_said}
 
 -- a run has one end
 said_at : {S : Type 0} (machine : Machine S) (s : Script) (report : List ℕ) (held : Bool) (end : World Any) → Performs machine s report held → RunsTo (any machine) s (Ok end)
@@ -146,14 +147,14 @@ module _ (one : (text : List ℕ) (r q : Result Script TextFault) → ReadsText 
 
 -- where keys are asked for
 module _ (c : Call) (k : KeysCommand) (clear : IsClearForKeys c k) where
-  pub keys_status : (s : Status) → StatusCause s c → ((code_of s ≡ 0) × Appends c.out_old c.out_new (key_text k)) ⊎ (code_of s ≡ 9)
+  pub keys_status : (s : Status) → StatusCause s c → ((code_of s ≡ 0) × Gets c.out (key_text k)) ⊎ (code_of s ≡ 9)
   keys_status Done (inl (words, report), kept) = absurd (replay_or_keys c.words k words clear.words)
   keys_status Done (inr (inr (inl (s, summary, asks, storms, written))), kept) = absurd (keys_or_storm c.words k s clear.words asks)
   keys_status Done (inr (inr (inr (n, asks, served))), kept) = absurd (keys_or_node c.words k n clear.words asks)
   keys_status Done (inr (inl (j, asks, written)), kept) =
       let e : ◌≡◌ {A = Option Command} (Some (Keys j)) (Some (Keys k)) = sym asks ∙ clear.words in
       let same : j ≡ k = cc in
-      inl (refl, subst (λ (x : KeysCommand). Appends c.out_old c.out_new (key_text x)) same written)
+      inl (refl, subst (λ (x : KeysCommand). Gets c.out (key_text x)) same written)
   keys_status Broken (inl (words, report), kept) = absurd (replay_or_keys c.words k words clear.words)
   keys_status Broken (inr (s, summary, asks, storms, written), kept) = absurd (keys_or_storm c.words k s clear.words asks)
   keys_status Usage (none, kept, said) = absurd (not_none c.words (Keys k) clear.words none)
@@ -186,7 +187,7 @@ module _ (c : Call) (k : StormCommand) (clear : IsClearForStorm c k) where
         end = ours.end;
         runs = record { cluster = ours.cluster; sized = ours.sized; runs = ours.runs };
         code = is ∙ held_code held (premise_of ours.end) ours.says;
-        whole = subst (λ (text : List ℕ). Appends c.out_old c.out_new text) ours.sums written;
+        whole = subst (λ (text : List ℕ). Gets c.out text) ours.sums written;
       })
 
   pub storm_status : (s : Status) → StatusCause s c → Told (code_of s)
@@ -214,29 +215,47 @@ module _ (c : Call) (k : StormCommand) (clear : IsClearForStorm c k) where
   storm_status (TurnsSpent m) ((n, asks, why), said) = absurd (storm_or_node c.words k n clear.words asks)
   storm_status OutOfMemory cause = inr (inr refl)
 
-written_whole : (c : Call) (held : Bool) → IsReplay c.words → HasReport held c → Keeps c.err_old c.err_new → StatusCause (if held then Done else Broken) c
+written_whole : (c : Call) (held : Bool) → IsReplay c.words → HasReport held c → IsKept c.err → StatusCause (if held then Done else Broken) c
 written_whole c true words report kept = (inl (words, report), kept)
 written_whole c false words report kept = (inl (words, report), kept)
 
--- a report that was written whole
-pub report_written : (c : Call) (r : Status) (held : Bool) → r ≡ (if held then Done else Broken) → IsReplay c.words → HasReport held c → Keeps c.err_old c.err_new → StatusCause r c
-report_written c r held is words report kept = subst (λ (s : Status). StatusCause s c) (sym is) (written_whole c held words report kept)
-
-summed_whole : (c : Call) (held : Bool) → HasSummary held c → Keeps c.err_old c.err_new → StatusCause (if held then Done else Broken) c
+summed_whole : (c : Call) (held : Bool) → HasSummary held c → IsKept c.err → StatusCause (if held then Done else Broken) c
 summed_whole c true summary kept = (inr (inr (inl summary)), kept)
 summed_whole c false summary kept = (inr summary, kept)
 
--- a summary that was written whole
-pub summary_written : (c : Call) (r : Status) (held : Bool) → r ≡ (if held then Done else Broken) → HasSummary held c → Keeps c.err_old c.err_new → StatusCause r c
-summary_written c r held is summary kept = subst (λ (s : Status). StatusCause s c) (sym is) (summed_whole c held summary kept)
+-- a text that was to be written has its cause
+text_told : (c : Call) (r s : Status) (text : List ℕ) → WritesOrSays r s text c.out c.err → (Gets c.out text → IsKept c.err → StatusCause s c) → (GetsFront c.out text → HasFront c) → StatusCause r c
+text_told c r s text how whole front =
+    written_or_said (λ x. StatusCause x c) r s text c.out c.err how whole (λ part fails. (fails, front part)) (λ part says. (front part, says))
+
+-- a report that was to be written
+pub report_told : (c : Call) (r s : Status) (report : List ℕ) (held : Bool) → WritesOrSays r s report c.out c.err → s ≡ (if held then Done else Broken) → IsReplay c.words
+    → HasInput (λ text. Replays text report held) c.left → StatusCause r c
+report_told c r s report held how is words input =
+    text_told c r s report how
+    (λ got kept. subst (λ (x : Status). StatusCause x c) (sym is) (written_whole c held words (report, input, got) kept))
+    (λ part. inr (inl (report, held, input, part)))
+
+-- a key text
+pub keys_told : (c : Call) (k : KeysCommand) (r : Status) (text : List ℕ) → WritesOrSays r Done text c.out c.err → text ≡ key_text k → AsksKeys c.words k → StatusCause r c
+keys_told c k r text how is asks =
+    text_told c r Done text how
+    (λ got kept. (inr (inl (k, asks, subst (Gets c.out) is got)), kept))
+    (λ part. inr (inr (inl (k, asks, subst (GetsFront c.out) is part))))
+
+-- a summary
+pub summary_told : (c : Call) (k : StormCommand) (r s : Status) (summary : List ℕ) (held : Bool) → WritesOrSays r s summary c.out c.err → s ≡ (if held then Done else Broken) → AsksStorm c.words k
+    → Storms kv_machine kv k summary held → StatusCause r c
+summary_told c k r s summary held how is asks storms =
+    text_told c r s summary how
+    (λ got kept. subst (λ (x : Status). StatusCause x c) (sym is) (summed_whole c held (k, summary, asks, storms, got) kept))
+    (λ part. inr (inr (inr (inl (k, summary, held, asks, storms, part)))))
 
 -- a status that was to be said has its cause, where it has it once it is said
-pub settled : (c : Call) (r s : Status) → Settles r s c.err_old c.err_new c.err_before c.err_now → (Says s c → StatusCause s c) → HasFront c → StatusCause r c
-settled c r s (inl (e, said)) make front = subst (λ (x : Status). StatusCause x c) (sym e) (make said)
-settled c r s (inr (inl (e, rose))) make front = subst (λ (x : Status). StatusCause x c) (sym e) (inr rose, front)
-settled c r s (inr (inr (e, says))) make front = subst (λ (x : Status). StatusCause x c) (sym e) (front, says)
+pub settled : (c : Call) (r s : Status) → Settles r s c.err → (Says s c.err → StatusCause s c) → HasFront c → StatusCause r c
+settled c r s how make front = settled_as (λ x. StatusCause x c) r s c.err how make (λ rose. (inr rose, front)) (λ says. (front, says))
 
-fault_said : (c : Call) (fault : ReplayFault) → IsReplay c.words → ReplayCause fault c.left c.read_before c.read_now → KeepsOut c → Says (fault_status fault) c → StatusCause (fault_status fault) c
+fault_said : (c : Call) (fault : ReplayFault) → IsReplay c.words → ReplayCause fault c.left c.read_before c.read_now → IsKept c.out → Says (fault_status fault) c.err → StatusCause (fault_status fault) c
 fault_said c replaying.Read replay rose kept said = (inl (replay, rose, kept), said)
 fault_said c replaying.TooLong replay long kept said = (inl (replay, long, kept), said)
 fault_said c (replaying.Refused r) replay refused kept said = (inl (replay, refused, kept), said)
@@ -245,25 +264,20 @@ fault_said c replaying.TooManyPackets replay many kept said = (inl (replay, many
 fault_said c replaying.OutOfMemory replay cause kept said = (inl kept, inl said)
 
 -- why a schedule isn't replayed
-pub replay_settled : (c : Call) (r : Status) (fault : ReplayFault) → Settles r (fault_status fault) c.err_old c.err_new c.err_before c.err_now → IsReplay c.words
-    → ReplayCause fault c.left c.read_before c.read_now → KeepsOut c → StatusCause r c
+pub replay_settled : (c : Call) (r : Status) (fault : ReplayFault) → Settles r (fault_status fault) c.err → IsReplay c.words
+    → ReplayCause fault c.left c.read_before c.read_now → IsKept c.out → StatusCause r c
 replay_settled c r fault how replay cause kept = settled c r (fault_status fault) how (fault_said c fault replay cause kept) (inl kept)
 
 -- a storm that passes the limit of bytes
-pub limit_settled : (c : Call) (k : StormCommand) (r : Status) → Settles r (Limit Packets) c.err_old c.err_new c.err_before c.err_now → AsksStorm c.words k → Passes k → KeepsOut c → StatusCause r c
+pub limit_settled : (c : Call) (k : StormCommand) (r : Status) → Settles r (Limit Packets) c.err → AsksStorm c.words k → Passes k → IsKept c.out → StatusCause r c
 limit_settled c k r how asks passes kept = settled c r (Limit Packets) how (λ said. (inr (k, asks, passes), kept, said)) (inl kept)
 
 -- want of memory that was to be said
-pub memory_settled : (c : Call) (r : Status) → Settles r OutOfMemory c.err_old c.err_new c.err_before c.err_now → HasFront c → StatusCause r c
+pub memory_settled : (c : Call) (r : Status) → Settles r OutOfMemory c.err → HasFront c → StatusCause r c
 memory_settled c r how front = settled c r OutOfMemory how (λ said. (front, inl said)) front
 
--- a fault of out that was to be said
-pub write_settled : (c : Call) (r : Status) → Settles r WriteFault c.err_old c.err_new c.err_before c.err_now → Rose c.out_before c.out_now → HasFront c → StatusCause r c
-write_settled c r how rose front = settled c r WriteFault how (λ said. (inl (rose, said), front)) front
-
 -- want of memory before the command began
-pub refused_memory : (r : Status) (old new : Option (List ℕ)) (before now : ℕ) → Settles r OutOfMemory old new before now
-    → ((code_of r ≡ 9) × SaysNoMemoryOn old new) ⊎ ((code_of r ≡ 5) × Rose before now)
-refused_memory r old new before now (inl (e, said)) = inl (ap code_of e, inl said)
-refused_memory r old new before now (inr (inl (e, rose))) = inr (ap code_of e, rose)
-refused_memory r old new before now (inr (inr (e, says))) = inl (ap code_of e, says)
+pub refused_memory : (r : Status) (err : Output) → Settles r OutOfMemory err → ((code_of r ≡ 9) × SaysNoMemory err) ⊎ ((code_of r ≡ 5) × HasFailed err)
+refused_memory r err (inl (e, said)) = inl (ap code_of e, inl said)
+refused_memory r err (inr (inl (e, rose))) = inr (ap code_of e, rose)
+refused_memory r err (inr (inr (e, says))) = inl (ap code_of e, says)

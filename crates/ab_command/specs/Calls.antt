@@ -4,6 +4,7 @@ use Rattle.ab_io.specs.Readings.{Readings}
 use Rattle.ab_words.specs.Commands.{NodeCommand}
 use Rattle.ab_loop.specs.Outside.{Datagram, counts, outside}
 use Rattle.ab_node.specs.Nodes.{Meeting}
+use Rattle.ab_command.specs.Outputs.{Output}
 
 -- what clock and link were to tell, what was sent before and after, and the link's counts of faults and of losses
 pub record Network : Type 0 where
@@ -16,21 +17,15 @@ pub record Network : Type 0 where
   pub losses_before : ℕ
   pub losses_now : ℕ
 
--- what a call of the program met: its words, what was left of the input, what out and err held before and after, the
--- counts of faults before and after, and the network
+-- what a call of the program met: its words, what was left of the input, the input's counts of faults before and after, its outputs,
+-- and the network
 pub record Call : Type 0 where
   pub words : List (List ℕ)
   pub left : Option (List ℕ)
-  pub out_old : Option (List ℕ)
-  pub out_new : Option (List ℕ)
-  pub err_old : Option (List ℕ)
-  pub err_new : Option (List ℕ)
   pub read_before : ℕ
   pub read_now : ℕ
-  pub out_before : ℕ
-  pub out_now : ℕ
-  pub err_before : ℕ
-  pub err_now : ℕ
+  pub out : Output
+  pub err : Output
   pub network : Network
 
 -- what a node met that was asked for
@@ -39,8 +34,8 @@ meeting_of k c = record {
   asked = k;
   clock = c.network.clock;
   link = c.network.to_come;
-  old = outside c.out_old c.network.sent_old;
-  new = outside c.out_new c.network.sent_new;
-  before = counts c.network.link_before c.out_before c.network.losses_before;
-  after = counts c.network.link_now c.out_now c.network.losses_now;
+  old = outside c.out.old c.network.sent_old;
+  new = outside c.out.new c.network.sent_new;
+  before = counts c.network.link_before c.out.before c.network.losses_before;
+  after = counts c.network.link_now c.out.after c.network.losses_now;
 }

@@ -1,5 +1,7 @@
 -- What the contracts of this crate cite.
 pub mod Calls
 pub mod Commands
+pub mod Endings
+pub mod Outputs
 pub mod Statuses
 pub mod Texts

@@ -1,18 +1,17 @@
 -- The statuses of the top call, each with its cause.
 use Rattle.std.specs.Prelude.{◌≡◌, ◌≤◌, ℕ, Bool, true, false, List, [], ◌∷◌, ◌⊎◌, Option, Some, Ok, Err, length, codes}
-use Rattle.std.specs.Io.KnownBytes.{Appends, Keeps}
 use Rattle.ab_io.specs.Causes.{Rose}
 use Rattle.ab_command.specs.declared.status.Bound.TheVariants.{Bytes, Events, Packets}
 use Rattle.ab_command.specs.declared.status.Status.{Status}
 use Rattle.ab_command.specs.declared.status.Status.TheVariants.{Done, Broken, Usage, Refused, ReadFault, WriteFault, LinkFault, Limit, TurnsSpent, OutOfMemory}
-use Rattle.ab_command.specs.Texts.{code_of, text_of}
+use Rattle.ab_command.specs.Texts.{code_of}
 use Rattle.ab_loop.specs.declared.fault.ServeFault.TheVariants as serving
 use Rattle.ab_loop.specs.declared.serving.Served.{Served}
 use Rattle.ab_loop.specs.Nodes.{is_client}
 use Rattle.ab_node.specs.declared.stop.Stop.{Stop}
 use Rattle.ab_node.specs.declared.stop.Stop.TheVariants as stop
 use Rattle.ab_node.specs.Nodes.{IsServed, StopCause}
-use Rattle.ab_replay.specs.Streams.{IsInput, IsTooLong, AppendsFront, AppendsPart}
+use Rattle.ab_replay.specs.Streams.{IsTooLong}
 use Rattle.ab_text.specs.Heads.{Script}
 use Rattle.ab_text.specs.Lines.{lines_of}
 use Rattle.ab_text.specs.Schedules.{ReadsText}
@@ -27,41 +26,23 @@ use Rattle.ab_kv.specs.KvMachines.{kv_machine}
 use Rattle.ab_replay.specs.Protocols.{Any, any}
 use Rattle.ab_command.specs.Calls.{Call, meeting_of}
 use Rattle.ab_command.specs.Commands.{AsksKeys, AsksNode, AsksStorm, IsNoCommand, IsReplay, key_text}
+use Rattle.ab_command.specs.Endings.{HasInput, FailsToWrite, Says, SaysNoMemory}
+use Rattle.ab_command.specs.Outputs.{Gets, GetsFront, HasFailed, IsKept}
 use Rattle.ab_replay.specs.Replays.{Replays, IsRefused, HasTooManyEvents, HasTooManyBytes, Runs}
 use Rattle.ab_storm_run.specs.Runs.{Storms, StormsTo}
 use Rattle.ab_storm_run.specs.Summaries.{summary_of}
 
--- the status was said on err
-abbrev pub Says : Status → Call → Type 0
-Says s c = Appends c.err_old c.err_new (text_of s)
-
--- want of memory was said on err, unless err had no memory for all of what it was given
-abbrev pub SaysNoMemoryOn : Option (List ℕ) → Option (List ℕ) → Type 0
-SaysNoMemoryOn old new = Appends old new (text_of OutOfMemory) ⊎ ((s : Status) × AppendsPart old new (text_of s))
-
--- a status that was to be said on err: it was, or err failed, or memory was refused
-abbrev pub Settles : Status → Status → Option (List ℕ) → Option (List ℕ) → ℕ → ℕ → Type 0
-Settles r s old new before now = ((r ≡ s) × Appends old new (text_of s)) ⊎ (((r ≡ WriteFault) × Rose before now) ⊎ ((r ≡ OutOfMemory) × SaysNoMemoryOn old new))
-
--- nothing was written to out
-abbrev pub KeepsOut : Call → Type 0
-KeepsOut c = Keeps c.out_old c.out_new
-
--- the input was read to its end, of no more bytes than a program reads, and its bytes are so
-abbrev pub HasInput : (List ℕ → Type 0) → Call → Type 0
-HasInput Is c = (text : List ℕ) × IsInput c.left text × Is text
-
 -- out got the report of the run that the input spells, and nothing else. Its premise line says `held` or `broken`
 abbrev pub HasReport : Bool → Call → Type 0
-HasReport held c = (report : List ℕ) × HasInput (λ text. Replays text report held) c × Appends c.out_old c.out_new report
+HasReport held c = (report : List ℕ) × HasInput (λ text. Replays text report held) c.left × Gets c.out report
 
 -- out got the key text that the words ask for, and nothing else
 abbrev pub HasKeys : Call → Type 0
-HasKeys c = (k : KeysCommand) × AsksKeys c.words k × Appends c.out_old c.out_new (key_text k)
+HasKeys c = (k : KeysCommand) × AsksKeys c.words k × Gets c.out (key_text k)
 
 -- out got a front of it
 abbrev pub HasKeysFront : Call → Type 0
-HasKeysFront c = (k : KeysCommand) × AsksKeys c.words k × AppendsFront c.out_old c.out_new (key_text k)
+HasKeysFront c = (k : KeysCommand) × AsksKeys c.words k × GetsFront c.out (key_text k)
 
 -- the protocol of a storm's replicas, over the store of keys and values
 abbrev pub kv : Proto Any
@@ -69,11 +50,11 @@ kv = any kv_machine
 
 -- out got the summary of the storm that the words ask for, and nothing else. Its premise line says `held` or `broken`
 abbrev pub HasSummary : Bool → Call → Type 0
-HasSummary held c = (k : StormCommand) × (summary : List ℕ) × AsksStorm c.words k × Storms kv_machine kv k summary held × Appends c.out_old c.out_new summary
+HasSummary held c = (k : StormCommand) × (summary : List ℕ) × AsksStorm c.words k × Storms kv_machine kv k summary held × Gets c.out summary
 
 -- out got a front of it
 abbrev pub HasSummaryFront : Call → Type 0
-HasSummaryFront c = (k : StormCommand) × (summary : List ℕ) × (held : Bool) × AsksStorm c.words k × Storms kv_machine kv k summary held × AppendsFront c.out_old c.out_new summary
+HasSummaryFront c = (k : StormCommand) × (summary : List ℕ) × (held : Bool) × AsksStorm c.words k × Storms kv_machine kv k summary held × GetsFront c.out summary
 
 -- the packets of an event of this storm would have more bytes than a world keeps
 abbrev pub Passes : StormCommand → Type 0
@@ -86,7 +67,7 @@ StormPasses c = (k : StormCommand) × AsksStorm c.words k × Passes k
 -- the words ask for a node, the input sets up a party, and it was served to the end: its turns, its text and its datagrams are
 -- those of its core
 abbrev pub ServesNode : Call → Type 0
-ServesNode c = (k : NodeCommand) × AsksNode c.words k × HasInput (λ text. (served : Served) × IsServed text (meeting_of k c) served) c
+ServesNode c = (k : NodeCommand) × AsksNode c.words k × HasInput (λ text. (served : Served) × IsServed text (meeting_of k c) served) c.left
 
 -- the words ask for a node, and it stopped for this: what was written and sent until then is a front of what its core says
 abbrev pub StopsNode : Stop → Call → Type 0
@@ -95,24 +76,24 @@ StopsNode why c = (k : NodeCommand) × AsksNode c.words k × StopCause why c.lef
 -- out got a front of the report, of the key text, of the summary or of a node's lines, or nothing
 abbrev pub HasFront : Call → Type 0
 HasFront c =
-    KeepsOut c
-    ⊎ (((report : List ℕ) × (held : Bool) × HasInput (λ text. Replays text report held) c × AppendsFront c.out_old c.out_new report)
+    IsKept c.out
+    ⊎ (((report : List ℕ) × (held : Bool) × HasInput (λ text. Replays text report held) c.left × GetsFront c.out report)
     ⊎ (HasKeysFront c ⊎ (HasSummaryFront c ⊎ ((why : Stop) × StopsNode why c))))
 
 -- when each status comes, and what it leaves on out and err
 abbrev pub StatusCause : Status → Call → Type 0
-StatusCause Done c = ((IsReplay c.words × HasReport true c) ⊎ (HasKeys c ⊎ (HasSummary true c ⊎ ServesNode c))) × Keeps c.err_old c.err_new
-StatusCause Broken c = ((IsReplay c.words × HasReport false c) ⊎ HasSummary false c) × Keeps c.err_old c.err_new
-StatusCause Usage c = IsNoCommand c.words × KeepsOut c × Says Usage c
-StatusCause (Refused r) c = ((IsReplay c.words × HasInput (λ text. IsRefused text r) c × KeepsOut c) ⊎ StopsNode (stop.Refused r) c) × Says (Refused r) c
-StatusCause ReadFault c = ((IsReplay c.words × Rose c.read_before c.read_now × KeepsOut c) ⊎ StopsNode stop.Read c) × Says ReadFault c
-StatusCause WriteFault c = ((Rose c.out_before c.out_now × Says WriteFault c) ⊎ Rose c.err_before c.err_now) × HasFront c
-StatusCause LinkFault c = StopsNode (stop.Serving serving.LinkFailed) c × Says LinkFault c
-StatusCause (Limit Bytes) c = ((IsReplay c.words × IsTooLong c.left × KeepsOut c) ⊎ StopsNode stop.TooLong c) × Says (Limit Bytes) c
-StatusCause (Limit Packets) c = ((IsReplay c.words × HasInput HasTooManyBytes c) ⊎ StormPasses c) × KeepsOut c × Says (Limit Packets) c
-StatusCause (Limit Events) c = IsReplay c.words × HasInput HasTooManyEvents c × KeepsOut c × Says (Limit Events) c
-StatusCause (TurnsSpent n) c = StopsNode (stop.Serving (serving.TurnsSpent n)) c × Says (TurnsSpent n) c
-StatusCause OutOfMemory c = HasFront c × SaysNoMemoryOn c.err_old c.err_new
+StatusCause Done c = ((IsReplay c.words × HasReport true c) ⊎ (HasKeys c ⊎ (HasSummary true c ⊎ ServesNode c))) × IsKept c.err
+StatusCause Broken c = ((IsReplay c.words × HasReport false c) ⊎ HasSummary false c) × IsKept c.err
+StatusCause Usage c = IsNoCommand c.words × IsKept c.out × Says Usage c.err
+StatusCause (Refused r) c = ((IsReplay c.words × HasInput (λ text. IsRefused text r) c.left × IsKept c.out) ⊎ StopsNode (stop.Refused r) c) × Says (Refused r) c.err
+StatusCause ReadFault c = ((IsReplay c.words × Rose c.read_before c.read_now × IsKept c.out) ⊎ StopsNode stop.Read c) × Says ReadFault c.err
+StatusCause WriteFault c = FailsToWrite c.out c.err × HasFront c
+StatusCause LinkFault c = StopsNode (stop.Serving serving.LinkFailed) c × Says LinkFault c.err
+StatusCause (Limit Bytes) c = ((IsReplay c.words × IsTooLong c.left × IsKept c.out) ⊎ StopsNode stop.TooLong c) × Says (Limit Bytes) c.err
+StatusCause (Limit Packets) c = ((IsReplay c.words × HasInput HasTooManyBytes c.left) ⊎ StormPasses c) × IsKept c.out × Says (Limit Packets) c.err
+StatusCause (Limit Events) c = IsReplay c.words × HasInput HasTooManyEvents c.left × IsKept c.out × Says (Limit Events) c.err
+StatusCause (TurnsSpent n) c = StopsNode (stop.Serving (serving.TurnsSpent n)) c × Says (TurnsSpent n) c.err
+StatusCause OutOfMemory c = HasFront c × SaysNoMemory c.err
 
 -- nothing stands in the way of a call: the input tells that it is a schedule within the limits, of which no event is refused,
 -- and no object has counted a fault
@@ -127,8 +108,8 @@ pub record IsClear (c : Call) : Type 0 where
   pub few : length schedule.events ≤ 100000
   pub runs : Runs schedule (Ok end)
   pub read : Rose c.read_before c.read_now → ⊥
-  pub out : Rose c.out_before c.out_now → ⊥
-  pub err : Rose c.err_before c.err_now → ⊥
+  pub out : HasFailed c.out → ⊥
+  pub err : HasFailed c.err → ⊥
 
 -- 0 where the premise line says `held`, 1 where it says `broken`
 abbrev pub premise_code : Premise → ℕ
@@ -138,21 +119,21 @@ premise_code (premise.Broken e breach p) = 1
 -- the words ask for keys, and neither out nor err has counted a fault
 pub record IsClearForKeys (c : Call) (k : KeysCommand) : Type 0 where
   pub words : AsksKeys c.words k
-  pub out : Rose c.out_before c.out_now → ⊥
-  pub err : Rose c.err_before c.err_now → ⊥
+  pub out : HasFailed c.out → ⊥
+  pub err : HasFailed c.err → ⊥
 
 -- the words ask for a storm, and neither out nor err has counted a fault
 pub record IsClearForStorm (c : Call) (k : StormCommand) : Type 0 where
   pub words : AsksStorm c.words k
-  pub out : Rose c.out_before c.out_now → ⊥
-  pub err : Rose c.err_before c.err_now → ⊥
+  pub out : HasFailed c.out → ⊥
+  pub err : HasFailed c.err → ⊥
 
 -- out got the summary of this storm, and nothing else, and the number is that of its premise line
 pub record IsToldWhole (n : ℕ) (k : StormCommand) (c : Call) : Type 0 where
   pub end : World Any
   pub runs : StormsTo kv k (Ok end)
   pub code : n ≡ premise_code (premise_of end)
-  pub whole : Appends c.out_old c.out_new (summary_of end)
+  pub whole : Gets c.out (summary_of end)
 
 -- the words ask for a node, the input tells that it sets up a party, and no object has counted a fault. Datagrams may be lost
 pub record IsClearForNode (c : Call) (k : NodeCommand) : Type 0 where
@@ -163,8 +144,8 @@ pub record IsClearForNode (c : Call) (k : NodeCommand) : Type 0 where
   pub short : length text ≤ 67108864
   pub reads : node_in (lines_of text) ≡ Ok node
   pub read : Rose c.read_before c.read_now → ⊥
-  pub out : Rose c.out_before c.out_now → ⊥
-  pub err : Rose c.err_before c.err_now → ⊥
+  pub out : HasFailed c.out → ⊥
+  pub err : HasFailed c.err → ⊥
   pub link : Rose c.network.link_before c.network.link_now → ⊥
 
 -- the party was served to the end; or it is a client whose turns were used before its commands were answered; or memory was refused
@@ -183,6 +164,6 @@ pub record HasCauseOf (n : ℕ) (c : Call) : Type 0 where
   pub code : n ≡ code_of status
   pub cause : StatusCause status c
   pub complete : (clear : IsClear c) → (n ≡ premise_code (premise_of clear.end)) ⊎ (n ≡ 9)
-  pub keys : (k : KeysCommand) → IsClearForKeys c k → ((n ≡ 0) × Appends c.out_old c.out_new (key_text k)) ⊎ (n ≡ 9)
+  pub keys : (k : KeysCommand) → IsClearForKeys c k → ((n ≡ 0) × Gets c.out (key_text k)) ⊎ (n ≡ 9)
   pub storm : (k : StormCommand) → IsClearForStorm c k → IsToldWhole n k c ⊎ ((Passes k × (n ≡ 7)) ⊎ (n ≡ 9))
   pub node : (k : NodeCommand) → (clear : IsClearForNode c k) → IsServedOut n clear.node c

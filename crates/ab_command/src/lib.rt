@@ -6,6 +6,6 @@ mod saying;
 mod status;
 mod top;
 
-pub use saying::{say, say_no_memory, say_replay_fault};
+pub use saying::{say, say_no_memory, say_replay_fault, say_usage, write_or_say};
 pub use status::{Bound, Status};
 pub use top::{refuse_memory, run};

@@ -2,7 +2,8 @@
 
 ghost use Rattle.std.specs.Prelude.{◌≡◌, ◌≤◌};
 ghost use Rattle.ab_command.specs.Texts.{fault_status, text_of};
-ghost use Rattle.ab_command.specs.Statuses.{Settles};
+ghost use Rattle.ab_command.specs.Endings.{Settles, SettlesUsage, WritesOrSays};
+ghost use Rattle.ab_command.specs.Outputs.{output};
 
 use crate::status::{Bound, Status};
 use ab_io::Sink;
@@ -12,7 +13,7 @@ use std::alloc::Global;
 /// Writes the text of a status, and gives the status, or that of the fault of writing it.
 pub fn say<E: Sink>(err: &mut E, text: &str, status: Status) -> Status
     requires { text.now ≡ text_of status }
-    ensures status { Settles result status (E.contents err.old) (E.contents err.new) (E.faults err.old) (E.faults err.new) }
+    ensures status { Settles result status (output (E.contents err.old) (E.contents err.new) (E.faults err.old) (E.faults err.new)) }
     ensures later { E.faults err.old ≤ E.faults err.new }
 {
     match write_all(err, text.as_bytes()) {
@@ -24,15 +25,42 @@ pub fn say<E: Sink>(err: &mut E, text: &str, status: Status) -> Status
 
 /// Says that memory was refused.
 pub fn say_no_memory<E: Sink>(err: &mut E) -> Status
-    ensures status { Settles result Status.OutOfMemory (E.contents err.old) (E.contents err.new) (E.faults err.old) (E.faults err.new) }
+    ensures status { Settles result Status.OutOfMemory (output (E.contents err.old) (E.contents err.new) (E.faults err.old) (E.faults err.new)) }
     ensures later { E.faults err.old ≤ E.faults err.new }
 {
     say(err, "out of memory\n", Status::OutOfMemory)
 }
 
+/// Writes the usage line of a program whose words are wrong.
+pub fn say_usage<E: Sink>(err: &mut E, usage: &str) -> Status
+    ensures { SettlesUsage result usage.now (output (E.contents err.old) (E.contents err.new) (E.faults err.old) (E.faults err.new)) }
+{
+    match write_all(err, usage.as_bytes()) {
+        Ok(()) => Status::Usage,
+        Err(WriteFault::Failed) => Status::WriteFault,
+        Err(WriteFault::OutOfMemory) => Status::OutOfMemory,
+    }
+}
+
+/// Writes a text to `out` and gives the status, or says on `err` what went wrong.
+pub fn write_or_say<O: Sink, E: Sink>(
+    out: &mut O,
+    err: &mut E,
+    text: &[u8],
+    status: Status,
+) -> Status
+    ensures { WritesOrSays result status text.now (output (O.contents out.old) (O.contents out.new) (O.faults out.old) (O.faults out.new)) (output (E.contents err.old) (E.contents err.new) (E.faults err.old) (E.faults err.new)) }
+{
+    match write_all(out, text) {
+        Ok(()) => status,
+        Err(WriteFault::Failed) => say(err, "write fault\n", Status::WriteFault),
+        Err(WriteFault::OutOfMemory) => say_no_memory(err),
+    }
+}
+
 /// Says which line is refused.
 pub(crate) fn say_refusal<E: Sink>(alloc: Global, err: &mut E, refusal: Refusal) -> Status
-    ensures status { Settles result (Status.Refused refusal) (E.contents err.old) (E.contents err.new) (E.faults err.old) (E.faults err.new) }
+    ensures status { Settles result (Status.Refused refusal) (output (E.contents err.old) (E.contents err.new) (E.faults err.old) (E.faults err.new)) }
     ensures later { E.faults err.old ≤ E.faults err.new }
 {
     match refusal_line(alloc, refusal) {
@@ -43,7 +71,7 @@ pub(crate) fn say_refusal<E: Sink>(alloc: Global, err: &mut E, refusal: Refusal)
 
 /// Says why a schedule isn't replayed.
 pub fn say_replay_fault<E: Sink>(alloc: Global, err: &mut E, fault: ReplayFault) -> Status
-    ensures status { Settles result (fault_status fault) (E.contents err.old) (E.contents err.new) (E.faults err.old) (E.faults err.new) }
+    ensures status { Settles result (fault_status fault) (output (E.contents err.old) (E.contents err.new) (E.faults err.old) (E.faults err.new)) }
     ensures later { E.faults err.old ≤ E.faults err.new }
 {
     match fault {

@@ -5,17 +5,19 @@ ghost use Rattle.ab_io.specs.Causes.{Rose};
 ghost use Rattle.ab_command.specs.Texts.{code_of, status_of, stop_status};
 ghost use Rattle.ab_command.specs.Calls.{Call, Network};
 ghost use Rattle.ab_command.specs.Commands.{AsksKeys, AsksNode, AsksStorm, IsNode, IsReplay, TakesInput};
-ghost use Rattle.ab_command.specs.Statuses.{SaysNoMemoryOn, Settles, StatusCause, HasCauseOf};
+ghost use Rattle.ab_command.specs.Endings.{SaysNoMemory, Settles};
+ghost use Rattle.ab_command.specs.Outputs.{output};
+ghost use Rattle.ab_command.specs.Statuses.{StatusCause, HasCauseOf};
 
 use crate::keys::key_text;
-use crate::saying::{say, say_no_memory, say_refusal, say_replay_fault};
+use crate::saying::{say, say_no_memory, say_refusal, say_replay_fault, write_or_say};
 use crate::status::{Bound, Status, turns_line};
 use ab_io::{Clock, Link, Sink, Source};
 use ab_kv::Kv;
 use ab_loop::ServeFault;
 use ab_node::{Stop, serve_text};
 use ab_receivers::packets_go_to_parties;
-use ab_replay::{AnyProtocol, WriteFault, replay, write_all};
+use ab_replay::{AnyProtocol, replay};
 use ab_storm_run::{StormFault, storm};
 use ab_text::one_reading;
 use ab_words::{Command, KeysCommand, NodeCommand, StormCommand, command_in};
@@ -40,16 +42,10 @@ fn serve_replay<I: Source, O: Sink, E: Sink>(
     ensures cause { (words : List (List ℕ)) (network : Network) → IsReplay words → StatusCause result (record {
       words = words;
       left = I.left input.old;
-      out_old = O.contents out.old;
-      out_new = O.contents out.new;
-      err_old = E.contents err.old;
-      err_new = E.contents err.new;
       read_before = I.faults input.old;
       read_now = I.faults input.new;
-      out_before = O.faults out.old;
-      out_now = O.faults out.new;
-      err_before = E.faults err.old;
-      err_now = E.faults err.new;
+      out = output (O.contents out.old) (O.contents out.new) (O.faults out.old) (O.faults out.new);
+      err = output (E.contents err.old) (E.contents err.new) (E.faults err.old) (E.faults err.new);
       network = network;
     }) }
 {
@@ -57,11 +53,8 @@ fn serve_replay<I: Source, O: Sink, E: Sink>(
         Ok(replayed) => replayed,
         Err(fault) => return say_replay_fault(alloc, err, fault),
     };
-    match write_all(out, replayed.report.as_slice()) {
-        Ok(()) => done(replayed.held),
-        Err(WriteFault::Failed) => say(err, "write fault\n", Status::WriteFault),
-        Err(WriteFault::OutOfMemory) => say_no_memory(err),
-    }
+    let status = done(replayed.held);
+    write_or_say(out, err, replayed.report.as_slice(), status)
 }
 
 /// Writes the keys that are asked for.
@@ -74,27 +67,17 @@ fn serve_keys<O: Sink, E: Sink>(
     ensures cause { (words : List (List ℕ)) (left : Option (List ℕ)) (read_before read_now : ℕ) (network : Network) → AsksKeys words asked.now → StatusCause result (record {
       words = words;
       left = left;
-      out_old = O.contents out.old;
-      out_new = O.contents out.new;
-      err_old = E.contents err.old;
-      err_new = E.contents err.new;
       read_before = read_before;
       read_now = read_now;
-      out_before = O.faults out.old;
-      out_now = O.faults out.new;
-      err_before = E.faults err.old;
-      err_now = E.faults err.new;
+      out = output (O.contents out.old) (O.contents out.new) (O.faults out.old) (O.faults out.new);
+      err = output (E.contents err.old) (E.contents err.new) (E.faults err.old) (E.faults err.new);
       network = network;
     }) }
 {
     let Ok(text) = key_text(alloc, asked) else {
         return say_no_memory(err);
     };
-    match write_all(out, text.as_slice()) {
-        Ok(()) => Status::Done,
-        Err(WriteFault::Failed) => say(err, "write fault\n", Status::WriteFault),
-        Err(WriteFault::OutOfMemory) => say_no_memory(err),
-    }
+    write_or_say(out, err, text.as_slice(), Status::Done)
 }
 
 /// Runs the storm that is asked for and writes its summary.
@@ -108,16 +91,10 @@ fn serve_storm<O: Sink, E: Sink>(
     ensures cause { (words : List (List ℕ)) (left : Option (List ℕ)) (read_before read_now : ℕ) (network : Network) → AsksStorm words asked.now → StatusCause result (record {
       words = words;
       left = left;
-      out_old = O.contents out.old;
-      out_new = O.contents out.new;
-      err_old = E.contents err.old;
-      err_new = E.contents err.new;
       read_before = read_before;
       read_now = read_now;
-      out_before = O.faults out.old;
-      out_now = O.faults out.new;
-      err_before = E.faults err.old;
-      err_now = E.faults err.new;
+      out = output (O.contents out.old) (O.contents out.new) (O.faults out.old) (O.faults out.new);
+      err = output (E.contents err.old) (E.contents err.new) (E.faults err.old) (E.faults err.new);
       network = network;
     }) }
 {
@@ -129,16 +106,13 @@ fn serve_storm<O: Sink, E: Sink>(
         }
         Err(StormFault::OutOfMemory) => return say_no_memory(err),
     };
-    match write_all(out, stormed.summary.as_slice()) {
-        Ok(()) => done(stormed.held),
-        Err(WriteFault::Failed) => say(err, "write fault\n", Status::WriteFault),
-        Err(WriteFault::OutOfMemory) => say_no_memory(err),
-    }
+    let status = done(stormed.held);
+    write_or_say(out, err, stormed.summary.as_slice(), status)
 }
 
 /// Says why a node stopped that was served.
 fn say_fault<E: Sink>(alloc: Global, err: &mut E, fault: ServeFault) -> Status
-    ensures status { Settles result (status_of fault) (E.contents err.old) (E.contents err.new) (E.faults err.old) (E.faults err.new) }
+    ensures status { Settles result (status_of fault) (output (E.contents err.old) (E.contents err.new) (E.faults err.old) (E.faults err.new)) }
     ensures later { E.faults err.old ≤ E.faults err.new }
 {
     match fault {
@@ -154,7 +128,7 @@ fn say_fault<E: Sink>(alloc: Global, err: &mut E, fault: ServeFault) -> Status
 
 /// Says why a node stopped.
 fn say_stop<E: Sink>(alloc: Global, err: &mut E, stop: Stop) -> Status
-    ensures status { Settles result (stop_status stop) (E.contents err.old) (E.contents err.new) (E.faults err.old) (E.faults err.new) }
+    ensures status { Settles result (stop_status stop) (output (E.contents err.old) (E.contents err.new) (E.faults err.old) (E.faults err.new)) }
     ensures later { E.faults err.old ≤ E.faults err.new }
 {
     match stop {
@@ -179,16 +153,10 @@ fn serve_node<I: Source, O: Sink, E: Sink, L: Link, C: Clock>(
     ensures cause { (words : List (List ℕ)) → AsksNode words asked.now → StatusCause result (record {
       words = words;
       left = I.left input.old;
-      out_old = O.contents out.old;
-      out_new = O.contents out.new;
-      err_old = E.contents err.old;
-      err_new = E.contents err.new;
       read_before = I.faults input.old;
       read_now = I.faults input.new;
-      out_before = O.faults out.old;
-      out_now = O.faults out.new;
-      err_before = E.faults err.old;
-      err_now = E.faults err.new;
+      out = output (O.contents out.old) (O.contents out.new) (O.faults out.old) (O.faults out.new);
+      err = output (E.contents err.old) (E.contents err.new) (E.faults err.old) (E.faults err.new);
       network = record {
         clock = C.readings clock.old;
         to_come = L.to_come link.old;
@@ -220,16 +188,10 @@ fn serve<I: Source, O: Sink, E: Sink, L: Link, C: Clock>(
     ensures cause { StatusCause result (record {
       words = map (λ w. w.now) words.now;
       left = I.left input.old;
-      out_old = O.contents out.old;
-      out_new = O.contents out.new;
-      err_old = E.contents err.old;
-      err_new = E.contents err.new;
       read_before = I.faults input.old;
       read_now = I.faults input.new;
-      out_before = O.faults out.old;
-      out_now = O.faults out.new;
-      err_before = E.faults err.old;
-      err_now = E.faults err.new;
+      out = output (O.contents out.old) (O.contents out.new) (O.faults out.old) (O.faults out.new);
+      err = output (E.contents err.old) (E.contents err.new) (E.faults err.old) (E.faults err.new);
       network = record {
         clock = C.readings clock.old;
         to_come = L.to_come link.old;
@@ -291,16 +253,10 @@ pub fn run<I: Source, O: Sink, E: Sink, L: Link, C: Clock>(
     ensures cause { HasCauseOf result (record {
       words = map (λ w. w.now) words.now;
       left = I.left input.old;
-      out_old = O.contents out.old;
-      out_new = O.contents out.new;
-      err_old = E.contents err.old;
-      err_new = E.contents err.new;
       read_before = I.faults input.old;
       read_now = I.faults input.new;
-      out_before = O.faults out.old;
-      out_now = O.faults out.new;
-      err_before = E.faults err.old;
-      err_now = E.faults err.new;
+      out = output (O.contents out.old) (O.contents out.new) (O.faults out.old) (O.faults out.new);
+      err = output (E.contents err.old) (E.contents err.new) (E.faults err.old) (E.faults err.new);
       network = record {
         clock = C.readings clock.old;
         to_come = L.to_come link.old;
@@ -323,7 +279,7 @@ pub fn run<I: Source, O: Sink, E: Sink, L: Link, C: Clock>(
 
 /// Says that memory was refused before the command began, and returns the number of the status.
 pub fn refuse_memory<E: Sink>(err: &mut E) -> u8
-    ensures { ((result ≡ 9) × SaysNoMemoryOn (E.contents err.old) (E.contents err.new)) ⊎ ((result ≡ 5) × Rose (E.faults err.old) (E.faults err.new)) }
+    ensures { ((result ≡ 9) × SaysNoMemory (output (E.contents err.old) (E.contents err.new) (E.faults err.old) (E.faults err.new))) ⊎ ((result ≡ 5) × Rose (E.faults err.old) (E.faults err.new)) }
 {
     say_no_memory(err).code()
 }

@@ -1,45 +1,42 @@
--- Statuses that were to be said have their causes.
-use Rattle.std.proofs.Common.{◌≡◌, false, IsTrue, sym, subst, inl, inr}
-use Rattle.std.specs.Io.KnownBytes.{Keeps}
-use Rattle.ab_io.specs.Causes.{Rose}
+-- What was to be said or written has its cause.
+use Rattle.std.proofs.Common.{List, ℕ, IsTrue, inl, inr}
 use Rattle.ab_replay.specs.declared.running.ReplayFault.{ReplayFault}
 use Rattle.ab_replay.specs.declared.running.ReplayFault.TheVariants.{Read, TooLong, Refused, TooManyEvents, TooManyPackets, OutOfMemory}
 use Rattle.ab_replay.specs.Replays.{ReplayCause}
 use Rattle.ab_command.specs.declared.status.Status.{Status}
-use Rattle.ab_command.specs.declared.status.Status.TheVariants as status
-use Rattle.ab_command.specs.Statuses.{Settles}
-use Rattle.ab_command.specs.Texts.{fault_status, text_of}
-use Rattle.ab_draw.specs.Endings.{DrawCause, HasFront, IsAlone, Met, Says, SettlesUsage}
+use Rattle.ab_command.specs.declared.status.Status.TheVariants.{Done}
+use Rattle.ab_command.specs.Endings.{HasInput, Says, Settles, SettlesUsage, WritesOrSays}
+use Rattle.ab_command.specs.Outputs.{IsKept}
+use Rattle.ab_command.specs.Texts.{fault_status}
+use Rattle.ab_command.proofs.Settled.{settled_as, usage_as, written_or_said}
+use Rattle.ab_draw.specs.Draws.{Draws}
+use Rattle.ab_draw.specs.Endings.{DrawCause, IsAlone, Met, usage_text}
 
--- it has its cause, where it has it once it is said
-settled : (m : Met) (r s : Status) → Settles r s m.err_old m.err_new m.err_before m.err_now → (Says (text_of s) m → DrawCause s m) → HasFront m → DrawCause r m
-settled m r s (inl (e, said)) make front = subst (λ (x : Status). DrawCause x m) (sym e) (make said)
-settled m r s (inr (inl (e, rose))) make front = subst (λ (x : Status). DrawCause x m) (sym e) (inr rose, front)
-settled m r s (inr (inr (e, says))) make front = subst (λ (x : Status). DrawCause x m) (sym e) (front, inl says)
+module _ (m : Met) (r : Status) where
+  abbrev Cause : Status → Type 0
+  Cause s = DrawCause s m
 
-fault_said : (m : Met) (fault : ReplayFault) → IsAlone m → ReplayCause fault m.left m.read_before m.read_now → Keeps m.out_old m.out_new → Says (text_of (fault_status fault)) m → DrawCause (fault_status fault) m
-fault_said m Read alone rose kept said = (alone, rose, (kept, said))
-fault_said m TooLong alone long kept said = (alone, long, (kept, said))
-fault_said m (Refused r) alone refused kept said = ((alone, refused), (kept, said))
-fault_said m TooManyEvents alone many kept said = ((alone, many), (kept, said))
-fault_said m TooManyPackets alone many kept said = ((alone, many), (kept, said))
-fault_said m OutOfMemory alone cause kept said = (inl kept, inl (inl said))
+  fault_said : (fault : ReplayFault) → IsAlone m → ReplayCause fault m.left m.read_before m.read_now → IsKept m.out → Says (fault_status fault) m.err → Cause (fault_status fault)
+  fault_said Read alone rose kept said = (alone, rose, (kept, said))
+  fault_said TooLong alone long kept said = (alone, long, (kept, said))
+  fault_said (Refused q) alone refused kept said = (alone, refused, (kept, said))
+  fault_said TooManyEvents alone many kept said = (alone, many, (kept, said))
+  fault_said TooManyPackets alone many kept said = (alone, many, (kept, said))
+  fault_said OutOfMemory alone cause kept said = (inl kept, inl (inl said))
 
--- why there is no picture
-pub fault_settled : (m : Met) (r : Status) (fault : ReplayFault) → Settles r (fault_status fault) m.err_old m.err_new m.err_before m.err_now → IsAlone m
-    → ReplayCause fault m.left m.read_before m.read_now → Keeps m.out_old m.out_new → DrawCause r m
-fault_settled m r fault how alone cause kept = settled m r (fault_status fault) how (fault_said m fault alone cause kept) (inl kept)
+  -- why there is no picture
+  pub fault_settled : (fault : ReplayFault) → Settles r (fault_status fault) m.err → IsAlone m → ReplayCause fault m.left m.read_before m.read_now → IsKept m.out → Cause r
+  fault_settled fault how alone cause kept =
+      settled_as Cause r (fault_status fault) m.err how (fault_said fault alone cause kept) (λ rose. (inr rose, inl kept)) (λ says. (inl kept, inl says))
 
--- a fault of out
-pub write_settled : (m : Met) (r : Status) → Settles r status.WriteFault m.err_old m.err_new m.err_before m.err_now → Rose m.out_before m.out_now → HasFront m → DrawCause r m
-write_settled m r how rose front = settled m r status.WriteFault how (λ said. (inl (rose, said), front)) front
+  -- words where none are taken
+  pub usage_settled : SettlesUsage r usage_text m.err → IsTrue m.words → IsKept m.out → Cause r
+  usage_settled how words kept = usage_as Cause r usage_text m.err how (λ said. (words, kept, said)) (λ rose. (inr rose, inl kept)) (λ part. (inl kept, inr (words, part)))
 
--- want of memory
-pub memory_settled : (m : Met) (r : Status) → Settles r status.OutOfMemory m.err_old m.err_new m.err_before m.err_now → HasFront m → DrawCause r m
-memory_settled m r how front = settled m r status.OutOfMemory how (λ said. (front, inl (inl said))) front
-
--- words where none are taken
-pub usage_settled : (m : Met) (r : Status) → SettlesUsage r m.err_old m.err_new m.err_before m.err_now → IsTrue m.words → Keeps m.out_old m.out_new → DrawCause r m
-usage_settled m r (inl (e, said)) words kept = subst (λ (x : Status). DrawCause x m) (sym e) (words, (kept, said))
-usage_settled m r (inr (inl (e, rose))) words kept = subst (λ (x : Status). DrawCause x m) (sym e) (inr rose, inl kept)
-usage_settled m r (inr (inr (e, part))) words kept = subst (λ (x : Status). DrawCause x m) (sym e) (inl kept, inr (words, part))
+  -- the picture
+  pub picture_told : (svg : List ℕ) → WritesOrSays r Done svg m.out m.err → IsAlone m → HasInput (λ text. Draws text svg) m.left → Cause r
+  picture_told svg how alone input =
+      written_or_said Cause r Done svg m.out m.err how
+      (λ got kept. ((alone, svg, input, got), kept))
+      (λ part fails. (fails, inr (alone, svg, input, part)))
+      (λ part says. (inr (alone, svg, input, part), inl says))

@@ -1,34 +1,35 @@
--- Statuses that were to be said have their causes.
-use Rattle.std.proofs.Common.{sym, subst, inl, inr}
-use Rattle.std.specs.Io.KnownBytes.{Keeps}
-use Rattle.ab_io.specs.Causes.{Rose}
+-- What was to be said or written has its cause.
+use Rattle.std.proofs.Common.{◌≡◌, List, ℕ, inl, inr}
+use Rattle.ab_words.specs.Commands.{StormCommand}
 use Rattle.ab_command.specs.declared.status.Bound.TheVariants.{Packets}
 use Rattle.ab_command.specs.declared.status.Status.{Status}
-use Rattle.ab_command.specs.declared.status.Status.TheVariants as status
-use Rattle.ab_command.specs.Statuses.{Settles}
-use Rattle.ab_command.specs.Texts.{text_of}
-use Rattle.ab_storm_schedule.specs.Endings.{AsksNothing, HasFront, IsPast, Met, Says, SettlesUsage, WriteCause}
+use Rattle.ab_command.specs.declared.status.Status.TheVariants.{Done, Limit, OutOfMemory}
+use Rattle.ab_command.specs.Endings.{Settles, SettlesUsage, WritesOrSays}
+use Rattle.ab_command.specs.Outputs.{IsKept}
+use Rattle.ab_command.proofs.Settled.{settled_as, usage_as, written_or_said}
+use Rattle.ab_storm_schedule.specs.Endings.{Asks, AsksNothing, IsPast, Met, ScheduleCause, usage_text}
+use Rattle.ab_storm_schedule.specs.Written.{WritesStorm}
 
--- it has its cause, where it has it once it is said
-settled : (m : Met) (r s : Status) → Settles r s m.err_old m.err_new m.err_before m.err_now → (Says (text_of s) m → WriteCause s m) → HasFront m → WriteCause r m
-settled m r s (inl (e, said)) make front = subst (λ (x : Status). WriteCause x m) (sym e) (make said)
-settled m r s (inr (inl (e, rose))) make front = subst (λ (x : Status). WriteCause x m) (sym e) (inr rose, front)
-settled m r s (inr (inr (e, says))) make front = subst (λ (x : Status). WriteCause x m) (sym e) (front, inl says)
+module _ (m : Met) (r : Status) where
+  abbrev Cause : Status → Type 0
+  Cause s = ScheduleCause s m
 
--- a storm that passes the limit of packets
-pub past_settled : (m : Met) (r : Status) → Settles r (status.Limit Packets) m.err_old m.err_new m.err_before m.err_now → IsPast m → Keeps m.out_old m.out_new → WriteCause r m
-past_settled m r how past kept = settled m r (status.Limit Packets) how (λ said. (past, (kept, said))) (inl kept)
+  -- a storm that passes the limit of packets
+  pub past_settled : Settles r (Limit Packets) m.err → IsPast m → IsKept m.out → Cause r
+  past_settled how past kept = settled_as Cause r (Limit Packets) m.err how (λ said. (past, (kept, said))) (λ rose. (inr rose, inl kept)) (λ says. (inl kept, inl says))
 
--- a fault of out
-pub write_settled : (m : Met) (r : Status) → Settles r status.WriteFault m.err_old m.err_new m.err_before m.err_now → Rose m.out_before m.out_now → HasFront m → WriteCause r m
-write_settled m r how rose front = settled m r status.WriteFault how (λ said. (inl (rose, said), front)) front
+  -- want of memory before anything was written
+  pub memory_settled : Settles r OutOfMemory m.err → IsKept m.out → Cause r
+  memory_settled how kept = settled_as Cause r OutOfMemory m.err how (λ said. (inl kept, inl (inl said))) (λ rose. (inr rose, inl kept)) (λ says. (inl kept, inl says))
 
--- want of memory
-pub memory_settled : (m : Met) (r : Status) → Settles r status.OutOfMemory m.err_old m.err_new m.err_before m.err_now → HasFront m → WriteCause r m
-memory_settled m r how front = settled m r status.OutOfMemory how (λ said. (front, inl (inl said))) front
+  -- words that ask for no storm
+  pub usage_settled : SettlesUsage r usage_text m.err → AsksNothing m → IsKept m.out → Cause r
+  usage_settled how none kept = usage_as Cause r usage_text m.err how (λ said. (none, kept, said)) (λ rose. (inr rose, inl kept)) (λ part. (inl kept, inr (none, part)))
 
--- words that ask for no storm
-pub usage_settled : (m : Met) (r : Status) → SettlesUsage r m.err_old m.err_new m.err_before m.err_now → AsksNothing m → Keeps m.out_old m.out_new → WriteCause r m
-usage_settled m r (inl (e, said)) none kept = subst (λ (x : Status). WriteCause x m) (sym e) (none, (kept, said))
-usage_settled m r (inr (inl (e, rose))) none kept = subst (λ (x : Status). WriteCause x m) (sym e) (inr rose, inl kept)
-usage_settled m r (inr (inr (e, part))) none kept = subst (λ (x : Status). WriteCause x m) (sym e) (inl kept, inr (none, part))
+  -- the schedule
+  pub schedule_told : (k : StormCommand) (text : List ℕ) → WritesOrSays r Done text m.out m.err → Asks m.options k → WritesStorm k text → Cause r
+  schedule_told k text how asks writes =
+      written_or_said Cause r Done text m.out m.err how
+      (λ got kept. ((k, text, asks, writes, got), kept))
+      (λ part fails. (fails, inr (k, text, asks, writes, part)))
+      (λ part says. (inr (k, text, asks, writes, part), inl says))

@@ -3,30 +3,19 @@
 ghost use Rattle.std.specs.Prelude.{◌≡◌, ◌≤◌, ◌∷◌, List, ℕ, IfOk, IfSome, MatchOption, None, codes, map};
 ghost use Rattle.ab_words.specs.Uses.{texts};
 ghost use Rattle.ab_words.specs.Commands.{StormCommand as TheStorm};
-ghost use Rattle.ab_storm_schedule.specs.Endings.{Asks, SettlesUsage, WriteCause};
+ghost use Rattle.ab_command.specs.Outputs.{output};
+ghost use Rattle.ab_storm_schedule.specs.Endings.{Asks, ScheduleCause};
 
 use crate::schedule::storm_text;
-use ab_command::{Bound, Status, say, say_no_memory};
+use ab_command::{Bound, Status, say, say_no_memory, say_usage, write_or_say};
 use ab_io::Sink;
 use ab_num::OutOfMemory;
-use ab_replay::{WriteFault, write_all};
 use ab_storm_run::StormFault;
 use ab_words::{Command, StormCommand, command_in};
 use std::alloc::Global;
 
 const USAGE: &str =
     "usage: storm_schedule --plan P --f F --clients N --seed S --events E > SCHEDULE\n";
-
-/// Says that the words ask for no storm.
-fn say_usage<E: Sink>(err: &mut E) -> Status
-    ensures { SettlesUsage result (E.contents err.old) (E.contents err.new) (E.faults err.old) (E.faults err.new) }
-{
-    match write_all(err, USAGE.as_bytes()) {
-        Ok(()) => Status::Usage,
-        Err(WriteFault::Failed) => Status::WriteFault,
-        Err(WriteFault::OutOfMemory) => Status::OutOfMemory,
-    }
-}
 
 /// The words of the command `storm` with these options.
 fn storm_words<'a>(alloc: Global, options: &[&'a str]) -> Result<Vec<&'a str>, OutOfMemory>
@@ -62,16 +51,10 @@ fn serve_storm<O: Sink, E: Sink>(
     err: &mut E,
 ) -> Status
     requires few { asked.now.events ≤ 100000 }
-    ensures cause { (options : List (List ℕ)) → Asks options asked.now → WriteCause result (record {
+    ensures cause { (options : List (List ℕ)) → Asks options asked.now → ScheduleCause result (record {
       options = options;
-      out_old = O.contents out.old;
-      out_new = O.contents out.new;
-      err_old = E.contents err.old;
-      err_new = E.contents err.new;
-      out_before = O.faults out.old;
-      out_now = O.faults out.new;
-      err_before = E.faults err.old;
-      err_now = E.faults err.new;
+      out = output (O.contents out.old) (O.contents out.new) (O.faults out.old) (O.faults out.new);
+      err = output (E.contents err.old) (E.contents err.new) (E.faults err.old) (E.faults err.new);
     }) }
 {
     let text = match storm_text(alloc, asked) {
@@ -81,31 +64,21 @@ fn serve_storm<O: Sink, E: Sink>(
         }
         Err(StormFault::OutOfMemory) => return say_no_memory(err),
     };
-    match write_all(out, text.as_slice()) {
-        Ok(()) => Status::Done,
-        Err(WriteFault::Failed) => say(err, "write fault\n", Status::WriteFault),
-        Err(WriteFault::OutOfMemory) => say_no_memory(err),
-    }
+    write_or_say(out, err, text.as_slice(), Status::Done)
 }
 
 /// Writes to `out` the schedule of the storm for which the options ask, which are those of the command `storm`, and tells how
 /// it ended. What went wrong is said on `err`.
 pub fn serve<O: Sink, E: Sink>(alloc: Global, options: &[&str], out: &mut O, err: &mut E) -> Status
-    ensures cause { WriteCause result (record {
+    ensures cause { ScheduleCause result (record {
       options = map (λ w. w.now) options.now;
-      out_old = O.contents out.old;
-      out_new = O.contents out.new;
-      err_old = E.contents err.old;
-      err_new = E.contents err.new;
-      out_before = O.faults out.old;
-      out_now = O.faults out.new;
-      err_before = E.faults err.old;
-      err_now = E.faults err.new;
+      out = output (O.contents out.old) (O.contents out.new) (O.faults out.old) (O.faults out.new);
+      err = output (E.contents err.old) (E.contents err.new) (E.faults err.old) (E.faults err.new);
     }) }
 {
     match storm_in(alloc, options) {
         Ok(Some(asked)) => serve_storm(alloc, &asked, out, err),
-        Ok(None) => say_usage(err),
+        Ok(None) => say_usage(err, USAGE),
         Err(_) => say_no_memory(err),
     }
 }

@@ -1,5 +1,6 @@
 use Rattle.std.specs.Prelude.{map}
 use Rattle.ab_command.specs.Calls.{Call}
+use Rattle.ab_command.specs.Outputs.{output}
 use Rattle.ab_command.proofs.Answering.{answers}
 use Rattle.ab_command.proofs.top.run.Goals as goal
 
@@ -8,16 +9,10 @@ returns-clause-cause g c =
     let call : Call = record {
       words = map (λ w. w.now) c.args.words.now;
       left = g.I.Source.left c.args.input.now;
-      out_old = g.O.Sink.contents c.args.out.now;
-      out_new = g.O.Sink.contents c.serve-status.new.out;
-      err_old = g.E.Sink.contents c.args.err.now;
-      err_new = g.E.Sink.contents c.serve-status.new.err;
       read_before = g.I.Source.faults c.args.input.now;
       read_now = g.I.Source.faults c.serve-status.new.input;
-      out_before = g.O.Sink.faults c.args.out.now;
-      out_now = g.O.Sink.faults c.serve-status.new.out;
-      err_before = g.E.Sink.faults c.args.err.now;
-      err_now = g.E.Sink.faults c.serve-status.new.err;
+      out = output (g.O.Sink.contents c.args.out.now) (g.O.Sink.contents c.serve-status.new.out) (g.O.Sink.faults c.args.out.now) (g.O.Sink.faults c.serve-status.new.out);
+      err = output (g.E.Sink.contents c.args.err.now) (g.E.Sink.contents c.serve-status.new.err) (g.E.Sink.faults c.args.err.now) (g.E.Sink.faults c.serve-status.new.err);
       network = record {
         clock = g.C.Clock.readings c.args.clock.now;
         to_come = g.L.Link.to_come c.args.link.now;

@@ -1,6 +1,8 @@
-use Rattle.std.proofs.Common.{List, ℕ, subst, rules}
-use Rattle.std.specs.Io.KnownBytes.{Appends, Keeps}
-use Rattle.ab_command.proofs.StatusLemmas.{replay_settled, report_written}
+use Rattle.std.proofs.Common.{List, ℕ, sym, subst, rules}
+use Rattle.std.specs.Io.KnownBytes.{Keeps}
+use Rattle.ab_command.specs.Endings.{HasInput}
+use Rattle.ab_command.proofs.StatusLemmas.{replay_settled, report_told}
+use Rattle.ab_replay.specs.Replays.{Replays}
 use Rattle.ab_command.proofs.top.serve_replay.Goals as goal
 
 pub returns-in-Err : goal.returns-in-Err
@@ -9,12 +11,8 @@ returns-in-Err g c =
     let kept : Keeps out out = search rules in
     record { cause = λ words network is. replay_settled _ c.say_replay_fault.result c.in-Err.fault c.say_replay_fault.ensures.status is c.in-Err.ensures.cause kept }
 
-pub returns-in-Ok-write_all : goal.returns-in-Ok-write_all
-returns-in-Ok-write_all g c =
-    let old = g.O.Sink.contents c.args.out.now in
-    let new = g.O.Sink.contents c.write_all.new.sink in
-    let err = g.E.Sink.contents c.args.err.now in
+pub returns : goal.returns
+returns g c =
     let replayed = c.in-Ok.replayed in
-    let appended = subst (λ (bytes : List ℕ). Appends old new bytes) c.as_slice.ensures.value c.in-Ok-write_all.ensures.ok in
-    let kept : Keeps err err = search rules in
-    record { cause = λ words network is. report_written _ c.done.result replayed.held c.done.ensures is (replayed.report.items, c.in-Ok.ensures.ok, appended) kept }
+    let spelled = subst (λ (report : List ℕ). HasInput (λ text. Replays text report replayed.held) (g.I.Source.left c.args.input.now)) (sym c.as_slice.ensures.value) c.in-Ok.ensures.ok in
+    record { cause = λ words network is. report_told _ c.write_or_say.result c.done-status.result c.as_slice.result.now replayed.held c.write_or_say.ensures c.done-status.ensures is spelled }

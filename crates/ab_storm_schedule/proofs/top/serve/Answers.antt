@@ -1,4 +1,4 @@
-use Rattle.std.proofs.Common.{inl, rules}
+use Rattle.std.proofs.Common.{rules}
 use Rattle.std.specs.Io.KnownBytes.{Keeps}
 use Rattle.ab_words.specs.Uses.{texts}
 use Rattle.ab_storm_schedule.specs.Endings.{Asks}
@@ -21,4 +21,4 @@ pub returns-in-Err : goal.returns-in-Err
 returns-in-Err g c =
     let out = g.O.Sink.contents c.args.out.now in
     let kept : Keeps out out = search rules in
-    record { cause = memory_settled _ c.say_no_memory.result c.say_no_memory.ensures.status (inl kept) }
+    record { cause = memory_settled _ c.say_no_memory.result c.say_no_memory.ensures.status kept }
