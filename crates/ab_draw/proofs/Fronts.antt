@@ -17,7 +17,7 @@ use Rattle.ab_picture.specs.Composed.{IsPicture, Tale}
 use Rattle.ab_replay.specs.Protocols.{Any}
 use Rattle.ab_replay.specs.declared.running.ReplayFault.{ReplayFault}
 use Rattle.ab_replay.specs.Replays.{EventsCause, run_in, setup_in}
-use Rattle.ab_replay.proofs.RunLemmas.{sized_so}
+use Rattle.ab_replay.proofs.RunLemmas.{begins_so, sized_so}
 use Rattle.ab_draw.specs.Draws.{counts_of, counts_or, most_drawn, told_at, told_between, IsFrontOf, IsPictureOf}
 use Rattle.ab_draw.proofs.Walks.{cause_front}
 
@@ -32,12 +32,6 @@ module _ (proto : Proto Any) where
   counts_few (e ∷ es) w =
       few_or (stepped proto w e) (λ v. length v.packets ∷ counts_of proto v es) (length (e ∷ es)) (λ v. omega (arith, counts_few es v))
 
-  begins_so : (head : Head) (events : List Event) (x : Setup) (found : List (Party × ℕ)) (w : World Any) → found ≡ head.faulty → x ≡ record { cluster = head.cluster; faulty = found; lms = head.lms } → w ≡ start proto x
-      → w ≡ start proto (setup_in head.cluster (script_of head events))
-  begins_so head events x found w faulty sets starts =
-      let begins : (ys : List (Party × ℕ)) → Setup = λ ys. record { cluster = head.cluster; faulty = ys; lms = head.lms } in
-      starts ∙ ap (start proto) (sets ∙ ap begins faulty)
-
   -- what is told of the first events makes the picture of them
   pub front_is : (head : Head) (events fs : List Event) (found : List (Party × ℕ)) (x : Setup) (w end : World Any) (counts : List ℕ) (p : Picture)
       → fs ≡ take most_drawn events → found ≡ head.faulty
@@ -48,7 +42,7 @@ module _ (proto : Proto Any) where
       → IsFrontOf proto head.cluster (script_of head events) p
   front_is head events fs found x w end counts p first faulty sets starts leads counted pictured =
       let begin : World Any = start proto (setup_in head.cluster (script_of head events)) in
-      let begins : w ≡ begin = begins_so head events x found w faulty sets starts in
+      let begins : w ≡ begin = begins_so proto head events found x w faulty sets starts in
       let counted_so : counts ≡ counts_of proto begin (take most_drawn events) = counted ∙ (λ j. counts_of proto (begins j) (first j)) in
       let tells : told_at end fs counts ≡ told_between proto begin (take most_drawn events) end = λ j. told_at end (first j) (counted_so j) in
       record {
@@ -72,7 +66,7 @@ module _ (proto : Proto Any) where
       → EventsCause fault line (outcome proto 1 w fs) → EventsCause fault line (run_in proto head.cluster (script_of head events))
   front_cause fault line head events fs found x w first faulty sets starts cause =
       let begin : World Any = start proto (setup_in head.cluster (script_of head events)) in
-      let begins : w ≡ begin = begins_so head events x found w faulty sets starts in
+      let begins : w ≡ begin = begins_so proto head events found x w faulty sets starts in
       cause_front proto fault line most_drawn begin events
       (subst (λ (o : Result (World Any) (ℕ × WorldFault)). EventsCause fault line o) (λ j. outcome proto 1 (begins j) (first j)) cause)
 

@@ -1,15 +1,13 @@
 -- Runs, and their first events.
-use Rattle.std.proofs.Common.{◌≡◌, ℕ, zero, suc, ◌+◌, List, [], ◌∷◌, ◌++◌, Result, Ok, Err, Option, length, take, sym, ap, subst, ◌∙◌, append_assoc}
+use Rattle.std.proofs.Common.{◌≡◌, ℕ, zero, suc, ◌+◌, List, [], ◌∷◌, ◌++◌, Result, Ok, Err, length, take, sym, ap, ◌∙◌, append_assoc}
 use Rattle.ab_text.specs.declared.event.Event.{Event}
 use Rattle.ab_abs.specs.Ensembles.{Proto}
 use Rattle.ab_world.specs.declared.fault.WorldFault.{WorldFault}
 use Rattle.ab_world.specs.Runs.{outcome, refused_or}
-use Rattle.ab_world.specs.declared.fault.WorldFault.TheVariants.{BadCommand, NoPacket, BadParty, Busy, EventLimit, PacketLimit, OutOfMemory as NoMemory}
-use Rattle.ab_world.specs.Steps.{Cause, stepped}
+use Rattle.ab_world.specs.Steps.{stepped}
 use Rattle.ab_world.specs.Worlds.{World}
 use Rattle.ab_replay.specs.Protocols.{Any}
-use Rattle.ab_replay.specs.Replays.{EventsCause, fault_from, step_refusal}
-use Rattle.ab_replay.specs.declared.refusal.Refusal.{Refusal}
+use Rattle.ab_replay.specs.Replays.{EventsCause}
 use Rattle.ab_replay.specs.declared.running.ReplayFault.{ReplayFault}
 use Rattle.ab_replay.specs.declared.running.ReplayFault.TheVariants.{Read, TooLong, Refused, TooManyEvents, TooManyPackets, OutOfMemory}
 use Rattle.ab_draw.specs.Draws.{counts_of, counts_or}
@@ -46,19 +44,3 @@ module _ (proto : Proto Any) where
       ∙ ap (λ r. old ++ counts_or r (λ u. length u.packets ∷ counts_of proto u rest)) (sym step)
       ∙ ap (λ t. old ++ counts_of proto w t) (sym front)
       ∙ was
-
-  -- the first event that is refused is the cause
-  pub refused_at : (w : World Any) (e : Event) (line i at : ℕ) (fault : WorldFault) (r : Option Refusal) (f : ReplayFault) (o : Result (World Any) (ℕ × WorldFault))
-      → f ≡ fault_from r → r ≡ step_refusal at fault → at ≡ line + (i + 1) → Cause proto fault w e
-      → (stepped proto w e ≡ Err fault → o ≡ Err (i + 1, fault)) → EventsCause f line o
-  refused_at w e line i at BadCommand r f o is refuses place cause next =
-      subst (λ (x : ReplayFault). EventsCause x line o) (sym (is ∙ ap fault_from refuses)) (i + 1, BadCommand, next cause, ap (λ k. step_refusal k BadCommand) (sym place))
-  refused_at w e line i at NoPacket r f o is refuses place cause next =
-      subst (λ (x : ReplayFault). EventsCause x line o) (sym (is ∙ ap fault_from refuses)) (i + 1, NoPacket, next cause, ap (λ k. step_refusal k NoPacket) (sym place))
-  refused_at w e line i at BadParty r f o is refuses place cause next =
-      subst (λ (x : ReplayFault). EventsCause x line o) (sym (is ∙ ap fault_from refuses)) (i + 1, BadParty, next cause, ap (λ k. step_refusal k BadParty) (sym place))
-  refused_at w e line i at Busy r f o is refuses place cause next =
-      subst (λ (x : ReplayFault). EventsCause x line o) (sym (is ∙ ap fault_from refuses)) (i + 1, Busy, next cause, ap (λ k. step_refusal k Busy) (sym place))
-  refused_at w e line i at EventLimit r f o is refuses place cause next = subst (λ (x : ReplayFault). EventsCause x line o) (sym (is ∙ ap fault_from refuses)) tt
-  refused_at w e line i at PacketLimit r f o is refuses place cause next = subst (λ (x : ReplayFault). EventsCause x line o) (sym (is ∙ ap fault_from refuses)) tt
-  refused_at w e line i at NoMemory r f o is refuses place cause next = subst (λ (x : ReplayFault). EventsCause x line o) (sym (is ∙ ap fault_from refuses)) tt

@@ -1,5 +1,5 @@
 -- Runs without a refusal, and what the first refusal says of a text.
-use Rattle.std.proofs.Common.{◌≡◌, ◌↔◌, ℕ, zero, suc, ◌+◌, ◌*◌, ◌≤◌, ◌<◌, List, [], ◌∷◌, Bool, true, false, Option, None, Some, Result, Ok, Err, if◌then◌else◌, length, slice_set, refl, sym, ap, ◌∙◌, subst, inr, arith}
+use Rattle.std.proofs.Common.{◌≡◌, ◌↔◌, ℕ, zero, suc, ◌+◌, ◌*◌, ◌≤◌, ◌<◌, List, [], ◌∷◌, Bool, true, false, Option, None, Some, Result, Ok, Err, if◌then◌else◌, drop, get_or, length, slice_set, refl, sym, ap, ◌∙◌, subst, inr, arith}
 use Rattle.std.proofs.Math.Bridge.{le_prop}
 use Rattle.std.specs.Prelude.{IfErr}
 use Rattle.std.specs.Result.{IsErrAnd}
@@ -13,7 +13,7 @@ use Rattle.ab_open.specs.declared.fault.OpenFault.{OpenFault}
 use Rattle.ab_abs.specs.Ensembles.{Proto}
 use Rattle.ab_num.specs.declared.cluster.Cluster.{Cluster}
 use Rattle.ab_num.specs.declared.plan.Plan.{Plan}
-use Rattle.std.proofs.lemmas.List.{length-append}
+use Rattle.std.proofs.lemmas.List.{at_drop_more, length-append}
 use Rattle.std.proofs.lemmas.Bool.{lt-ltb}
 use Rattle.arrayvec.specs.ArrayVec.{ArrayVec}
 use Rattle.ab_text.specs.declared.event.Core.{Core as CoreName}
@@ -28,14 +28,15 @@ use Rattle.ab_cast.specs.Setups.{Setup, party_at, place_of}
 use Rattle.ab_cast.specs.Cores.{Core, replica, client, core_after}
 use Rattle.ab_cast.specs.Casts.{Cast, with_core, core_at, command_refusal, first_site, first_sites}
 use Rattle.ab_world.specs.declared.fault.WorldFault.{WorldFault}
-use Rattle.ab_world.specs.declared.fault.WorldFault.TheVariants.{EventLimit, BadCommand, PacketLimit}
+use Rattle.ab_world.specs.declared.fault.WorldFault.TheVariants.{BadCommand, NoPacket, BadParty, Busy, EventLimit, PacketLimit, OutOfMemory as NoMemory}
 use Rattle.ab_world.specs.Runs.{outcome, refused_or}
-use Rattle.ab_world.specs.Steps.{Happening, ready, ready_in, happening, asked, asked_at, handed, addressed, delivered, rung, refuse_command, after, after_taking, moved_at, stepped, stepped_by, cue_from}
+use Rattle.ab_world.specs.Steps.{Cause, Happening, ready, ready_in, happening, asked, asked_at, handed, addressed, delivered, rung, refuse_command, after, after_taking, moved_at, stepped, stepped_by, cue_from}
 use Rattle.ab_world.specs.Worlds.{World, start}
 use Rattle.ab_replay.specs.Protocols.{Any}
+use Rattle.ab_replay.specs.declared.refusal.Refusal.{Refusal}
 use Rattle.ab_replay.specs.declared.running.ReplayFault.{ReplayFault}
 use Rattle.ab_replay.specs.declared.running.ReplayFault.TheVariants.{Read, TooLong, Refused, TooManyEvents, TooManyPackets, OutOfMemory}
-use Rattle.ab_replay.specs.Replays.{IsClusterOf, RunsTo, Runs, run_in, setup_in, proto_of, head_lines, EventsCause, TextCause}
+use Rattle.ab_replay.specs.Replays.{IsClusterOf, RunsTo, Runs, run_in, setup_in, proto_of, head_lines, EventsCause, TextCause, fault_from, step_refusal}
 
 -- ---- how many replicas a world has
 
@@ -218,16 +219,17 @@ one_end proto s r q a b =
 
 -- ---- the run of a schedule
 
--- a run from the world that the head of a schedule sets up, through its events
-pub runs_schedule : (proto : Proto Any) (head : Head) (events es : List Event) (found : List (Party × ℕ)) (x : Setup) (w : World Any) (end : Result (World Any) (ℕ × WorldFault))
-    → found ≡ head.faulty → x ≡ record { cluster = head.cluster; faulty = found; lms = head.lms } → w ≡ start proto x → es ≡ events
-    → outcome proto 1 w es ≡ end → run_in proto head.cluster (script_of head events) ≡ end
-runs_schedule proto head events es found x w end faulty sets starts same is =
+-- a world that is set up by the head of a schedule
+pub begins_so : (proto : Proto Any) (head : Head) (events : List Event) (found : List (Party × ℕ)) (x : Setup) (w : World Any) → found ≡ head.faulty
+    → x ≡ record { cluster = head.cluster; faulty = found; lms = head.lms } → w ≡ start proto x → w ≡ start proto (setup_in head.cluster (script_of head events))
+begins_so proto head events found x w faulty sets starts =
     let begins : (ys : List (Party × ℕ)) → Setup = λ ys. record { cluster = head.cluster; faulty = ys; lms = head.lms } in
-    ap (λ y. outcome proto 1 (start proto y) events) (sym (sets ∙ ap begins faulty))
-    ∙ ap (λ v. outcome proto 1 v events) (sym starts)
-    ∙ ap (outcome proto 1 w) (sym same)
-    ∙ is
+    starts ∙ ap (start proto) (sets ∙ ap begins faulty)
+
+-- a run from there, through the events
+pub runs_schedule : (proto : Proto Any) (head : Head) (events es : List Event) (w : World Any) (end : Result (World Any) (ℕ × WorldFault)) → w ≡ start proto (setup_in head.cluster (script_of head events)) → es ≡ events
+    → outcome proto 1 w es ≡ end → run_in proto head.cluster (script_of head events) ≡ end
+runs_schedule proto head events es w end begins same is = ap (λ v. outcome proto 1 v events) (sym begins) ∙ ap (outcome proto 1 w) (sym same) ∙ is
 
 pub sized_so : (head : Head) (events : List Event) → IsClusterOf head.cluster (script_of head events)
 sized_so head events = record { f = refl; clients = refl; plan = refl }
@@ -257,6 +259,34 @@ stops_text OutOfMemory text s c line sized reads few at cause = tt
 stops_text TooManyEvents text s c line sized reads few at cause = absurd cause
 stops_text Read text s c line sized reads few at cause = absurd cause
 stops_text TooLong text s c line sized reads few at cause = absurd cause
+
+-- ---- event by event
+
+pub next_event : (events : List Event) (i : ℕ) (e : Event) → i < length events → e ≡ get_or events i e → drop i events ≡ e ∷ drop (i + 1) events
+next_event events i e lt is = at_drop_more (λ t. t) events i e lt ∙ ap (λ x. x ∷ drop (i + 1) events) (sym is)
+
+module _ (proto : Proto Any) where
+  -- what comes of the events from here on, by what comes of the next
+  pub steps_to : (events : List Event) (i : ℕ) (e : Event) (w : World Any) (o : Result (World Any) (ℕ × WorldFault)) → drop i events ≡ e ∷ drop (i + 1) events → outcome proto (i + 1) w (drop i events) ≡ o
+      → (r : Result (World Any) WorldFault) → stepped proto w e ≡ r → refused_or proto (i + 1) r (λ v. outcome proto (i + 1 + 1) v (drop (i + 1) events)) ≡ o
+  steps_to events i e w o next is r steps =
+      ap (λ r. refused_or proto (i + 1) r (λ v. outcome proto (i + 1 + 1) v (drop (i + 1) events))) (sym steps) ∙ ap (outcome proto (i + 1) w) (sym next) ∙ is
+
+  -- the first event that is refused is the cause
+  pub refused_at : (w : World Any) (e : Event) (line i at : ℕ) (fault : WorldFault) (r : Option Refusal) (f : ReplayFault) (o : Result (World Any) (ℕ × WorldFault))
+      → f ≡ fault_from r → r ≡ step_refusal at fault → at ≡ line + (i + 1) → Cause proto fault w e
+      → (stepped proto w e ≡ Err fault → o ≡ Err (i + 1, fault)) → EventsCause f line o
+  refused_at w e line i at BadCommand r f o is refuses place cause next =
+      subst (λ (x : ReplayFault). EventsCause x line o) (sym (is ∙ ap fault_from refuses)) (i + 1, BadCommand, next cause, ap (λ k. step_refusal k BadCommand) (sym place))
+  refused_at w e line i at NoPacket r f o is refuses place cause next =
+      subst (λ (x : ReplayFault). EventsCause x line o) (sym (is ∙ ap fault_from refuses)) (i + 1, NoPacket, next cause, ap (λ k. step_refusal k NoPacket) (sym place))
+  refused_at w e line i at BadParty r f o is refuses place cause next =
+      subst (λ (x : ReplayFault). EventsCause x line o) (sym (is ∙ ap fault_from refuses)) (i + 1, BadParty, next cause, ap (λ k. step_refusal k BadParty) (sym place))
+  refused_at w e line i at Busy r f o is refuses place cause next =
+      subst (λ (x : ReplayFault). EventsCause x line o) (sym (is ∙ ap fault_from refuses)) (i + 1, Busy, next cause, ap (λ k. step_refusal k Busy) (sym place))
+  refused_at w e line i at EventLimit r f o is refuses place cause next = subst (λ (x : ReplayFault). EventsCause x line o) (sym (is ∙ ap fault_from refuses)) tt
+  refused_at w e line i at PacketLimit r f o is refuses place cause next = subst (λ (x : ReplayFault). EventsCause x line o) (sym (is ∙ ap fault_from refuses)) tt
+  refused_at w e line i at NoMemory r f o is refuses place cause next = subst (λ (x : ReplayFault). EventsCause x line o) (sym (is ∙ ap fault_from refuses)) tt
 
 -- ---- errors that are handed on
 

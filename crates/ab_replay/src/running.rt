@@ -5,8 +5,9 @@ ghost use Rattle.ab_text.specs.Schedules.{script_of};
 ghost use Rattle.ab_abs.specs.Promises.{ServesAll};
 ghost use Rattle.ab_keys.specs.Keys.{is_party};
 ghost use Rattle.ab_world.specs.Runs.{outcome};
+ghost use Rattle.ab_world.specs.Worlds.{start};
 ghost use Rattle.ab_replay.specs.Protocols.{any, is_served};
-ghost use Rattle.ab_replay.specs.Replays.{run_in, Performs, Replays, EventsCause, TextCause, ReplayCause, fault_from, text_refusal, step_refusal};
+ghost use Rattle.ab_replay.specs.Replays.{run_in, setup_in, Performs, Replays, EventsCause, TextCause, ReplayCause, fault_from, text_refusal, step_refusal};
 ghost use Rattle.ab_replay.specs.Streams.{IsInput};
 
 use crate::refusal::{Cause, Refusal};
@@ -140,6 +141,29 @@ fn is_held(premise: &Premise) -> bool
     matches!(premise, Premise::Held)
 }
 
+/// Runs a schedule of few events in the world that its head sets up, and reports. The first event stands in the line after
+/// this one.
+fn report_in<S: Service>(
+    alloc: Global,
+    schedule: &Schedule,
+    world: &mut AnyWorld<S>,
+    line: u32,
+) -> Result<Replayed, ReplayFault>
+    requires served { ServesAll is_served schedule.now.head.cluster }
+    requires few { length schedule.now.events < 100001 }
+    requires begins { world.old ≡ start (any S.machine) (setup_in schedule.now.head.cluster (script_of schedule.now.head schedule.now.events)) }
+    requires short { line < 2 ^ 31 }
+    ensures ok { IfOk result (λ v. Performs S.machine (script_of schedule.now.head schedule.now.events) v.report.items v.held) }
+    ensures cause { IfErr result (λ e. EventsCause e line (run_in (any S.machine) schedule.now.head.cluster (script_of schedule.now.head schedule.now.events))) }
+{
+    run_events(alloc, world, schedule.events.as_slice(), line)?;
+    premise_is_exact::<S, AnyProtocol<S>>();
+    worlds_keep_promises::<S, AnyProtocol<S>>();
+    let held = is_held(&world.premise());
+    let report = report(alloc, world)?;
+    Ok(Replayed { report, held })
+}
+
 /// The report of a schedule of few events, with a service. The first event stands in the line after this one.
 fn perform<S: Service>(
     alloc: Global,
@@ -156,13 +180,7 @@ fn perform<S: Service>(
     let head = &schedule.head;
     let setup = Setup::new(alloc, &head.cluster, head.faulty.as_slice(), head.lms)?;
     let mut world = AnyWorld::<S>::new(alloc, setup)?;
-    run_events(alloc, &mut world, schedule.events.as_slice(), line)?;
-    premise_is_exact::<S, AnyProtocol<S>>();
-    worlds_keep_promises::<S, AnyProtocol<S>>();
-    Ok(Replayed {
-        report: report(alloc, &world)?,
-        held: is_held(&world.premise()),
-    })
+    report_in(alloc, schedule, &mut world, line)
 }
 
 /// The report of the schedule that a text spells.

@@ -1,45 +1,25 @@
 //! The events of a storm are drawn, each where the world stands after those before it, and kept.
 
-ghost use Rattle.std.specs.Prelude.{◌≡◌, ◌<◌, ◌≤◌, ◌++◌, ◌∷◌, [], ℕ, All, IsTrue, IsSome, IfOk, IfErr, OnOk, Ok, Some};
+ghost use Rattle.std.specs.Prelude.{◌≡◌, ◌<◌, ◌≤◌, ◌++◌, ◌∷◌, [], ℕ, All, IsTrue, IfOk, IfErr, OnOk, Ok};
 ghost use Rattle.ab_num.specs.Places.{kind_of};
 ghost use Rattle.ab_text.specs.EventLines.{IsEvent};
 ghost use Rattle.ab_world.specs.Runs.{outcome};
 ghost use Rattle.ab_world.specs.Steps.{stepped};
 ghost use Rattle.ab_storm_run.specs.declared.running.StormFault.TheVariants.{OutOfMemory as NoMemory};
 ghost use Rattle.ab_storm_run.specs.Standing.{Goes};
-ghost use Rattle.ab_storm_run.specs.Runs.{idle_of, drawn_at, drawn_events, end_of, storm_setup, IsClusterOf, SendsWithin, StepCause, EndCause, StormCause};
+ghost use Rattle.ab_storm_run.specs.Runs.{drawn_at, drawn_events, storm_setup, IsClusterOf, SendsWithin, StepCause, EndCause, StormCause};
 ghost use Rattle.ab_storm_events.specs.Drawn.{Draws};
 
 use ab_abs::Protocol;
 use ab_cast::Setup;
 use ab_num::Height;
 use ab_storm::Storm;
-use ab_storm_run::StormFault;
+use ab_storm_run::{StormFault, ended_by, idle_clients};
 use ab_svc::Service;
 use ab_text::{Event, Items};
 use ab_words::StormCommand;
-use ab_world::{World, WorldFault};
+use ab_world::World;
 use std::alloc::Global;
-
-/// For each number whether it is that of a client who has no request open.
-fn idle_clients<S: Service, P: Protocol<S>>(world: &World<S, P>) -> [bool; 16]
-    ensures { result ≡ idle_of world.now }
-{
-    world.idle()
-}
-
-/// What ends a storm where an event that it drew was not taken.
-fn ended_by(fault: WorldFault) -> StormFault
-    requires { IsSome (end_of fault) }
-    ensures { Some result ≡ end_of fault }
-{
-    match fault {
-        WorldFault::PacketLimit => StormFault::TooManyPackets,
-        WorldFault::OutOfMemory => StormFault::OutOfMemory,
-        WorldFault::EventLimit | WorldFault::BadCommand => unreachable!(),
-        WorldFault::NoPacket | WorldFault::BadParty | WorldFault::Busy => unreachable!(),
-    }
-}
 
 /// Keeps an event behind others.
 fn keep(kept: &mut Items<Event>, event: Event) -> Result<(), StormFault>

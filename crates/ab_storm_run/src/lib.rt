@@ -6,4 +6,4 @@ mod running;
 mod summary;
 
 pub use laws::{storms_are_not_refused, storms_end_once};
-pub use running::{StormFault, Stormed, storm};
+pub use running::{StormFault, Stormed, ended_by, idle_clients, storm};

@@ -45,14 +45,14 @@ pub struct Stormed {
 }
 
 /// For each number whether it is that of a client who has no request open.
-fn idle_clients<S: Service, P: Protocol<S>>(world: &World<S, P>) -> [bool; 16]
+pub fn idle_clients<S: Service, P: Protocol<S>>(world: &World<S, P>) -> [bool; 16]
     ensures { result ≡ idle_of world.now }
 {
     world.idle()
 }
 
 /// What ends a storm where an event that it drew was not taken.
-fn ended_by(fault: WorldFault) -> StormFault
+pub fn ended_by(fault: WorldFault) -> StormFault
     requires { IsSome (end_of fault) }
     ensures { Some result ≡ end_of fault }
 {

@@ -6,7 +6,7 @@ use Rattle.ab_world.specs.Runs.{outcome}
 use Rattle.ab_world.specs.Worlds.{World}
 use Rattle.ab_replay.specs.Protocols.{Any, any}
 use Rattle.ab_replay.specs.Replays.{run_in, EventsCause}
-use Rattle.ab_replay.proofs.RunLemmas.{runs_schedule}
+use Rattle.ab_replay.proofs.RunLemmas.{begins_so, runs_schedule}
 use Rattle.ab_draw.specs.Draws.{most_drawn}
 use Rattle.ab_draw.proofs.Fronts.{on_ok_then}
 use Rattle.ab_draw.proofs.drawing.check.Goals as goal
@@ -18,10 +18,11 @@ returns-clause-ok g c =
     let events = c.args.schedule.now.events in
     let w = c.in_ok-world.world in
     let es = c.as_slice-events.result.now in
+    let begins = begins_so proto head events c.as_slice.result.now c.in_ok-setup.setup w c.as_slice.ensures c.in_ok-setup.ensures c.in_ok-world.ensures in
     let end = c.run_events.new.world in
     on_ok_then c.run_events.result (outcome proto 1 w es ≡ Ok end)
     ((length events ≤ most_drawn) ⊎ ((end : World Any) × (run_in proto head.cluster (script_of head events) ≡ Ok end)))
-    (λ runs. inr (end, runs_schedule proto head events es c.as_slice.result.now c.in_ok-setup.setup w (Ok end) c.as_slice.ensures c.in_ok-setup.ensures c.in_ok-world.ensures c.as_slice-events.ensures runs))
+    (λ runs. inr (end, runs_schedule proto head events es w (Ok end) begins c.as_slice-events.ensures runs))
     c.run_events.ensures.ok
 
 pub returns-clause-cause : goal.returns-clause-cause
@@ -31,5 +32,6 @@ returns-clause-cause g c =
     let events = c.args.schedule.now.events in
     let w = c.in_ok-world.world in
     let es = c.as_slice-events.result.now in
-    let same = runs_schedule proto head events es c.as_slice.result.now c.in_ok-setup.setup w (outcome proto 1 w es) c.as_slice.ensures c.in_ok-setup.ensures c.in_ok-world.ensures c.as_slice-events.ensures (λ i. outcome proto 1 w es) in
+    let begins = begins_so proto head events c.as_slice.result.now c.in_ok-setup.setup w c.as_slice.ensures c.in_ok-setup.ensures c.in_ok-world.ensures in
+    let same = runs_schedule proto head events es w (outcome proto 1 w es) begins c.as_slice-events.ensures (λ i. outcome proto 1 w es) in
     subst (λ (o : Result (World Any) (ℕ × WorldFault)). IfErr c.run_events.result (λ e. EventsCause e c.args.line o)) (sym same) c.run_events.ensures.cause

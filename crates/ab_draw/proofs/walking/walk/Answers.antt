@@ -1,15 +1,14 @@
-use Rattle.std.proofs.Common.{◌≡◌, ◌+◌, ◌<◌, ◌∷◌, ℕ, List, Ok, Err, arith, sym, ap, ◌∙◌, drop, subst}
-use Rattle.std.proofs.lemmas.List.{at_drop_more}
+use Rattle.std.proofs.Common.{◌≡◌, ◌+◌, Ok, Err, arith, sym, ◌∙◌, drop, subst}
 use Rattle.ab_world.specs.declared.fault.WorldFault.{WorldFault}
 use Rattle.ab_world.specs.declared.fault.WorldFault.TheVariants.{PacketLimit}
 use Rattle.ab_world.specs.Steps.{Cause, stepped}
-use Rattle.ab_world.specs.Runs.{outcome, refused_or}
+use Rattle.ab_world.specs.Runs.{outcome}
 use Rattle.ab_replay.specs.Protocols.{any}
 use Rattle.ab_replay.specs.declared.running.ReplayFault.TheVariants.{OutOfMemory}
 use Rattle.ab_replay.specs.Replays.{EventsCause}
-use Rattle.ab_replay.proofs.RunLemmas.{kept_err, no_limit, step_steps}
+use Rattle.ab_replay.proofs.RunLemmas.{kept_err, next_event, no_limit, refused_at, step_steps, steps_to}
 use Rattle.ab_draw.specs.Draws.{counts_of}
-use Rattle.ab_draw.proofs.Walks.{counted, refused_at}
+use Rattle.ab_draw.proofs.Walks.{counted}
 use Rattle.ab_draw.proofs.walking.walk.Goals as goal
 
 pub loop-i-preserved : goal.loop-i-preserved
@@ -19,12 +18,9 @@ loop-i-preserved g c =
     let e = c.index-events-i.result in
     let events = c.args.events.now in
     let steps = step_steps proto c.loop-i.world c.step.new.self e c.in-Ok.ensures.ok in
-    let next : drop i events ≡ e ∷ drop (i + 1) events = at_drop_more (λ t. t) events i e c.loop-i-test.true ∙ ap (λ x. x ∷ drop (i + 1) events) (sym c.index-events-i.is) in
+    let next = next_event events i e c.loop-i-test.true c.index-events-i.is in
     record {
-      rest =
-          ap (λ r. refused_or proto (i + 1) r (λ v. outcome proto (i + 1 + 1) v (drop (i + 1) events))) (sym c.in-Ok.ensures.ok)
-          ∙ ap (outcome proto (i + 1) c.loop-i.world) (sym next)
-          ∙ c.loop-i.invariant.rest;
+      rest = steps_to proto events i e c.loop-i.world (outcome proto 1 c.args.world.now events) next c.loop-i.invariant.rest (Ok c.step.new.self) c.in-Ok.ensures.ok;
       told = counted proto c.loop-i.world c.step.new.self e (drop i events) (drop (i + 1) events) c.loop-i.counts.items c.keep.new.counts.items
           (counts_of proto c.args.world.now events) c.packets.result c.in-Ok.ensures.ok next c.packets.ensures c.in_ok-keep.ensures c.loop-i.invariant.told;
       counted = omega (arith, steps.0, c.loop-i.invariant.counted);
@@ -45,12 +41,8 @@ returns-in-Err-PacketLimit-clause-cause g c =
     let events = c.args.events.now in
     let refused : stepped proto c.loop-i.world e ≡ Err PacketLimit =
     subst (λ (f : WorldFault). Cause proto f c.loop-i.world e) c.in-Err-PacketLimit.field-0-is c.in-Err-PacketLimit.ensures.cause in
-    let next : drop i events ≡ e ∷ drop (i + 1) events = at_drop_more (λ t. t) events i e c.loop-i-test.true ∙ ap (λ x. x ∷ drop (i + 1) events) (sym c.index-events-i.is) in (
-      i + 1,
-      sym c.loop-i.invariant.rest
-          ∙ ap (outcome proto (i + 1) c.loop-i.world) next
-          ∙ ap (λ r. refused_or proto (i + 1) r (λ v. outcome proto (i + 1 + 1) v (drop (i + 1) events))) refused,
-    )
+    let next = next_event events i e c.loop-i-test.true c.index-events-i.is in
+    (i + 1, sym (steps_to proto events i e c.loop-i.world (outcome proto 1 c.args.world.now events) next c.loop-i.invariant.rest (Err PacketLimit) refused))
 
 pub returns-in_err-keep-clause-cause : goal.returns-in_err-keep-clause-cause
 returns-in_err-keep-clause-cause g c =
@@ -63,13 +55,11 @@ returns-in-Err g c =
     let e = c.index-events-i.result in
     let events = c.args.events.now in
     let fault = c.in-Err.fault in
-    let next : drop i events ≡ e ∷ drop (i + 1) events = at_drop_more (λ t. t) events i e c.loop-i-test.true ∙ ap (λ x. x ∷ drop (i + 1) events) (sym c.index-events-i.is) in
+    let whole = outcome proto 1 c.args.world.now events in
+    let next = next_event events i e c.loop-i-test.true c.index-events-i.is in
     record {
       ok = tt;
       counts = tt;
-      cause = refused_at proto c.loop-i.world e c.args.line i (c.args.line + 1 + i) fault c.refusal_of_step.result c.fault_of.result (outcome proto 1 c.args.world.now events)
-          c.fault_of.ensures c.refusal_of_step.ensures (omega arith) c.in-Err.ensures.cause
-          (λ refused. sym c.loop-i.invariant.rest
-          ∙ ap (outcome proto (i + 1) c.loop-i.world) next
-          ∙ ap (λ r. refused_or proto (i + 1) r (λ v. outcome proto (i + 1 + 1) v (drop (i + 1) events))) refused);
+      cause = refused_at proto c.loop-i.world e c.args.line i (c.args.line + 1 + i) fault c.refusal_of_step.result c.fault_of.result whole c.fault_of.ensures c.refusal_of_step.ensures (omega arith) c.in-Err.ensures.cause
+          (λ refused. sym (steps_to proto events i e c.loop-i.world whole next c.loop-i.invariant.rest (Err fault) refused));
     }

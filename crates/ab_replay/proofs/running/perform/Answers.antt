@@ -1,65 +1,7 @@
-use Rattle.std.proofs.Common.{◌≡◌, ◌↔◌, ℕ, IsTrue, Ok, Result, sym, subst, rules}
-use Rattle.std.specs.Prelude.{IfErr}
-use Rattle.ab_world.specs.declared.fault.WorldFault.{WorldFault}
-use Rattle.ab_world.specs.Runs.{outcome}
-use Rattle.ab_world.specs.Worlds.{World}
-use Rattle.ab_text.specs.declared.line.Premise.{Premise}
-use Rattle.ab_text.specs.declared.line.Premise.TheVariants.{Held}
-use Rattle.ab_text.specs.Schedules.{script_of}
-use Rattle.ab_replay.specs.Protocols.{Any, any}
-use Rattle.ab_replay.specs.declared.running.ReplayFault.TheVariants.{OutOfMemory}
-use Rattle.ab_replay.specs.Replays.{run_in, setup_in, EventsCause}
-use Rattle.ab_replay.proofs.RunLemmas.{all_replicas, kept_err, runs_schedule, sized_so}
+use Rattle.ab_replay.specs.Protocols.{any}
+use Rattle.ab_replay.proofs.RunLemmas.{begins_so}
 use Rattle.ab_replay.proofs.running.perform.Goals as goal
 
-pub report-requires : goal.report-requires
-report-requires g c =
-    let proto = any g.S.Service.machine in
-    let head = c.args.schedule.now.head in
-    let events = c.args.schedule.now.events in
-    let end = c.run_events.new.world in
-    all_replicas proto head.cluster (script_of head events) end
-    (runs_schedule proto head events c.as_slice-2.result.now c.as_slice.result.now c.in_ok-setup.setup c.in_ok-world.world (Ok end) c.as_slice.ensures c.in_ok-setup.ensures c.in_ok-world.ensures c.as_slice-2.ensures c.in_ok-run_events.ensures.ok)
-
-pub returns-clause-ok : goal.returns-clause-ok
-returns-clause-ok g c =
-    let proto = any g.S.Service.machine in
-    let head = c.args.schedule.now.head in
-    let events = c.args.schedule.now.events in
-    let s = script_of head events in
-    let end = c.run_events.new.world in
-    let serves = c.requires.served in
-    let x = setup_in head.cluster s in
-    let runs : run_in proto head.cluster s ≡ Ok end =
-    runs_schedule proto head events c.as_slice-2.result.now c.as_slice.result.now c.in_ok-setup.setup c.in_ok-world.world (Ok end) c.as_slice.ensures c.in_ok-setup.ensures c.in_ok-world.ensures c.as_slice-2.ensures c.in_ok-run_events.ensures.ok in
-    record {
-      cluster = head.cluster;
-      sized = sized_so head events;
-      end = end;
-      runs = runs;
-      reports = c.in_ok-report.ensures;
-      says = subst (λ (p : Premise). IsTrue c.is_held.result ↔ (p ≡ Held)) c.premise.ensures c.is_held.ensures;
-      exact = c.premise_is_exact.ensures x s.events end serves runs;
-      promises = λ holds. record {
-        ordered = c.worlds_keep_promises.ensures.ordered x s.events end serves runs holds;
-        instances = c.worlds_keep_promises.ensures.instances x s.events end serves runs holds;
-      };
-    }
-
-pub returns-in_err-run_events-clause-cause : goal.returns-in_err-run_events-clause-cause
-returns-in_err-run_events-clause-cause g c =
-    let proto = any g.S.Service.machine in
-    let head = c.args.schedule.now.head in
-    let events = c.args.schedule.now.events in
-    let w = c.in_ok-world.world in
-    let es = c.as_slice-2.result.now in
-    let same = runs_schedule proto head events es c.as_slice.result.now c.in_ok-setup.setup w (outcome proto 1 w es) c.as_slice.ensures c.in_ok-setup.ensures c.in_ok-world.ensures c.as_slice-2.ensures (λ i. outcome proto 1 w es) in
-    subst (λ (o : Result (World Any) (ℕ × WorldFault)). IfErr c.from_residual-in_err-run_events.result (λ e. EventsCause e c.args.line o)) (sym same)
-    (kept_err c.from_residual-in_err-run_events.result c.in_err-run_events.field-0.0 (λ e. EventsCause e c.args.line (outcome proto 1 w es)) c.from_residual-in_err-run_events.ensures.1 c.in_err-run_events.ensures.cause)
-
-pub returns-in_err-report-clause-cause : goal.returns-in_err-report-clause-cause
-returns-in_err-report-clause-cause g c =
-    let proto = any g.S.Service.machine in
-    let head = c.args.schedule.now.head in
-    let s = script_of head c.args.schedule.now.events in
-    kept_err c.from_residual-in_err-report.result OutOfMemory (λ e. EventsCause e c.args.line (run_in proto head.cluster s)) c.from_residual-in_err-report.ensures.1 tt
+pub report_in-requires-clause-begins : goal.report_in-requires-clause-begins
+report_in-requires-clause-begins g c =
+    begins_so (any g.S.Service.machine) c.args.schedule.now.head c.args.schedule.now.events c.as_slice.result.now c.in_ok-setup.setup c.in_ok-world.world c.as_slice.ensures c.in_ok-setup.ensures c.in_ok-world.ensures

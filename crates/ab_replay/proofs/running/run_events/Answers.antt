@@ -1,11 +1,10 @@
-use Rattle.std.proofs.Common.{◌≡◌, ◌+◌, ◌<◌, ◌∷◌, ℕ, List, Ok, Err, arith, sym, ap, ◌∙◌, drop, subst}
-use Rattle.std.proofs.lemmas.List.{at_drop_more}
+use Rattle.std.proofs.Common.{◌≡◌, ◌+◌, Ok, Err, arith, sym, ◌∙◌, subst}
 use Rattle.ab_world.specs.declared.fault.WorldFault.{WorldFault}
 use Rattle.ab_world.specs.declared.fault.WorldFault.TheVariants.{PacketLimit}
 use Rattle.ab_world.specs.Steps.{Cause, stepped}
-use Rattle.ab_world.specs.Runs.{outcome, refused_or}
+use Rattle.ab_world.specs.Runs.{outcome}
 use Rattle.ab_replay.specs.Protocols.{any}
-use Rattle.ab_replay.proofs.RunLemmas.{no_limit, step_steps}
+use Rattle.ab_replay.proofs.RunLemmas.{next_event, no_limit, refused_at, step_steps, steps_to}
 use Rattle.ab_replay.proofs.running.run_events.Goals as goal
 
 pub loop-i-preserved : goal.loop-i-preserved
@@ -15,12 +14,9 @@ loop-i-preserved g c =
     let e = c.index-events-i.result in
     let events = c.args.events.now in
     let steps = step_steps proto c.loop-i.world c.step.new.self e c.in-Ok.ensures.ok in
-    let next : drop i events ≡ e ∷ drop (i + 1) events = at_drop_more (λ t. t) events i e c.loop-i-test.true ∙ ap (λ x. x ∷ drop (i + 1) events) (sym c.index-events-i.is) in
+    let next = next_event events i e c.loop-i-test.true c.index-events-i.is in
     record {
-      rest =
-          ap (λ r. refused_or proto (i + 1) r (λ v. outcome proto (i + 1 + 1) v (drop (i + 1) events))) (sym c.in-Ok.ensures.ok)
-          ∙ ap (outcome proto (i + 1) c.loop-i.world) (sym next)
-          ∙ c.loop-i.invariant.rest;
+      rest = steps_to proto events i e c.loop-i.world (outcome proto 1 c.args.world.now events) next c.loop-i.invariant.rest (Ok c.step.new.self) c.in-Ok.ensures.ok;
       counted = omega (arith, steps.0, c.loop-i.invariant.counted);
       goes = steps.1 ∙ c.loop-i.invariant.goes;
     }
@@ -39,9 +35,20 @@ returns-in-Err-PacketLimit-clause-cause g c =
     let events = c.args.events.now in
     let refused : stepped proto c.loop-i.world e ≡ Err PacketLimit =
     subst (λ (f : WorldFault). Cause proto f c.loop-i.world e) c.in-Err-PacketLimit.field-0-is c.in-Err-PacketLimit.ensures.cause in
-    let next : drop i events ≡ e ∷ drop (i + 1) events = at_drop_more (λ t. t) events i e c.loop-i-test.true ∙ ap (λ x. x ∷ drop (i + 1) events) (sym c.index-events-i.is) in (
-      i + 1,
-      sym c.loop-i.invariant.rest
-          ∙ ap (outcome proto (i + 1) c.loop-i.world) next
-          ∙ ap (λ r. refused_or proto (i + 1) r (λ v. outcome proto (i + 1 + 1) v (drop (i + 1) events))) refused,
-    )
+    let next = next_event events i e c.loop-i-test.true c.index-events-i.is in
+    (i + 1, sym (steps_to proto events i e c.loop-i.world (outcome proto 1 c.args.world.now events) next c.loop-i.invariant.rest (Err PacketLimit) refused))
+
+pub returns-in-Err : goal.returns-in-Err
+returns-in-Err g c =
+    let proto = any g.S.Service.machine in
+    let i = c.loop-i.i in
+    let e = c.index-events-i.result in
+    let events = c.args.events.now in
+    let fault = c.in-Err.fault in
+    let whole = outcome proto 1 c.args.world.now events in
+    let next = next_event events i e c.loop-i-test.true c.index-events-i.is in
+    record {
+      ok = tt;
+      cause = refused_at proto c.loop-i.world e c.args.line i (c.args.line + 1 + i) fault c.refusal_of_step.result c.fault_of.result whole c.fault_of.ensures c.refusal_of_step.ensures (omega arith) c.in-Err.ensures.cause
+          (λ refused. sym (steps_to proto events i e c.loop-i.world whole next c.loop-i.invariant.rest (Err fault) refused));
+    }
