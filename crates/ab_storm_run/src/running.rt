@@ -4,13 +4,14 @@ ghost use Rattle.std.specs.Prelude.{◌≡◌, ◌↔◌, ◌<◌, ◌≤◌, �
 ghost use Rattle.ab_num.specs.Places.{kind_of};
 ghost use Rattle.ab_world.specs.Runs.{outcome};
 ghost use Rattle.ab_world.specs.Steps.{stepped};
+ghost use Rattle.ab_world.specs.Worlds.{start};
 ghost use Rattle.ab_storm_run.specs.Standing.{Goes};
-ghost use Rattle.ab_storm_run.specs.Runs.{idle_of, drawn_at, drawn_events, end_of, SendsWithin, Storms, StepCause, EndCause, StormCause};
+ghost use Rattle.ab_storm_run.specs.Runs.{idle_of, drawn_at, drawn_events, end_of, storm_setup, IsClusterOf, SendsWithin, Storms, StepCause, EndCause, StormCause};
 
 use crate::summary::summary;
 use ab_abs::Protocol;
 use ab_cast::Setup;
-use ab_num::{Height, OutOfMemory};
+use ab_num::{Cluster, Height, OutOfMemory};
 use ab_storm::Storm;
 use ab_svc::Service;
 use ab_text::Premise;
@@ -110,6 +111,30 @@ fn is_held(premise: &Premise) -> bool
     matches!(premise, Premise::Held)
 }
 
+/// Runs the storm that is asked for in the world that its cluster begins with, and sums it up.
+fn summary_in<S: Service, P: Protocol<S>>(
+    alloc: Global,
+    asked: &StormCommand,
+    cluster: &Cluster,
+    world: &mut World<S, P>,
+) -> Result<Stormed, StormFault>
+    requires served { (i : ℕ) → 1 ≤ i → IsTrue (P.serves (kind_of asked.now.plan i)) }
+    requires sends { SendsWithin P.proto asked.now }
+    requires few { asked.now.events ≤ 100000 }
+    requires sized { IsClusterOf cluster.now asked.now }
+    requires begins { world.old ≡ start P.proto (storm_setup cluster.now) }
+    ensures ok { IfOk result (λ v. Storms S.machine P.proto asked.now v.summary.items v.held) }
+    ensures cause { IfErr result (λ e. StormCause P.proto e asked.now) }
+{
+    let mut storm = Storm::new(asked.seed(), cluster);
+    run_events(alloc, &mut storm, world, asked.events())?;
+    premise_is_exact::<S, P>();
+    worlds_keep_promises::<S, P>();
+    let held = is_held(&world.premise());
+    let summary = summary(alloc, world)?;
+    Ok(Stormed { summary, held })
+}
+
 /// Runs the storm that is asked for: in a cluster with the service S, trees of height 10 and no faulty party, whose replicas
 /// go by P, which serves each kind of the plan and sends to parties of the cluster alone.
 pub fn storm<S: Service, P: Protocol<S>>(
@@ -125,12 +150,5 @@ pub fn storm<S: Service, P: Protocol<S>>(
     let cluster = asked.cluster();
     let setup = Setup::new(alloc, cluster, &[], Height::Ten)?;
     let mut world = World::<S, P>::new(alloc, setup)?;
-    let mut storm = Storm::new(asked.seed(), cluster);
-    run_events(alloc, &mut storm, &mut world, asked.events())?;
-    premise_is_exact::<S, P>();
-    worlds_keep_promises::<S, P>();
-    Ok(Stormed {
-        summary: summary(alloc, &world)?,
-        held: is_held(&world.premise()),
-    })
+    summary_in(alloc, asked, cluster, &mut world)
 }
