@@ -158,13 +158,13 @@ impl Memory {
     pub fn copy(&self, alloc: Global) -> Result<Memory, OutOfMemory>
         ensures { IfOk result (λ m. memory_of m ≡ memory_of self.now) }
     {
-        let accepted = self.accepted.copy(alloc)?;
-        let certs = copy_certs(alloc, &self.certs)?;
-        let executed = self.executed.copy(alloc)?;
         let votes = Vec::from_slice(alloc, &self.votes)?;
         let commits = Vec::from_slice(alloc, &self.commits)?;
-        let changes = copy_each(alloc, &self.changes)?;
         let requests = copy_requests(alloc, &self.requests)?;
+        let certs = copy_certs(alloc, &self.certs)?;
+        let changes = copy_each(alloc, &self.changes)?;
+        let executed = self.executed.copy(alloc)?;
+        let accepted = self.accepted.copy(alloc)?;
         Ok(Memory {
             view: self.view,
             changing: self.changing,
