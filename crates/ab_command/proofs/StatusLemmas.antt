@@ -37,7 +37,7 @@ use Rattle.ab_command.specs.Statuses.{StatusCause, HasFront, HasReport, HasSumma
 use Rattle.ab_command.proofs.Settled.{settled_as, written_or_said}
 
 -- a run has one end
-said_at : {S : Type 0} (machine : Machine S) (s : Script) (report : List ℕ) (held : Bool) (end : World Any) → Performs machine s report held → RunsTo (any machine) s (Ok end)
+said_at : {S : Type 0} (machine : Machine S) (s : Script) (report : List ℕ) (held : Bool) (end : World Any) → Performs machine (any machine) s report held → RunsTo (any machine) s (Ok end)
     → IsTrue held ↔ (premise_of end ≡ Held)
 said_at machine s report held end performs runs =
     let both : ◌≡◌ {A = Result (World Any) (ℕ × WorldFault)} (Ok performs.end) (Ok end) = one_end (any machine) s (Ok performs.end) (Ok end) (record { cluster = performs.cluster; sized = performs.sized; runs = performs.runs }) runs in

@@ -32,7 +32,6 @@ use Rattle.ab_world.specs.declared.fault.WorldFault.TheVariants.{BadCommand, NoP
 use Rattle.ab_world.specs.Runs.{outcome, refused_or}
 use Rattle.ab_world.specs.Steps.{Cause, Happening, ready, ready_in, happening, asked, asked_at, handed, addressed, delivered, rung, refuse_command, after, after_taking, moved_at, stepped, stepped_by, cue_from}
 use Rattle.ab_world.specs.Worlds.{World, start}
-use Rattle.ab_replay.specs.Protocols.{Any}
 use Rattle.ab_replay.specs.declared.refusal.Refusal.{Refusal}
 use Rattle.ab_replay.specs.declared.running.ReplayFault.{ReplayFault}
 use Rattle.ab_replay.specs.declared.running.ReplayFault.TheVariants.{Read, TooLong, Refused, TooManyEvents, TooManyPackets, OutOfMemory}
@@ -41,7 +40,7 @@ use Rattle.ab_replay.specs.Replays.{IsClusterOf, RunsTo, Runs, run_in, setup_in,
 -- ---- how many replicas a world has
 
 -- of the same setup, with as many replicas
-record Stays (x y : Cast Any) : Type 0 where
+record Stays {P : Type 0} (x y : Cast P) : Type 0 where
   setup : y.setup ≡ x.setup
   replicas : length y.replicas ≡ length x.replicas
 
@@ -50,7 +49,7 @@ set_length [] r v = refl
 set_length (x ∷ xs) zero v = refl
 set_length (x ∷ xs) (suc r) v = ap suc (set_length xs r v)
 
-core_stays : (x : Cast Any) (at : Place) (s : Core Any) → Stays x (with_core x at s)
+core_stays : {P : Type 0} (x : Cast P) (at : Place) (s : Core P) → Stays x (with_core x at s)
 core_stays x (place.Replica r) (replica s) = record { setup = refl; replicas = set_length x.replicas r s }
 core_stays x (place.Client c) (replica s) = record { setup = refl; replicas = refl }
 core_stays x (place.ReplicaTwin r n) (replica s) = record { setup = refl; replicas = refl }
@@ -60,10 +59,10 @@ core_stays x (place.Client c) (client s) = record { setup = refl; replicas = ref
 core_stays x (place.ReplicaTwin r n) (client s) = record { setup = refl; replicas = refl }
 core_stays x (place.ClientTwin c n) (client s) = record { setup = refl; replicas = refl }
 
-stays_still : (w v : World Any) → v ≡ w → Stays w.cast v.cast
+stays_still : {P : Type 0} (w v : World P) → v ≡ w → Stays w.cast v.cast
 stays_still w v same = record { setup = ap (λ u. u.cast.setup) same; replicas = ap (λ u. length u.cast.replicas) same }
 
-core_events : (x : Cast Any) (at : Place) (s : Core Any) → (with_core x at s).events ≡ x.events
+core_events : {P : Type 0} (x : Cast P) (at : Place) (s : Core P) → (with_core x at s).events ≡ x.events
 core_events x (place.Replica r) (replica s) = refl
 core_events x (place.Client c) (replica s) = refl
 core_events x (place.ReplicaTwin r n) (replica s) = refl
@@ -87,11 +86,11 @@ refuses_within (Some command_fault.Busy) at bytes e = cc (e)
 refuses_within (Some command_fault.NoClient) at bytes e = cc (e)
 refuses_within (Some command_fault.OutOfMemory) at bytes e = cc (e)
 
-asks_within : (at : Place) (bytes : ArrayVec ℕ) (o : Option (Core Any)) → NoLimit (asked_at at bytes o)
+asks_within : {P : Type 0} (at : Place) (bytes : ArrayVec ℕ) (o : Option (Core P)) → NoLimit (asked_at at bytes o)
 asks_within at bytes None e = cc (e)
 asks_within at bytes (Some s) e = refuses_within (command_refusal s) at bytes e
 
-asked_within : (w : World Any) (bytes : ArrayVec ℕ) (o : Option Place) → NoLimit (asked w bytes o)
+asked_within : {P : Type 0} (w : World P) (bytes : ArrayVec ℕ) (o : Option Place) → NoLimit (asked w bytes o)
 asked_within w bytes None e = cc (e)
 asked_within w bytes (Some at) e = asks_within at bytes (core_at w.cast at) e
 
@@ -107,44 +106,44 @@ delivered_within : (x : Setup) (o : Option Packet) (core : Option CoreName) → 
 delivered_within x None core e = cc (e)
 delivered_within x (Some packet) core e = handed_within packet.bytes (addressed x packet.to core) e
 
-happens_within : (w : World Any) (e : Event) → NoLimit (happening w e)
+happens_within : {P : Type 0} (w : World P) (e : Event) → NoLimit (happening w e)
 happens_within w (Invoke core bytes) = no_limit_if _ (asked w bytes (place_of w.cast.setup core.party core.twin)) (Err BadCommand) (asked_within w bytes (place_of w.cast.setup core.party core.twin)) (λ e. cc (e))
 happens_within w (Deliver packet core) = delivered_within w.cast.setup (nth w.packets packet) core
 happens_within w (Timeout core) = rung_within (place_of w.cast.setup core.party core.twin)
 happens_within w (Inject core bytes) = handed_within bytes (place_of w.cast.setup core.party core.twin)
 
-sites_length : (proto : Proto Any) (x : Setup) (n : ℕ) → length (first_sites x proto n) ≡ n
+sites_length : {P : Type 0} (proto : Proto P) (x : Setup) (n : ℕ) → length (first_sites x proto n) ≡ n
 sites_length proto x zero = refl
 sites_length proto x (suc n) = length-append (first_sites x proto n) (first_site x proto n ∷ []) ∙ omega (arith, sites_length proto x n)
 
-module _ (proto : Proto Any) where
-  move_stays : (w : World Any) (at : Place) (cue : Cue) (s : Option (Core Any)) → Stays w.cast (moved_at proto w at cue s).cast
+module _ {P : Type 0} (proto : Proto P) where
+  move_stays : (w : World P) (at : Place) (cue : Cue) (s : Option (Core P)) → Stays w.cast (moved_at proto w at cue s).cast
   move_stays w at cue None = record { setup = refl; replicas = refl }
   move_stays w at cue (Some s) =
       let stays = core_stays w.cast at (core_after w.cast.setup proto (party_at at) s cue) in record { setup = stays.setup; replicas = stays.replicas }
 
-  taking_stays : (w : World Any) (at : Place) (cue : Result Cue OpenFault) → Stays w.cast (after_taking proto w at cue).cast
+  taking_stays : (w : World P) (at : Place) (cue : Result Cue OpenFault) → Stays w.cast (after_taking proto w at cue).cast
   taking_stays w at (Ok cue) = move_stays w at cue (core_at w.cast at)
   taking_stays w at (Err fault) = record { setup = refl; replicas = refl }
 
   -- a step is one event more at most, and ends no world
-  record Steps (w v : World Any) : Type 0 where
+  record Steps (w v : World P) : Type 0 where
     events : v.cast.events ≤ w.cast.events + 1
     ended : v.ended ≡ w.ended
 
-  move_steps : (w : World Any) (at : Place) (cue : Cue) (s : Option (Core Any)) → Steps w (moved_at proto w at cue s)
+  move_steps : (w : World P) (at : Place) (cue : Cue) (s : Option (Core P)) → Steps w (moved_at proto w at cue s)
   move_steps w at cue None = record { events = omega arith; ended = refl }
   move_steps w at cue (Some s) = record { events = omega (arith, core_events w.cast at (core_after w.cast.setup proto (party_at at) s cue)); ended = refl }
 
-  taking_steps : (w : World Any) (at : Place) (cue : Result Cue OpenFault) → Steps w (after_taking proto w at cue)
+  taking_steps : (w : World P) (at : Place) (cue : Result Cue OpenFault) → Steps w (after_taking proto w at cue)
   taking_steps w at (Ok cue) = move_steps w at cue (core_at w.cast at)
   taking_steps w at (Err fault) = record { events = omega arith; ended = refl }
 
-  kept_within : (w v : World Any) (fits : Bool) → (if fits then Ok w else Err PacketLimit) ≡ Ok v → v ≡ w
+  kept_within : (w v : World P) (fits : Bool) → (if fits then Ok w else Err PacketLimit) ≡ Ok v → v ≡ w
   kept_within w v true is = cc
   kept_within w v false is = absurd (cc)
 
-  step_stays : (w v : World Any) (h : Result Happening WorldFault) → stepped_by proto w h ≡ Ok v → Stays w.cast v.cast
+  step_stays : (w v : World P) (h : Result Happening WorldFault) → stepped_by proto w h ≡ Ok v → Stays w.cast v.cast
   step_stays w v (Ok h) is =
       let u = after proto w h in
       let same = stays_still u v (kept_within u v _ is) in
@@ -152,31 +151,31 @@ module _ (proto : Proto Any) where
       record { setup = same.setup ∙ stays.setup; replicas = same.replicas ∙ stays.replicas }
   step_stays w v (Err fault) is = absurd (cc)
 
-  stepped_steps : (w v : World Any) (h : Result Happening WorldFault) → stepped_by proto w h ≡ Ok v → Steps w v
+  stepped_steps : (w v : World P) (h : Result Happening WorldFault) → stepped_by proto w h ≡ Ok v → Steps w v
   stepped_steps w v (Ok h) is =
       let same = kept_within (after proto w h) v _ is in
       subst (Steps w) (sym same) (taking_steps w h.place (cue_from w.cast.setup (party_at h.place) h.given))
   stepped_steps w v (Err fault) is = absurd (cc (is))
 
-  pub step_steps : (w v : World Any) (e : Event) → stepped proto w e ≡ Ok v → (v.cast.events ≤ w.cast.events + 1) × (v.ended ≡ w.ended)
+  pub step_steps : (w v : World P) (e : Event) → stepped proto w e ≡ Ok v → (v.cast.events ≤ w.cast.events + 1) × (v.ended ≡ w.ended)
   step_steps w v e is = let steps = stepped_steps w v (ready w e) is in (steps.events, steps.ended)
 
-  within_other : (w : World Any) (fits : Bool) → ◌≡◌ {A = Result (World Any) WorldFault} (if fits then Ok w else Err PacketLimit) (Err EventLimit) → ⊥
+  within_other : (w : World P) (fits : Bool) → ◌≡◌ {A = Result (World P) WorldFault} (if fits then Ok w else Err PacketLimit) (Err EventLimit) → ⊥
   within_other w true is = cc (is)
   within_other w false is = cc (is)
 
   -- before the limit of events it is not the answer
-  pub no_limit : (w : World Any) (e : Event) → w.ended ≡ None → w.cast.events < 100000 → stepped proto w e ≡ Err EventLimit → ⊥
+  pub no_limit : (w : World P) (e : Event) → w.ended ≡ None → w.cast.events < 100000 → stepped proto w e ≡ Err EventLimit → ⊥
   no_limit w e goes few is =
       let here : ready w e ≡ happening w e = (λ j. ready_in w e (goes j)) ∙ ap (λ (b : Bool). if b then happening w e else Err EventLimit) (lt-ltb w.cast.events 100000 few) in
       by (happening w e) refl (ap (stepped_by proto w) (sym here) ∙ is)
     where
       by : (r : Result Happening WorldFault) → happening w e ≡ r → stepped_by proto w (happening w e) ≡ Err EventLimit → ⊥
       by (Ok h) e' limit = within_other (after proto w h) _ (ap (stepped_by proto w) (sym e') ∙ limit)
-      by (Err f) e' limit = let both : ◌≡◌ {A = Result (World Any) WorldFault} (Err f) (Err EventLimit) = ap (stepped_by proto w) (sym e') ∙ limit in let same : f ≡ EventLimit = cc (both) in happens_within w e (e' ∙ ap Err same)
+      by (Err f) e' limit = let both : ◌≡◌ {A = Result (World P) WorldFault} (Err f) (Err EventLimit) = ap (stepped_by proto w) (sym e') ∙ limit in let same : f ≡ EventLimit = cc (both) in happens_within w e (e' ∙ ap Err same)
 
-  rest_stays : (w t : World Any) (n : ℕ) (r : Result (World Any) WorldFault) (rest : World Any → Result (World Any) (ℕ × WorldFault))
-      → ((v : World Any) → r ≡ Ok v → Stays w.cast v.cast) → ((v : World Any) → rest v ≡ Ok t → Stays v.cast t.cast)
+  rest_stays : (w t : World P) (n : ℕ) (r : Result (World P) WorldFault) (rest : World P → Result (World P) (ℕ × WorldFault))
+      → ((v : World P) → r ≡ Ok v → Stays w.cast v.cast) → ((v : World P) → rest v ≡ Ok t → Stays v.cast t.cast)
       → refused_or proto n r rest ≡ Ok t → Stays w.cast t.cast
   rest_stays w t n (Ok v) rest first later is =
       let a = first v refl in
@@ -184,13 +183,13 @@ module _ (proto : Proto Any) where
       record { setup = b.setup ∙ a.setup; replicas = b.replicas ∙ a.replicas }
   rest_stays w t n (Err fault) rest first later is = absurd (cc)
 
-  run_stays : (es : List Event) (n : ℕ) (w t : World Any) → outcome proto n w es ≡ Ok t → Stays w.cast t.cast
+  run_stays : (es : List Event) (n : ℕ) (w t : World P) → outcome proto n w es ≡ Ok t → Stays w.cast t.cast
   run_stays [] n w t is = stays_still w t (cc)
   run_stays (e ∷ es) n w t is =
       rest_stays w t n (stepped proto w e) (λ v. outcome proto (n + 1) v es) (λ v. step_stays w v (ready w e)) (λ v. run_stays es (n + 1) v t) is
 
   -- a world at the end of a run has the replicas of its cluster
-  pub all_replicas : (c : Cluster) (s : Script) (end : World Any) → run_in proto c s ≡ Ok end → length end.cast.replicas ≡ 3 * end.cast.setup.cluster.f + 1
+  pub all_replicas : (c : Cluster) (s : Script) (end : World P) → run_in proto c s ≡ Ok end → length end.cast.replicas ≡ 3 * end.cast.setup.cluster.f + 1
   all_replicas c s end runs =
       let stays = run_stays s.events 1 (start proto (setup_in c s)) end runs in
       stays.replicas ∙ sites_length proto (setup_in c s) (3 * c.f + 1) ∙ ap (λ (x : Setup). 3 * x.cluster.f + 1) (sym stays.setup)
@@ -211,7 +210,7 @@ one_cluster c d f n plan =
     (λ b. ap (of_size c.f c.clients c.plan) (bounds_once c.f c.clients c.in_bounds b)))) d.in_bounds
 
 -- the run of a schedule has one end
-pub one_end : (proto : Proto Any) (s : Script) (r q : Result (World Any) (ℕ × WorldFault)) → RunsTo proto s r → RunsTo proto s q → r ≡ q
+pub one_end : {P : Type 0} (proto : Proto P) (s : Script) (r q : Result (World P) (ℕ × WorldFault)) → RunsTo proto s r → RunsTo proto s q → r ≡ q
 one_end proto s r q a b =
     sym a.runs
     ∙ ap (λ (c : Cluster). run_in proto c s) (one_cluster a.cluster b.cluster (a.sized.f ∙ sym b.sized.f) (a.sized.clients ∙ sym b.sized.clients) (a.sized.plan ∙ sym b.sized.plan))
@@ -220,14 +219,14 @@ one_end proto s r q a b =
 -- ---- the run of a schedule
 
 -- a world that is set up by the head of a schedule
-pub begins_so : (proto : Proto Any) (head : Head) (events : List Event) (found : List (Party × ℕ)) (x : Setup) (w : World Any) → found ≡ head.faulty
+pub begins_so : {P : Type 0} (proto : Proto P) (head : Head) (events : List Event) (found : List (Party × ℕ)) (x : Setup) (w : World P) → found ≡ head.faulty
     → x ≡ record { cluster = head.cluster; faulty = found; lms = head.lms } → w ≡ start proto x → w ≡ start proto (setup_in head.cluster (script_of head events))
 begins_so proto head events found x w faulty sets starts =
     let begins : (ys : List (Party × ℕ)) → Setup = λ ys. record { cluster = head.cluster; faulty = ys; lms = head.lms } in
     starts ∙ ap (start proto) (sets ∙ ap begins faulty)
 
 -- a run from there, through the events
-pub runs_schedule : (proto : Proto Any) (head : Head) (events es : List Event) (w : World Any) (end : Result (World Any) (ℕ × WorldFault)) → w ≡ start proto (setup_in head.cluster (script_of head events)) → es ≡ events
+pub runs_schedule : {P : Type 0} (proto : Proto P) (head : Head) (events es : List Event) (w : World P) (end : Result (World P) (ℕ × WorldFault)) → w ≡ start proto (setup_in head.cluster (script_of head events)) → es ≡ events
     → outcome proto 1 w es ≡ end → run_in proto head.cluster (script_of head events) ≡ end
 runs_schedule proto head events es w end begins same is = ap (λ v. outcome proto 1 v events) (sym begins) ∙ ap (outcome proto 1 w) (sym same) ∙ is
 
@@ -265,15 +264,15 @@ stops_text TooLong text s c line sized reads few at cause = absurd cause
 pub next_event : (events : List Event) (i : ℕ) (e : Event) → i < length events → e ≡ get_or events i e → drop i events ≡ e ∷ drop (i + 1) events
 next_event events i e lt is = at_drop_more (λ t. t) events i e lt ∙ ap (λ x. x ∷ drop (i + 1) events) (sym is)
 
-module _ (proto : Proto Any) where
+module _ {P : Type 0} (proto : Proto P) where
   -- what comes of the events from here on, by what comes of the next
-  pub steps_to : (events : List Event) (i : ℕ) (e : Event) (w : World Any) (o : Result (World Any) (ℕ × WorldFault)) → drop i events ≡ e ∷ drop (i + 1) events → outcome proto (i + 1) w (drop i events) ≡ o
-      → (r : Result (World Any) WorldFault) → stepped proto w e ≡ r → refused_or proto (i + 1) r (λ v. outcome proto (i + 1 + 1) v (drop (i + 1) events)) ≡ o
+  pub steps_to : (events : List Event) (i : ℕ) (e : Event) (w : World P) (o : Result (World P) (ℕ × WorldFault)) → drop i events ≡ e ∷ drop (i + 1) events → outcome proto (i + 1) w (drop i events) ≡ o
+      → (r : Result (World P) WorldFault) → stepped proto w e ≡ r → refused_or proto (i + 1) r (λ v. outcome proto (i + 1 + 1) v (drop (i + 1) events)) ≡ o
   steps_to events i e w o next is r steps =
       ap (λ r. refused_or proto (i + 1) r (λ v. outcome proto (i + 1 + 1) v (drop (i + 1) events))) (sym steps) ∙ ap (outcome proto (i + 1) w) (sym next) ∙ is
 
   -- the first event that is refused is the cause
-  pub refused_at : (w : World Any) (e : Event) (line i at : ℕ) (fault : WorldFault) (r : Option Refusal) (f : ReplayFault) (o : Result (World Any) (ℕ × WorldFault))
+  pub refused_at : (w : World P) (e : Event) (line i at : ℕ) (fault : WorldFault) (r : Option Refusal) (f : ReplayFault) (o : Result (World P) (ℕ × WorldFault))
       → f ≡ fault_from r → r ≡ step_refusal at fault → at ≡ line + (i + 1) → Cause proto fault w e
       → (stepped proto w e ≡ Err fault → o ≡ Err (i + 1, fault)) → EventsCause f line o
   refused_at w e line i at BadCommand r f o is refuses place cause next =
@@ -297,3 +296,7 @@ kept_err (Err e) x Q is q = subst Q (sym is) q
 pub if_err_then : {T E : Type 0} (r : Result T E) (P Q : E → Type 0) → ((e : E) → P e → Q e) → IfErr r P → IfErr r Q
 if_err_then (Ok t) P Q each is = tt
 if_err_then (Err e) P Q each is = each e is
+
+-- the cause of a fault is that of the same run
+pub caused_as : {T P : Type 0} (r : Result T ReplayFault) (line : ℕ) {o q : Result (World P) (ℕ × WorldFault)} → q ≡ o → IfErr r (λ e. EventsCause e line o) → IfErr r (λ e. EventsCause e line q)
+caused_as {T} {P} r line same is = subst (λ (x : Result (World P) (ℕ × WorldFault)). IfErr r (λ e. EventsCause e line x)) (sym same) is

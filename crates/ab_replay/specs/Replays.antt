@@ -52,11 +52,11 @@ abbrev pub setup_in : Cluster → Script → Setup
 setup_in c s = record { cluster = c; faulty = s.faulty; lms = s.lms }
 
 -- the world after all events of a schedule in a cluster, under a protocol, or the first refusal with its event's number
-abbrev pub run_in : Proto Any → Cluster → Script → Result (World Any) (ℕ × WorldFault)
+abbrev pub run_in : {P : Type 0} → Proto P → Cluster → Script → Result (World P) (ℕ × WorldFault)
 run_in proto c s = outcome proto 1 (start proto (setup_in c s)) s.events
 
 -- the run of a schedule, in its cluster, comes to this
-pub record RunsTo (proto : Proto Any) (s : Script) (r : Result (World Any) (ℕ × WorldFault)) : Type 0 where
+pub record RunsTo {P : Type 0} (proto : Proto P) (s : Script) (r : Result (World P) (ℕ × WorldFault)) : Type 0 where
   pub cluster : Cluster
   pub sized : IsClusterOf cluster s
   pub runs : run_in proto cluster s ≡ r
@@ -66,46 +66,46 @@ Runs s r = RunsTo (proto_of s.service) s r
 
 -- ---- reports
 
-abbrev pub log_of : Proto Any → ℕ → Site Any → Log
+abbrev pub log_of : {P : Type 0} → Proto P → ℕ → Site P → Log
 log_of proto r s = record { replica = r; instance = s.rep.at; entries = entries_of (proto.state s.rep.value).log }
 
 -- the logs of the correct replicas from number r on
-abbrev pub logs_from : Proto Any → Setup → ℕ → List (Site Any) → List Log
+abbrev pub logs_from : {P : Type 0} → Proto P → Setup → ℕ → List (Site P) → List Log
 logs_from proto x r [] = []
 logs_from proto x r (s ∷ rest) = if is_bad x (Replica r) then logs_from proto x (r + 1) rest else log_of proto r s ∷ logs_from proto x (r + 1) rest
 
-abbrev pub report_of : Proto Any → World Any → List ℕ
+abbrev pub report_of : {P : Type 0} → Proto P → World P → List ℕ
 report_of proto w = report_text w.lines (logs_from proto w.cast.setup 0 w.cast.replicas) (premise_of w) w.cast.events (length w.packets)
 
 -- ---- what a run promises
 
 -- the observations of the run are ordered, and each instance keeps what Abstract promises of the service, under the last log of each
 -- replica in each instance. In its cluster the run is that of the stage
-pub record KeepsPromises {S : Type 0} (machine : Machine S) (c : Cluster) (s : Script) : Type 0 where
+pub record KeepsPromises {S P : Type 0} (machine : Machine S) (proto : Proto P) (c : Cluster) (s : Script) : Type 0 where
   pub ordered : let x = setup_in c s in
-      let end = stage_over (run_setup x) (any machine) spell_content (opener x) (inputs_of (any machine) (start (any machine) x) s.events) in
+      let end = stage_over (run_setup x) proto spell_content (opener x) (inputs_of proto (start proto x) s.events) in
       Ordered machine (all_seen end) (named_on (run_setup x) end) (run_setup x).faulty
   pub instances : let x = setup_in c s in
-      let end = stage_over (run_setup x) (any machine) spell_content (opener x) (inputs_of (any machine) (start (any machine) x) s.events) in
+      let end = stage_over (run_setup x) proto spell_content (opener x) (inputs_of proto (start proto x) s.events) in
       EachIsAbstract machine (all_seen end) (named_on (run_setup x) end) (run_setup x).faulty
 
--- the run of a schedule with a service leads here, and this is its report. Its premise line is that of the run, to the letter, and
+-- the run of a schedule with a service, by a protocol, leads here, and this is its report. Its premise line is that of the run, to the letter, and
 -- where it says `held` the run keeps what Abstract promises
-pub record Performs {S : Type 0} (machine : Machine S) (s : Script) (report : List ℕ) (held : Bool) : Type 0 where
+pub record Performs {S P : Type 0} (machine : Machine S) (proto : Proto P) (s : Script) (report : List ℕ) (held : Bool) : Type 0 where
   pub cluster : Cluster
   pub sized : IsClusterOf cluster s
-  pub end : World Any
-  pub runs : run_in (any machine) cluster s ≡ Ok end
-  pub reports : report ≡ report_of (any machine) end
+  pub end : World P
+  pub runs : run_in proto cluster s ≡ Ok end
+  pub reports : report ≡ report_of proto end
   pub says : IsTrue held ↔ (premise_of end ≡ Held)
   pub exact : (line : Premise) → (premise_of end ≡ line)
-      ↔ IsPremise (run_setup (setup_in cluster s)) (any machine) (opener (setup_in cluster s)) s.faulty (came_to (any machine) (setup_in cluster s) s.events) line
-  pub promises : premise_of end ≡ Held → KeepsPromises machine cluster s
+      ↔ IsPremise (run_setup (setup_in cluster s)) proto (opener (setup_in cluster s)) s.faulty (came_to proto (setup_in cluster s) s.events) line
+  pub promises : premise_of end ≡ Held → KeepsPromises machine proto cluster s
 
 -- the same with the service that is named
 abbrev pub PerformsAs : ServiceName → Script → List ℕ → Bool → Type 0
-PerformsAs Echo s report held = Performs echo_machine s report held
-PerformsAs Kv s report held = Performs kv_machine s report held
+PerformsAs Echo s report held = Performs echo_machine (any echo_machine) s report held
+PerformsAs Kv s report held = Performs kv_machine (any kv_machine) s report held
 
 -- the text is a schedule within the limits that runs, this is the report of its run, and its run keeps what Abstract promises
 -- of the service that the schedule names
@@ -174,7 +174,7 @@ pub record HasTooManyBytes (text : List ℕ) : Type 0 where
   pub runs : Runs schedule (Err (event, world_fault.PacketLimit))
 
 -- when each fault of a run over events comes, where the first of them stands in the line after this one
-abbrev pub EventsCause : ReplayFault → ℕ → Result (World Any) (ℕ × WorldFault) → Type 0
+abbrev pub EventsCause : {P : Type 0} → ReplayFault → ℕ → Result (World P) (ℕ × WorldFault) → Type 0
 EventsCause (replaying.Refused r) line o = (n : ℕ) × (f : WorldFault) × (o ≡ Err (n, f)) × (step_refusal (line + n) f ≡ Some r)
 EventsCause replaying.OutOfMemory line o = ⊤
 EventsCause replaying.TooManyPackets line o = (n : ℕ) × (o ≡ Err (n, world_fault.PacketLimit))

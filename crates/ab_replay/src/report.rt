@@ -2,14 +2,13 @@
 
 ghost use Rattle.std.specs.Prelude.{◌≡◌, ◌<◌, ◌+◌, ◌*◌, ◌++◌, IfOk, IfSome, OnOk, flat_map, length, slice_get};
 ghost use Rattle.ab_text.specs.Reports.{line_text, log_text};
-ghost use Rattle.ab_replay.specs.Protocols.{any};
 ghost use Rattle.ab_replay.specs.Replays.{report_of, log_of, logs_from};
 
-use crate::running::AnyWorld;
+use ab_abs::Protocol;
 use ab_num::{OutOfMemory, Party};
 use ab_svc::Service;
 use ab_text::{Line, write_end, write_log, write_premise, write_seen};
-use ab_world::entries;
+use ab_world::{World, entries};
 use std::alloc::Global;
 
 /// Adds the lines of what was seen.
@@ -23,14 +22,14 @@ fn write_lines(alloc: Global, out: &mut Vec<u8>, lines: &[Line]) -> Result<(), O
 }
 
 /// Adds the line for the log of a replica.
-fn write_log_of<S: Service>(
+fn write_log_of<S: Service, P: Protocol<S>>(
     alloc: Global,
     out: &mut Vec<u8>,
-    world: &AnyWorld<S>,
+    world: &World<S, P>,
     r: u8,
 ) -> Result<(), OutOfMemory>
     requires { r < length world.now.cast.replicas }
-    ensures { OnOk result (IfSome (slice_get world.now.cast.replicas r) (λ s. out.new.items ≡ out.old.items ++ log_text (log_of (any S.machine) r s))) }
+    ensures { OnOk result (IfSome (slice_get world.now.cast.replicas r) (λ s. out.new.items ≡ out.old.items ++ log_text (log_of P.proto r s))) }
 {
     let Some(instance) = world.instance_of(r) else {
         unreachable!()
@@ -43,13 +42,13 @@ fn write_log_of<S: Service>(
 }
 
 /// Adds a line for the log of each correct replica.
-fn write_logs<S: Service>(
+fn write_logs<S: Service, P: Protocol<S>>(
     alloc: Global,
     out: &mut Vec<u8>,
-    world: &AnyWorld<S>,
+    world: &World<S, P>,
 ) -> Result<(), OutOfMemory>
     requires { length world.now.cast.replicas ≡ 3 * world.now.cast.setup.cluster.f + 1 }
-    ensures { OnOk result (out.new.items ≡ out.old.items ++ flat_map log_text (logs_from (any S.machine) world.now.cast.setup 0 world.now.cast.replicas)) }
+    ensures { OnOk result (out.new.items ≡ out.old.items ++ flat_map log_text (logs_from P.proto world.now.cast.setup 0 world.now.cast.replicas)) }
 {
     for r in 0..world.setup().cluster().replicas() {
         if !world.setup().is_faulty(Party::Replica(r)) {
@@ -60,9 +59,12 @@ fn write_logs<S: Service>(
 }
 
 /// The report of a run that the world is at the end of.
-pub(crate) fn report<S: Service>(alloc: Global, world: &AnyWorld<S>) -> Result<Vec<u8>, OutOfMemory>
+pub(crate) fn report<S: Service, P: Protocol<S>>(
+    alloc: Global,
+    world: &World<S, P>,
+) -> Result<Vec<u8>, OutOfMemory>
     requires { length world.now.cast.replicas ≡ 3 * world.now.cast.setup.cluster.f + 1 }
-    ensures { IfOk result (λ v. v.items ≡ report_of (any S.machine) world.now) }
+    ensures { IfOk result (λ v. v.items ≡ report_of P.proto world.now) }
 {
     let mut out = Vec::new(alloc);
     write_lines(alloc, &mut out, world.seen())?;

@@ -6,13 +6,13 @@ ghost use Rattle.ab_abs.specs.Promises.{ServesAll};
 ghost use Rattle.ab_keys.specs.Keys.{is_party};
 ghost use Rattle.ab_world.specs.Runs.{outcome};
 ghost use Rattle.ab_world.specs.Worlds.{start};
-ghost use Rattle.ab_replay.specs.Protocols.{any, is_served};
 ghost use Rattle.ab_replay.specs.Replays.{run_in, setup_in, Performs, Replays, EventsCause, TextCause, ReplayCause, fault_from, text_refusal, step_refusal};
 ghost use Rattle.ab_replay.specs.Streams.{IsInput};
 
 use crate::refusal::{Cause, Refusal};
 use crate::report::report;
 use crate::stream::{ReadFault, read_all};
+use ab_abs::Protocol;
 use ab_agreement::Pbft;
 use ab_backup::Backup;
 use ab_cast::Setup;
@@ -104,17 +104,17 @@ pub fn fault_of(refusal: Option<Refusal>) -> ReplayFault
 }
 
 /// Steps through the events, the first of which stands in the line after this one.
-pub fn run_events<S: Service>(
+pub fn run_events<S: Service, P: Protocol<S>>(
     alloc: Global,
-    world: &mut AnyWorld<S>,
+    world: &mut World<S, P>,
     events: &[Event],
     line: u32,
 ) -> Result<(), ReplayFault>
     requires few { length events.now < 100001 }
     requires begins { (world.old.cast.events ≡ 0) × (world.old.ended ≡ None) }
     requires short { line < 2 ^ 31 }
-    ensures ok { OnOk result (outcome (any S.machine) 1 world.old events.now ≡ Ok world.new) }
-    ensures cause { IfErr result (λ e. EventsCause e line (outcome (any S.machine) 1 world.old events.now)) }
+    ensures ok { OnOk result (outcome P.proto 1 world.old events.now ≡ Ok world.new) }
+    ensures cause { IfErr result (λ e. EventsCause e line (outcome P.proto 1 world.old events.now)) }
 {
     for (i, e) in events.iter().enumerate() {
         match world.step(alloc, e) {
@@ -143,43 +143,43 @@ fn is_held(premise: &Premise) -> bool
 
 /// Runs a schedule of few events in the world that its head sets up, and reports. The first event stands in the line after
 /// this one.
-fn report_in<S: Service>(
+fn report_in<S: Service, P: Protocol<S>>(
     alloc: Global,
     schedule: &Schedule,
-    world: &mut AnyWorld<S>,
+    world: &mut World<S, P>,
     line: u32,
 ) -> Result<Replayed, ReplayFault>
-    requires served { ServesAll is_served schedule.now.head.cluster }
+    requires served { ServesAll P.serves schedule.now.head.cluster }
     requires few { length schedule.now.events < 100001 }
-    requires begins { world.old ≡ start (any S.machine) (setup_in schedule.now.head.cluster (script_of schedule.now.head schedule.now.events)) }
+    requires begins { world.old ≡ start P.proto (setup_in schedule.now.head.cluster (script_of schedule.now.head schedule.now.events)) }
     requires short { line < 2 ^ 31 }
-    ensures ok { IfOk result (λ v. Performs S.machine (script_of schedule.now.head schedule.now.events) v.report.items v.held) }
-    ensures cause { IfErr result (λ e. EventsCause e line (run_in (any S.machine) schedule.now.head.cluster (script_of schedule.now.head schedule.now.events))) }
+    ensures ok { IfOk result (λ v. Performs S.machine P.proto (script_of schedule.now.head schedule.now.events) v.report.items v.held) }
+    ensures cause { IfErr result (λ e. EventsCause e line (run_in P.proto schedule.now.head.cluster (script_of schedule.now.head schedule.now.events))) }
 {
     run_events(alloc, world, schedule.events.as_slice(), line)?;
-    premise_is_exact::<S, AnyProtocol<S>>();
-    worlds_keep_promises::<S, AnyProtocol<S>>();
+    premise_is_exact::<S, P>();
+    worlds_keep_promises::<S, P>();
     let held = is_held(&world.premise());
     let report = report(alloc, world)?;
     Ok(Replayed { report, held })
 }
 
 /// The report of a schedule of few events, with a service. The first event stands in the line after this one.
-fn perform<S: Service>(
+fn perform<S: Service, P: Protocol<S>>(
     alloc: Global,
     schedule: &Schedule,
     line: u32,
 ) -> Result<Replayed, ReplayFault>
-    requires served { ServesAll is_served schedule.now.head.cluster }
+    requires served { ServesAll P.serves schedule.now.head.cluster }
     requires parties { All (λ e. IsTrue (is_party schedule.now.head.cluster.f schedule.now.head.cluster.clients e.0)) schedule.now.head.faulty }
     requires few { length schedule.now.events < 100001 }
     requires short { line < 2 ^ 31 }
-    ensures ok { IfOk result (λ v. Performs S.machine (script_of schedule.now.head schedule.now.events) v.report.items v.held) }
-    ensures cause { IfErr result (λ e. EventsCause e line (run_in (any S.machine) schedule.now.head.cluster (script_of schedule.now.head schedule.now.events))) }
+    ensures ok { IfOk result (λ v. Performs S.machine P.proto (script_of schedule.now.head schedule.now.events) v.report.items v.held) }
+    ensures cause { IfErr result (λ e. EventsCause e line (run_in P.proto schedule.now.head.cluster (script_of schedule.now.head schedule.now.events))) }
 {
     let head = &schedule.head;
     let setup = Setup::new(alloc, &head.cluster, head.faulty.as_slice(), head.lms)?;
-    let mut world = AnyWorld::<S>::new(alloc, setup)?;
+    let mut world = World::<S, P>::new(alloc, setup)?;
     report_in(alloc, schedule, &mut world, line)
 }
 
@@ -200,8 +200,8 @@ fn simulate(alloc: Global, text: &[u8]) -> Result<Replayed, ReplayFault>
     read_is_in_form();
     let line = 7 + schedule.head.faulty.as_slice().len() as u32;
     match schedule.head.service {
-        ServiceName::Echo => perform::<Echo>(alloc, &schedule, line),
-        ServiceName::Kv => perform::<Kv>(alloc, &schedule, line),
+        ServiceName::Echo => perform::<Echo, AnyProtocol<Echo>>(alloc, &schedule, line),
+        ServiceName::Kv => perform::<Kv, AnyProtocol<Kv>>(alloc, &schedule, line),
     }
 }
 

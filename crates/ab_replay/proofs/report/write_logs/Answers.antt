@@ -3,7 +3,6 @@ use Rattle.ab_num.specs.declared.cluster.Cluster.{Cluster}
 use Rattle.ab_num.specs.declared.party.Party.TheVariants.{Replica}
 use Rattle.ab_cast.specs.Setups.{Setup, is_bad}
 use Rattle.ab_text.specs.Reports.{log_text}
-use Rattle.ab_replay.specs.Protocols.{any}
 use Rattle.ab_replay.specs.Replays.{logs_from}
 use Rattle.ab_replay.proofs.ReportLemmas.{passed_by, written_log}
 use Rattle.ab_replay.proofs.report.write_logs.Goals as goal
@@ -11,7 +10,7 @@ use Rattle.ab_replay.proofs.report.write_logs.Goals.{then-not-is_faulty+in_ok-wr
 
 pub loop-r-preserved : goal.loop-r-preserved
 loop-r-preserved g c =
-    let proto = any g.S.Service.machine in
+    let proto = g.P.Protocol.proto in
     let x = c.args.world.now.cast.setup in
     let replicas = c.args.world.now.cast.replicas in
     let r = c.loop-r.r in

@@ -1,20 +1,16 @@
 use Rattle.std.proofs.Common.{◌≡◌, ◌↔◌, ℕ, IsTrue, Ok, Result, sym, subst, rules}
-use Rattle.std.specs.Prelude.{IfErr}
-use Rattle.ab_world.specs.declared.fault.WorldFault.{WorldFault}
 use Rattle.ab_world.specs.Runs.{outcome}
-use Rattle.ab_world.specs.Worlds.{World}
 use Rattle.ab_text.specs.declared.line.Premise.{Premise}
 use Rattle.ab_text.specs.declared.line.Premise.TheVariants.{Held}
 use Rattle.ab_text.specs.Schedules.{script_of}
-use Rattle.ab_replay.specs.Protocols.{Any, any}
 use Rattle.ab_replay.specs.declared.running.ReplayFault.TheVariants.{OutOfMemory}
 use Rattle.ab_replay.specs.Replays.{run_in, setup_in, EventsCause}
-use Rattle.ab_replay.proofs.RunLemmas.{all_replicas, kept_err, runs_schedule, sized_so}
+use Rattle.ab_replay.proofs.RunLemmas.{all_replicas, caused_as, kept_err, runs_schedule, sized_so}
 use Rattle.ab_replay.proofs.running.report_in.Goals as goal
 
 pub report-requires : goal.report-requires
 report-requires g c =
-    let proto = any g.S.Service.machine in
+    let proto = g.P.Protocol.proto in
     let head = c.args.schedule.now.head in
     let events = c.args.schedule.now.events in
     let end = c.run_events.new.world in
@@ -23,7 +19,7 @@ report-requires g c =
 
 pub returns-clause-ok : goal.returns-clause-ok
 returns-clause-ok g c =
-    let proto = any g.S.Service.machine in
+    let proto = g.P.Protocol.proto in
     let head = c.args.schedule.now.head in
     let events = c.args.schedule.now.events in
     let s = script_of head events in
@@ -48,18 +44,18 @@ returns-clause-ok g c =
 
 pub returns-in_err-run_events-clause-cause : goal.returns-in_err-run_events-clause-cause
 returns-in_err-run_events-clause-cause g c =
-    let proto = any g.S.Service.machine in
+    let proto = g.P.Protocol.proto in
     let head = c.args.schedule.now.head in
     let events = c.args.schedule.now.events in
     let w = c.args.world.now in
     let es = c.as_slice.result.now in
     let same = runs_schedule proto head events es w (outcome proto 1 w es) c.requires.begins c.as_slice.ensures (λ i. outcome proto 1 w es) in
-    subst (λ (o : Result (World Any) (ℕ × WorldFault)). IfErr c.from_residual-in_err-run_events.result (λ e. EventsCause e c.args.line o)) (sym same)
+    caused_as c.from_residual-in_err-run_events.result c.args.line same
     (kept_err c.from_residual-in_err-run_events.result c.in_err-run_events.field-0.0 (λ e. EventsCause e c.args.line (outcome proto 1 w es)) c.from_residual-in_err-run_events.ensures.1 c.in_err-run_events.ensures.cause)
 
 pub returns-in_err-report-clause-cause : goal.returns-in_err-report-clause-cause
 returns-in_err-report-clause-cause g c =
-    let proto = any g.S.Service.machine in
+    let proto = g.P.Protocol.proto in
     let head = c.args.schedule.now.head in
     let s = script_of head c.args.schedule.now.events in
     kept_err c.from_residual-in_err-report.result OutOfMemory (λ e. EventsCause e c.args.line (run_in proto head.cluster s)) c.from_residual-in_err-report.ensures.1 tt

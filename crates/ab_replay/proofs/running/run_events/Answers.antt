@@ -3,13 +3,12 @@ use Rattle.ab_world.specs.declared.fault.WorldFault.{WorldFault}
 use Rattle.ab_world.specs.declared.fault.WorldFault.TheVariants.{PacketLimit}
 use Rattle.ab_world.specs.Steps.{Cause, stepped}
 use Rattle.ab_world.specs.Runs.{outcome}
-use Rattle.ab_replay.specs.Protocols.{any}
 use Rattle.ab_replay.proofs.RunLemmas.{next_event, no_limit, refused_at, step_steps, steps_to}
 use Rattle.ab_replay.proofs.running.run_events.Goals as goal
 
 pub loop-i-preserved : goal.loop-i-preserved
 loop-i-preserved g c =
-    let proto = any g.S.Service.machine in
+    let proto = g.P.Protocol.proto in
     let i = c.loop-i.i in
     let e = c.index-events-i.result in
     let events = c.args.events.now in
@@ -23,13 +22,13 @@ loop-i-preserved g c =
 
 pub unreachable-requires : goal.unreachable-requires
 unreachable-requires g c =
-    no_limit (any g.S.Service.machine) c.loop-i.world c.index-events-i.result c.loop-i.invariant.goes (omega (arith, c.loop-i.invariant.counted, c.loop-i-test.true, c.requires.few))
-    (subst (λ (f : WorldFault). Cause (any g.S.Service.machine) f c.loop-i.world c.index-events-i.result) c.in-Err-EventLimit.field-0-is c.in-Err-EventLimit.ensures.cause)
+    no_limit g.P.Protocol.proto c.loop-i.world c.index-events-i.result c.loop-i.invariant.goes (omega (arith, c.loop-i.invariant.counted, c.loop-i-test.true, c.requires.few))
+    (subst (λ (f : WorldFault). Cause g.P.Protocol.proto f c.loop-i.world c.index-events-i.result) c.in-Err-EventLimit.field-0-is c.in-Err-EventLimit.ensures.cause)
 
 -- the event that would pass the limit is the first that is refused
 pub returns-in-Err-PacketLimit-clause-cause : goal.returns-in-Err-PacketLimit-clause-cause
 returns-in-Err-PacketLimit-clause-cause g c =
-    let proto = any g.S.Service.machine in
+    let proto = g.P.Protocol.proto in
     let i = c.loop-i.i in
     let e = c.index-events-i.result in
     let events = c.args.events.now in
@@ -40,7 +39,7 @@ returns-in-Err-PacketLimit-clause-cause g c =
 
 pub returns-in-Err : goal.returns-in-Err
 returns-in-Err g c =
-    let proto = any g.S.Service.machine in
+    let proto = g.P.Protocol.proto in
     let i = c.loop-i.i in
     let e = c.index-events-i.result in
     let events = c.args.events.now in

@@ -1,11 +1,10 @@
 use Rattle.std.proofs.Common.{◌≡◌, ◌+◌, ◌≤◌, drop, None}
 use Rattle.ab_world.specs.Runs.{outcome}
-use Rattle.ab_replay.specs.Protocols.{any}
 use Rattle.ab_replay.proofs.running.run_events.Given as goal
 
 abbrev pub invariant-loop-i : goal.invariant-loop-i
 invariant-loop-i g l = record {
-  rest : outcome (any g.S.Service.machine) (l.i + 1) l.world (drop l.i l.events) ≡ outcome (any g.S.Service.machine) 1 l.initial.world l.events;
+  rest : outcome g.P.Protocol.proto (l.i + 1) l.world (drop l.i l.events) ≡ outcome g.P.Protocol.proto 1 l.initial.world l.events;
   counted : l.world.cast.events ≤ l.i;
   goes : l.world.ended ≡ None;
 }
