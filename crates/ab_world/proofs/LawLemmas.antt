@@ -1,6 +1,6 @@
 -- The premise line of a world, and what a world promises.
 use Rattle.std.proofs.Common.{false, ◌≡◌, ℕ, suc, zero, ◌↔◌, Bool, true, Some, None, List, [], ◌∷◌, arith, refl, sym, ap, ◌∙◌, subst}
-use Rattle.std.specs.Prelude.{IsTrue, All, if◌then◌else◌, Contains, flat_map, map, nat_lt, slice_get, Result, Ok, Err}
+use Rattle.std.specs.Prelude.{All, if◌then◌else◌, Contains, map, nat_lt, slice_get, Result, Ok, Err}
 use Rattle.std.specs.List.{filter, list_all}
 use Rattle.std.proofs.lemmas.Bool.{ltb-true}
 use Rattle.ab_num.specs.Bounds.{IsInBounds}

@@ -1,11 +1,11 @@
-use Rattle.std.proofs.Common.{◌≡◌, ℕ, ◌≤◌, None, Some, Ok, Err, length, sym, ap, ◌∙◌, subst, arith}
+use Rattle.std.proofs.Common.{◌≡◌, ℕ, ◌≤◌, None, Some, Err, length, sym, ap, ◌∙◌, subst, arith}
 use Rattle.arrayvec.specs.ArrayVec.{ArrayVec}
 use Rattle.ab_text.specs.declared.event.Event.TheVariants.{Invoke}
 use Rattle.ab_text.proofs.LineLemmas.{positive}
 use Rattle.ab_run.specs.Local.{cue_command}
 use Rattle.ab_premise.specs.Premises.{forged_first}
 use Rattle.ab_cast.specs.declared.fault.CommandFault.{CommandFault}
-use Rattle.ab_cast.specs.Setups.{Setup, party_at, place_of}
+use Rattle.ab_cast.specs.Setups.{Setup, place_of}
 use Rattle.ab_cast.specs.Cores.{Core}
 use Rattle.ab_cast.specs.Casts.{IsTaken, CommandCause, command_refusal, core_at}
 use Rattle.ab_world.specs.declared.fault.WorldFault.{WorldFault}
