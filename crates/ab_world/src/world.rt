@@ -8,6 +8,7 @@ ghost use Rattle.ab_run.specs.Forms.{IsDraftOf};
 ghost use Rattle.ab_post.specs.Packets.{total, most_bytes};
 ghost use Rattle.ab_cast.specs.Setups.{place_of, party_at};
 ghost use Rattle.ab_cast.specs.Casts.{is_free};
+ghost use Rattle.ab_premise.specs.Collisions.{first_watch};
 ghost use Rattle.ab_world.specs.Worlds.{premise_of, start};
 ghost use Rattle.ab_world.specs.Steps.{addressed, handed, settled, missed, stepped, stepped_by, happening, rung, Cause, CauseIn, HasEnded, Leaves, SettleCause};
 ghost use Rattle.ab_world.specs.Handing.{finished, EachOut};
@@ -32,6 +33,7 @@ use ab_text::{Cause as TextCause, Core, Event, Line, Premise};
 use arrayvec::ArrayVec;
 use std::alloc::Global;
 use std::marker::Model;
+use std::mem::drop;
 
 /// How many events a world takes.
 const MOST_EVENTS: u32 = 100_000;
@@ -89,25 +91,40 @@ fn addressed(setup: &Setup, to: Party, core: Option<Core>) -> Option<Place>
     }
 }
 
+/// What is kept of the empty history, which each replica has before the first event.
+fn first_digests(alloc: Global) -> Result<Digests, OutOfMemory>
+    ensures { IfOk result (λ d. d ≡ first_watch.kept) }
+{
+    let mut digests = Digests::new(alloc);
+    digests.add_history(&History::new(alloc), 0)?;
+    Ok(digests)
+}
+
 impl<S: Service, P: Protocol<S>> World<S, P> {
     /// A cluster before the first event, where P serves each kind of the cluster's plan.
     pub fn new(alloc: Global, setup: Setup) -> Result<Self, OutOfMemory>
         requires { ServesAll P.serves setup.cluster }
         ensures { IfOk result (λ w. w ≡ start P.proto setup) }
     {
-        let mut digests = Digests::new(alloc);
-        digests.add_history(&History::new(alloc), 0)?;
-        Ok(World {
-            cast: Cast::new(alloc, setup)?,
-            packets: Packets::new(alloc),
-            made: Statements::new(alloc),
-            seen: Vec::new(alloc),
-            lines: Vec::new(alloc),
-            forged: None,
-            digests,
-            collided: None,
-            ended: None,
-        })
+        let cast = Cast::new(alloc, setup)?;
+        match first_digests(alloc) {
+            Ok(digests) => Ok(World {
+                cast,
+                packets: Packets::new(alloc),
+                made: Statements::new(alloc),
+                seen: Vec::new(alloc),
+                lines: Vec::new(alloc),
+                forged: None,
+                digests,
+                collided: None,
+                ended: None,
+            }),
+            Err(refused) => {
+                // By a call: in place the parts of each core would be taken apart.
+                drop(cast);
+                Err(refused)
+            }
+        }
     }
 
     /// What the cluster is set up with.
