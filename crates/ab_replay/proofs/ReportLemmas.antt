@@ -50,7 +50,7 @@ pub written_log : {P : Type 0} (proto : Proto P) (x : Setup) (whole before now :
     → IfSome (slice_get xs r) (λ s. now ≡ before ++ log_text (log_of proto r s))
     → before ++ flat_map log_text (logs_from proto x r (drop r xs)) ≡ whole
     → now ++ flat_map log_text (logs_from proto x (r + 1) (drop (r + 1) xs)) ≡ whole
-written_log proto x whole before now xs r within good is so =
+written_log {P = P} proto x whole before now xs r within good is so =
     elim (slice_get_cases xs r).1 [
       | inl at ↦ written proto x whole before now xs r at.0 at.2 good (subst (λ (o : Option (Site P)). IfSome o (λ s. now ≡ before ++ log_text (log_of proto r s))) at.2 is) so
       | inr past ↦ absurd (omega (arith, within, past.0))

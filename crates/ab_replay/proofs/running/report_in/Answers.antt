@@ -34,7 +34,7 @@ returns-clause-ok g c =
       end = end;
       runs = runs;
       reports = c.in_ok-report.ensures;
-      says = subst (λ (p : Premise). IsTrue c.is_held.result ↔ (p ≡ Held)) c.premise.ensures c.is_held.ensures;
+      says = subst (λ (p : Premise). IsTrue c.is_held-held.result ↔ (p ≡ Held)) c.premise.ensures c.is_held-held.ensures;
       exact = c.premise_is_exact.ensures x s.events end serves runs;
       promises = λ holds. record {
         ordered = c.worlds_keep_promises.ensures.ordered x s.events end serves runs holds;
@@ -50,8 +50,8 @@ returns-in_err-run_events-clause-cause g c =
     let w = c.args.world.now in
     let es = c.as_slice.result.now in
     let same = runs_schedule proto head events es w (outcome proto 1 w es) c.requires.begins c.as_slice.ensures (λ i. outcome proto 1 w es) in
-    caused_as c.from_residual-in_err-run_events.result c.args.line same
-    (kept_err c.from_residual-in_err-run_events.result c.in_err-run_events.field-0.0 (λ e. EventsCause e c.args.line (outcome proto 1 w es)) c.from_residual-in_err-run_events.ensures.1 c.in_err-run_events.ensures.cause)
+    caused_as c.from_residual.result c.args.line same
+    (kept_err c.from_residual.result c.in_err-run_events.field-0.0 (λ e. EventsCause e c.args.line (outcome proto 1 w es)) c.from_residual.ensures.1 c.in_err-run_events.ensures.cause)
 
 pub returns-in_err-report-clause-cause : goal.returns-in_err-report-clause-cause
 returns-in_err-report-clause-cause g c =

@@ -40,7 +40,7 @@ returns-clause-ok g c =
       end = end;
       runs = runs;
       sums = c.in_ok-summary.ensures;
-      says = subst (λ (p : Premise). IsTrue c.is_held.result ↔ (p ≡ Held)) c.premise.ensures c.is_held.ensures;
+      says = subst (λ (p : Premise). IsTrue c.is_held-held.result ↔ (p ≡ Held)) c.premise.ensures c.is_held-held.ensures;
       exact = c.premise_is_exact.ensures x events end serves runs;
       promises = λ holds. record {
         ordered = c.worlds_keep_promises.ensures.ordered x events end serves runs holds;
@@ -57,7 +57,7 @@ returns-in_err-run_events-clause-cause g c =
     let end = outcome proto 1 c.args.world.now (drawn_events proto c.events.result c.new-storm.result c.args.world.now) in
     let runs = runs_storm proto cluster x c.args.world.now c.new-storm.result c.seed.result refl c.requires.begins c.new-storm.ensures k c.events.result end c.seed.ensures c.events.ensures refl in
     let fault = c.in_err-run_events.field-0.0 in
-    kept_err c.from_residual-in_err-run_events.result fault (λ e. StormCause proto e k) c.from_residual-in_err-run_events.ensures.1
+    kept_err c.from_residual.result fault (λ e. StormCause proto e k) c.from_residual.ensures.1
     (ends_storm proto k cluster fault c.requires.sized (subst (EndCause fault) (sym runs) c.in_err-run_events.ensures.cause))
 
 pub returns-in_err-summary-clause-cause : goal.returns-in_err-summary-clause-cause
