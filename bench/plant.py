@@ -6,7 +6,8 @@ usage: plant.py [NAME..] [--minutes N] [--lanes N]
 The named crates are planted, or all but those with tests alone, each for N minutes (5) after its check, and as many side by side
 as there are lanes (1). What `rt plant` says of a crate is kept in out/planted/NAME, and a crate whose file is there is not planted
 again. At the end there is a table of all that are planted: functions; bodies that were refused, that the contract let through, that
-couldn't be judged, and for which there was no time; functions without an ensures, and those under which no body could be judged."""
+couldn't be judged, and for which there was no time; functions without an ensures, and those under which no body could be judged.
+`rt plant` gives up a check after four minutes by the clock, so it judges little on a machine that has other work."""
 
 import argparse
 import concurrent.futures
