@@ -1,16 +1,15 @@
 #!/usr/bin/env python3
 """Puts wrong bodies under the contracts of crates, by `rt plant`, and tells which crates let one through.
 
-usage: plant.py [NAME..] [--minutes N] [--lanes N]
+usage: plant.py [NAME..] [--minutes N]
 
-The named crates are planted, or all but those with tests alone, each for N minutes (5) after its check, and as many side by side
-as there are lanes (1). What `rt plant` says of a crate is kept in out/planted/NAME, and a crate whose file is there is not planted
-again. At the end there is a table of all that are planted: functions; bodies that were refused, that the contract let through, that
-couldn't be judged, and for which there was no time; functions without an ensures, and those under which no body could be judged.
-`rt plant` gives up a check after four minutes by the clock, so it judges little on a machine that has other work."""
+The named crates are planted one after the other, or all but those with tests alone, each for N minutes (5) after its check. What
+`rt plant` says of a crate is kept in out/planted/NAME, and a crate whose file is there is not planted again. At the end there is a
+table of all that are planted: functions; bodies that were refused, that the contract let through, that couldn't be judged, and for
+which there was no time; functions without an ensures, and those under which no body could be judged. `rt plant` gives up a check
+after four minutes by the clock, so it judges little on a machine that has other work."""
 
 import argparse
-import concurrent.futures
 import re
 import subprocess
 
@@ -61,13 +60,11 @@ def main():
     parser = argparse.ArgumentParser()
     parser.add_argument("names", nargs="*")
     parser.add_argument("--minutes", type=int, default=5)
-    parser.add_argument("--lanes", type=int, default=1)
     asked = parser.parse_args()
     PLANTED.mkdir(parents=True, exist_ok=True)
-    with concurrent.futures.ThreadPoolExecutor(asked.lanes) as lanes:
-        ended = all([*lanes.map(lambda name: plant(name, asked.minutes), asked.names or crates())])
+    ended = [plant(name, asked.minutes) for name in asked.names or crates()]
     tell(crates())
-    return 0 if ended else 1
+    return 0 if all(ended) else 1
 
 
 raise SystemExit(main())
