@@ -57,9 +57,10 @@ int posix_memalign(void **p, size_t a, size_t n) {
 }
 __attribute__((destructor)) static void tell(void) {
     const char *path = getenv("ASKED");
+    long count = asked; /* opening a file asks for more */
     FILE *f;
     refused = -1;
-    if (path && (f = fopen(path, "w"))) { fprintf(f, "%ld", asked); fclose(f); }
+    if (path && (f = fopen(path, "w"))) { fprintf(f, "%ld", count); fclose(f); }
 }
 '''
 
