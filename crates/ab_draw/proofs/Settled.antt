@@ -37,6 +37,6 @@ module _ (m : Met) (r : Status) where
   pub picture_told : (svg : List ℕ) → WritesOrSays r Done svg m.out m.err → IsAlone m → HasInput (λ text. Draws text svg) m.left → Cause r
   picture_told svg how alone input =
       written_or_said Cause r Done svg m.out m.err how
-      (λ got kept. ((alone, svg, input, got), kept))
-      (λ part fails. (fails, inr (alone, svg, input, part)))
-      (λ part says. (inr (alone, svg, input, part), inl says))
+      (λ got kept. ((alone, (svg, input, got)), kept))
+      (λ part fails. (fails, inr (alone, (svg, input, part))))
+      (λ part says. (inr (alone, (svg, input, part)), inl says))
