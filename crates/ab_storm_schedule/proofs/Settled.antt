@@ -1,5 +1,5 @@
 -- What was to be said or written has its cause.
-use Rattle.std.proofs.Common.{◌≡◌, List, ℕ, inl, inr}
+use Rattle.std.proofs.Common.{List, ℕ, inl, inr}
 use Rattle.ab_words.specs.Commands.{StormCommand}
 use Rattle.ab_command.specs.declared.status.Bound.TheVariants.{Packets}
 use Rattle.ab_command.specs.declared.status.Status.{Status}

@@ -1,5 +1,5 @@
-use Rattle.std.proofs.Common.{◌≡◌, ◌⊎◌, ◌≤◌, ℕ, Ok, Result, length, sym, subst, inl, inr}
-use Rattle.std.specs.Prelude.{IfErr, OnOk}
+use Rattle.std.proofs.Common.{◌≡◌, ◌⊎◌, ◌≤◌, ℕ, Ok, Result, length, sym, subst, inr}
+use Rattle.std.specs.Prelude.{IfErr}
 use Rattle.ab_text.specs.Schedules.{script_of}
 use Rattle.ab_world.specs.declared.fault.WorldFault.{WorldFault}
 use Rattle.ab_world.specs.Runs.{outcome}

@@ -1,4 +1,4 @@
-use Rattle.std.proofs.Common.{◌≡◌, ◌≤◌, ℕ, List, length, ap, ◌∙◌, subst, arith}
+use Rattle.std.proofs.Common.{length, ap, arith}
 use Rattle.ab_replay.specs.Protocols.{any}
 use Rattle.ab_draw.proofs.Fronts.{counts_few}
 use Rattle.ab_draw.proofs.drawing.picture_in.Goals as goal
