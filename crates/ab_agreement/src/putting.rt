@@ -2,7 +2,6 @@
 
 ghost use Rattle.std.specs.Prelude.{◌≡◌, ℕ, IfOk, OnOk};
 ghost use Rattle.ab_msg.specs.declared.content.Content.{Content};
-ghost use Rattle.ab_msg.specs.declared.message.Msg.{Msg as TheMsg};
 ghost use Rattle.ab_msg.specs.declared.message.Msg.TheVariants as msg;
 ghost use Rattle.ab_wire.specs.Views.{IsReceived, message};
 ghost use Rattle.ab_abs.specs.Messages.{took};

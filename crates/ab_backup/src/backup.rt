@@ -31,7 +31,7 @@ pub struct Backup<S: Service, O: Orderer> {
 }
 
 impl<S: Service, O: Orderer> Model for Backup<S, O> {
-    ghost use Rattle.std.specs.Prelude.{◌≡◌, ◌≤◌};
+    ghost use Rattle.std.specs.Prelude.{◌≡◌};
     ghost use Rattle.ab_order.specs.Backups.{Backing};
 
     ghost Value = { Backing O };
@@ -42,7 +42,7 @@ impl<S: Service, O: Orderer> Model for Backup<S, O> {
 }
 
 impl<S: Service, O: Orderer> Protocol<S> for Backup<S, O> {
-    ghost use Rattle.std.specs.Prelude.{ℕ, None};
+    ghost use Rattle.std.specs.Prelude.{None};
     ghost use Rattle.ab_order.specs.Protos.{backup, backup_sound, backup_stands, is_backup};
 
     ghost proto = { backup O.orders O.rules S.machine };

@@ -10,7 +10,7 @@ use std::alloc::Global;
 /// A protocol by which the replicas of a Backup agree on the order of requests, as one replica runs it in one
 /// instance, and what holds of the acts of such an instance, whatever else its replicas answer.
 pub trait Orderer: Sized + Drop {
-    ghost use Rattle.std.specs.Prelude.{◌≡◌, ℕ, ◌+◌, ◌*◌, ◌≤◌, ◌<◌, List, Option, None, Some, length, IfOk, OnErr, IsErrOf, MatchOption};
+    ghost use Rattle.std.specs.Prelude.{◌≡◌, ℕ, ◌+◌, ◌*◌, ◌≤◌, ◌<◌, List, Option, None, Some, length, IfOk, IsErrOf, MatchOption};
     ghost use Rattle.ab_num.specs.declared.plan.Kind.TheVariants as kind;
     ghost use Rattle.ab_num.specs.Places.{kind_of};
     ghost use Rattle.ab_msg.specs.Pens.{moved};

@@ -1,6 +1,6 @@
 -- What holds of the cores stays in each event.
 use Rattle.std.proofs.Common.{◌≡◌, ℕ, zero, suc, ◌+◌, ◌*◌, ◌<◌, ◌≤◌, Bool, false, List, [], ◌∷◌, ◌++◌, Some, None, length, map, get_or, refl, sym, ap, ◌∙◌, subst, inl, inr, arith, length-append}
-use Rattle.std.specs.Prelude.{Option, Result, Ok, Err, if◌then◌else◌, slice_get, slice_set, All, IsTrue, IfOk, IsOkAnd, MatchResult, OnOk, OnErr}
+use Rattle.std.specs.Prelude.{Option, Result, Ok, Err, if◌then◌else◌, slice_get, slice_set, All, IfOk, IsOkAnd, MatchResult, OnOk, OnErr}
 use Rattle.arrayvec.specs.ArrayVec.{ArrayVec}
 use Rattle.ab_num.specs.declared.memory.OutOfMemory.{OutOfMemory}
 use Rattle.ab_replica.specs.declared.effects.Effects.{Effects}

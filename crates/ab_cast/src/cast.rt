@@ -1,6 +1,6 @@
 //! The cores of all parties.
 
-ghost use Rattle.std.specs.Prelude.{option_and_then, ◌≡◌, ◌+◌, ◌*◌, ◌<◌, ◌≤◌, ℕ, IsTrue, IsOkAnd, IfOk, IfErr, OnOk, OnErr, Option, Some, None, [], ◌∷◌, length, slice_get};
+ghost use Rattle.std.specs.Prelude.{option_and_then, ◌≡◌, ◌+◌, ◌*◌, ◌<◌, ◌≤◌, ℕ, IsOkAnd, IfOk, IfErr, OnOk, OnErr, Option, Some, None, [], ◌∷◌, length, slice_get};
 ghost use Rattle.std.specs.Option.{option_map};
 ghost use Rattle.ab_num.specs.declared.party.Party.{Party as TheParty};
 ghost use Rattle.ab_abs.specs.declared.seen.Seen.{Seen};

@@ -1,12 +1,12 @@
 //! Events of single cores, and the cores before the first event.
 
-ghost use Rattle.std.specs.Prelude.{◌≡◌, ◌≢◌, ◌+◌, ◌*◌, ◌-◌, ◌^◌, ◌<◌, ◌≤◌, ◌++◌, ◌⊎◌, false, [], ◌∷◌, ℕ, Ok, Err, IsTrue, IsOkAnd, IfOk, IfErr, OnOk, OnErr, MatchResult, length, map, replicate, slice_get, slice_set, vec_len};
+ghost use Rattle.std.specs.Prelude.{◌≡◌, ◌≢◌, ◌+◌, ◌*◌, ◌-◌, ◌^◌, ◌<◌, ◌≤◌, ◌++◌, ◌⊎◌, false, [], ◌∷◌, Ok, Err, IsOkAnd, IfOk, IfErr, OnOk, OnErr, MatchResult, length, map, replicate, slice_get, vec_len};
 ghost use Rattle.ab_abs.specs.declared.seen.Seen.{Seen};
 ghost use Rattle.ab_abs.specs.Promises.{ServesAll};
 ghost use Rattle.ab_run.specs.declared.phase.Phase.TheVariants.{Idle};
 ghost use Rattle.ab_replica.specs.Sites.{Site};
 ghost use Rattle.ab_client.specs.Clients.{Seat, told};
-ghost use Rattle.ab_cast.specs.Setups.{client_twins, replica_twins, signatures_of};
+ghost use Rattle.ab_cast.specs.Setups.{client_twins, replica_twins};
 ghost use Rattle.ab_cast.specs.Cores.{ClientCommits};
 ghost use Rattle.ab_cast.specs.Hearing.{CliHears, IsGiven, RepHears, call_of, cue_of};
 ghost use Rattle.ab_cast.specs.Casts.{IsSite, first_seat, first_seats, first_site, first_sites};

@@ -1,6 +1,6 @@
 //! A replica of Chain in one instance.
 
-ghost use Rattle.std.specs.Prelude.{◌≡◌, ◌+◌, ◌*◌, ◌<◌, ◌≤◌, ◌==◌, ◌&&◌, true, [], ◌∷◌, ◌++◌, Some, None, IfOk, OnErr, IsErrOf, if◌then◌else◌, length, take, map, option_map, vec_len};
+ghost use Rattle.std.specs.Prelude.{◌≡◌, ◌+◌, ◌*◌, ◌<◌, ◌≤◌, ◌==◌, ◌&&◌, true, [], ◌∷◌, ◌++◌, Some, None, IfOk, OnErr, if◌then◌else◌, length, take, map, option_map, vec_len};
 ghost use Rattle.std.specs.Vec.{vec_capacity};
 ghost use Rattle.std.specs.Str.{bytes_eq};
 ghost use Rattle.ab_hist.specs.Histories.{place_in, can_push};
@@ -323,7 +323,6 @@ impl<S: Service> Chain<S> {
 }
 
 impl<S: Service> Protocol<S> for Chain<S> {
-    ghost use Rattle.std.specs.Prelude.{ℕ};
     ghost use Rattle.ab_abs.specs.Acts.{state_of};
     ghost use Rattle.ab_abs.specs.Members.{IsAt};
     ghost use Rattle.ab_abs.specs.TailRules.{IsTailSound};
@@ -436,7 +435,6 @@ impl<S: Service> Protocol<S> for Chain<S> {
 
     ghost use Rattle.ab_abs.specs.Lawful.{BeginsThere};
     ghost use Rattle.ab_abs.specs.TailRules.{TailCalls};
-    ghost use Rattle.ab_abs.specs.declared.rule.ReplyRule.{ReplyRule as Rule};
     ghost use Rattle.ab_abs.specs.declared.rule.ReplyRule.TheVariants.{Tail as ByTail};
     ghost use Rattle.ab_abs.proofs.Following.{IsLater, named_here};
     ghost use Rattle.ab_abs.proofs.Tails.{tail_keeping};

@@ -1,6 +1,6 @@
 -- Kept ABORTs, and the certificates that they make.
-use Rattle.std.proofs.Common.{◌≡◌, ℕ, zero, suc, ◌+◌, ◌-◌, ◌*◌, ◌<◌, ◌≤◌, Bool, true, false, not, Option, Some, None, List, [], ◌∷◌, ◌++◌, length, map, arith, refl, sym, ap, ◌∙◌, subst, inl, inr}
-use Rattle.std.specs.Prelude.{◌==◌, ◌&&◌, nat_lt, nat_le, if◌then◌else◌, All, ◌↔◌, Result, Ok, Err, IsErrOf}
+use Rattle.std.proofs.Common.{◌≡◌, ℕ, suc, ◌+◌, ◌-◌, ◌*◌, ◌<◌, ◌≤◌, Bool, true, false, Option, Some, None, List, [], ◌∷◌, length, map, arith, refl, sym, ap, ◌∙◌, subst, inl, inr}
+use Rattle.std.specs.Prelude.{◌==◌, ◌&&◌, nat_lt, nat_le, if◌then◌else◌, All, ◌↔◌, Result, Err, IsErrOf}
 use Rattle.std.specs.List.{filter, list_all}
 use Rattle.std.proofs.lemmas.Bool.{cases_Bool}
 use Rattle.std.proofs.lemmas.Bool.Decides.{nat_tests}
@@ -150,7 +150,7 @@ module _ (c : Cluster) (i : ℕ) (cert : List Signed) (sound : (h : List Request
   err_of : (e : CertFault) → r ≡ Err e → IsErrOf r e
   err_of e is = subst (λ (x : Result (List Request) CertFault). IsErrOf x e) (sym is) refl
 
-  -- one that is refused, and not for want of memory, has no history
+  -- one that is refused, and not because an allocation failed, has no history
   pub refused_none : (e : CertFault) → r ≡ Err e → (e ≡ fault.OutOfMemory → ⊥) → history_of c i cert ≡ None
   refused_none fault.Count is other = some_or_none (history_of c i cert) (λ h some. count.0 (err_of fault.Count is) (sound h some).0.0)
   refused_none (fault.SameSigner q) is other =

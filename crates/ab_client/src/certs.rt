@@ -1,6 +1,6 @@
 //! Certificates, as a client keeps and finds them.
 
-ghost use Rattle.std.specs.Prelude.{◌≡◌, ◌+◌, ◌*◌, ◌<◌, ◌≤◌, All, length, nat_lt, ◌==◌, ◌↔◌, ◌⊎◌, IsTrue, IsNone, IfSome, IfOk, OnOk, OnErr};
+ghost use Rattle.std.specs.Prelude.{◌≡◌, ◌<◌, ◌≤◌, All, length, nat_lt, ◌==◌, ◌↔◌, ◌⊎◌, IsTrue, IsNone, IfSome, IfOk, OnOk, OnErr};
 ghost use Rattle.std.specs.List.{filter, insert, list_all, list_any};
 ghost use Rattle.ab_msg.specs.declared.signed.Signed.{Signed as SignedContent};
 ghost use Rattle.ab_msg.specs.Contents.{IsAbort};
@@ -57,7 +57,7 @@ fn are_within(aborts: &[Signed], replicas: u8) -> bool
     aborts.iter().all(|s| s.maker < replicas)
 }
 
-/// Whether a certificate was not checked for want of memory.
+/// Whether a certificate was not checked because an allocation failed.
 fn is_memory(fault: CertFault) -> bool
     ensures { IsTrue result ↔ (fault ≡ CertFault.OutOfMemory) }
 {

@@ -1,6 +1,6 @@
 //! One client.
 
-ghost use Rattle.std.specs.Prelude.{◌≡◌, ◌≢◌, ℕ, ◌+◌, ◌^◌, ◌<◌, ◌≤◌, ◌∷◌, [], All, length, IsTrue, IsOk, IsOkAnd, IfOk, IfErr, OnOk, OnErr, IsNone, IfSome, Some, None, ◌↔◌, ◌⊎◌};
+ghost use Rattle.std.specs.Prelude.{◌≡◌, ◌≢◌, ◌+◌, ◌^◌, ◌<◌, ◌≤◌, ◌∷◌, [], All, length, IsTrue, IsOk, IsOkAnd, IfOk, IfErr, OnOk, OnErr, IsNone, IfSome, Some, None, ◌↔◌, ◌⊎◌};
 ghost use Rattle.ab_num.specs.declared.party.Party.TheVariants.{Client as ClientParty};
 ghost use Rattle.ab_hist.specs.declared.request.Request.{Request as TheRequest};
 ghost use Rattle.ab_wire.specs.Views.{IsReceived, message};

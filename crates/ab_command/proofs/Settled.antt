@@ -1,5 +1,5 @@
 -- What was to be said or written has its cause, whatever the causes are.
-use Rattle.std.proofs.Common.{◌≡◌, List, ℕ, sym, subst, inl, inr}
+use Rattle.std.proofs.Common.{List, ℕ, sym, subst, inl, inr}
 use Rattle.ab_command.specs.declared.status.Status.{Status}
 use Rattle.ab_command.specs.declared.status.Status.TheVariants.{Usage, WriteFault, OutOfMemory}
 use Rattle.ab_command.specs.Endings.{FailsToWrite, Says, SaysNoMemory, Settles, SettlesUsage, WritesOrSays}

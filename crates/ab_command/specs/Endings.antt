@@ -22,7 +22,7 @@ OnlySays s out err = IsKept out × Says s err
 abbrev pub FailsToWrite : Output → Output → Type 0
 FailsToWrite out err = (HasFailed out × Says WriteFault err) ⊎ HasFailed err
 
--- want of memory was said on err, unless err had no memory for all of what it was given
+-- a failed allocation was said on err, unless err had no memory for all of what it was given
 abbrev pub SaysNoMemory : Output → Type 0
 SaysNoMemory err = Says OutOfMemory err ⊎ ((s : Status) × GetsPart err (text_of s))
 
@@ -34,8 +34,8 @@ Settles r s err = ((r ≡ s) × Says s err) ⊎ (((r ≡ WriteFault) × HasFaile
 abbrev pub SettlesUsage : Status → List ℕ → Output → Type 0
 SettlesUsage r usage err = ((r ≡ Usage) × Gets err usage) ⊎ (((r ≡ WriteFault) × HasFailed err) ⊎ ((r ≡ OutOfMemory) × GetsPart err usage))
 
--- want of memory was said on err, unless err had no memory for all of what it was given, which may be the usage line where words
--- are wrong
+-- a failed allocation was said on err, unless err had no memory for all of what it was given, which may be the usage line where
+-- words are wrong
 abbrev pub SaysNoMemoryOrUsage : Type 0 → List ℕ → Output → Type 0
 SaysNoMemoryOrUsage AreWrong usage err = SaysNoMemory err ⊎ (AreWrong × GetsPart err usage)
 

@@ -1,9 +1,9 @@
 //! The top call.
 
-ghost use Rattle.std.specs.Prelude.{◌≡◌, ◌≤◌, ◌⊎◌, ℕ, List, Option, if◌then◌else◌, map, codes};
+ghost use Rattle.std.specs.Prelude.{◌≡◌, ◌≤◌, ◌⊎◌, ℕ, List, Option, if◌then◌else◌, map};
 ghost use Rattle.ab_io.specs.Causes.{Rose};
-ghost use Rattle.ab_command.specs.Texts.{code_of, status_of, stop_status};
-ghost use Rattle.ab_command.specs.Calls.{Call, Network};
+ghost use Rattle.ab_command.specs.Texts.{status_of, stop_status};
+ghost use Rattle.ab_command.specs.Calls.{Network};
 ghost use Rattle.ab_command.specs.Commands.{AsksKeys, AsksNode, AsksStorm, IsNode, IsReplay, TakesInput};
 ghost use Rattle.ab_command.specs.Endings.{SaysNoMemory, Settles};
 ghost use Rattle.ab_command.specs.Outputs.{output};

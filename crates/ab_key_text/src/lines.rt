@@ -1,6 +1,6 @@
 //! One line after the other.
 
-ghost use Rattle.std.specs.Prelude.{◌≡◌, ◌≤◌, ◌+◌, IfOk, codes, length};
+ghost use Rattle.std.specs.Prelude.{◌≤◌, IfOk, codes, length};
 ghost use Rattle.std.specs.Option.{option_and_then};
 ghost use Rattle.ab_text.specs.Heads.{heights, lms_line, plan_line, plans, service_line, services, spelled_in, stripped};
 ghost use Rattle.ab_text.specs.Lines.{lines_of};

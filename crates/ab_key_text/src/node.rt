@@ -1,6 +1,6 @@
 //! The text that sets up a node.
 
-ghost use Rattle.std.specs.Prelude.{◌≡◌, ◌≤◌, ◌<◌, ◌^◌, ◌+◌, ◌↔◌, IfOk, MatchOption, None, Some, IsTrue, codes, [], length, map};
+ghost use Rattle.std.specs.Prelude.{◌≡◌, ◌<◌, ◌^◌, ◌+◌, ◌↔◌, MatchOption, None, Some, IsTrue, codes, [], length, map};
 ghost use Rattle.ab_num.specs.declared.party.Party.{Party as TheParty};
 ghost use Rattle.ab_text.specs.Lines.{lines_of};
 ghost use Rattle.ab_key_text.specs.Lines.{Gives};

@@ -1,10 +1,10 @@
 //! The parts of a line.
 
-ghost use Rattle.std.specs.Prelude.{◌≡◌, ◌≤◌, ◌++◌, ◌^◌, ◌<◌, codes, take, drop, Option};
+ghost use Rattle.std.specs.Prelude.{◌≡◌, ◌≤◌, ◌++◌, ◌<◌, codes, Option};
 ghost use Rattle.std.specs.Option.{option_and_then, option_copied};
 ghost use Rattle.ab_text.specs.Cores.{party_text};
 ghost use Rattle.ab_text.specs.Heads.{stripped};
-ghost use Rattle.ab_key_text.specs.Lines.{bounded, bytes_after, key_in, number_in, party_in};
+ghost use Rattle.ab_key_text.specs.Lines.{bytes_after, key_in, number_in, party_in};
 ghost use Rattle.ab_key_text.specs.Reading.{secret_in, secret_text_in};
 
 use crate::hex_bytes::bytes_in;

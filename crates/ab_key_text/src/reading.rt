@@ -1,7 +1,6 @@
 //! The reading of a key text.
 
 ghost use Rattle.std.specs.Prelude.{◌≡◌, ◌≤◌, ◌<◌, ◌^◌, ◌+◌, ◌*◌, [], IfOk, MatchResult, length};
-ghost use Rattle.ab_keys.specs.Keys.{is_party};
 ghost use Rattle.ab_text.specs.Lines.{lines_of};
 ghost use Rattle.ab_key_text.specs.Keys.{peers_in, replicas};
 ghost use Rattle.ab_key_text.specs.Lines.{Gives};

@@ -1,6 +1,6 @@
 //! Lines 1 to 7 of a key text.
 
-ghost use Rattle.std.specs.Prelude.{◌≡◌, ◌≤◌, ◌+◌, IfOk, length};
+ghost use Rattle.std.specs.Prelude.{◌≡◌, ◌≤◌, IfOk, length};
 ghost use Rattle.ab_num.specs.Bounds.{IsInBounds};
 ghost use Rattle.ab_keys.specs.Keys.{is_party};
 ghost use Rattle.ab_text.specs.Lines.{lines_of};

@@ -1,11 +1,8 @@
 //! The text of a party's keys.
 
-ghost use Rattle.std.specs.Prelude.{◌≡◌, ◌+◌, ◌++◌, ◌∷◌, [], IfOk, OnOk, List, codes, decimal, flat_map, string_bytes};
+ghost use Rattle.std.specs.Prelude.{◌≡◌, ◌+◌, ◌++◌, ◌∷◌, [], IfOk, OnOk, flat_map, string_bytes};
 ghost use Rattle.ab_num.specs.declared.party.Party.TheVariants.{Replica};
-ghost use Rattle.hex.specs.Hex.{encode_lower};
-ghost use Rattle.ab_text.specs.Cores.{party_text};
 ghost use Rattle.ab_text.specs.Heads.{lms_line, plan_line, service_line};
-ghost use Rattle.ab_text.specs.Reports.{◌then◌};
 ghost use Rattle.ab_key_text.specs.Spelling.{cluster_lines, key_line, key_lines, name_lines, peer_lines, public_lines, secret_line, secret_lines, text_of};
 
 use crate::keys::PartyKeys;

@@ -1,6 +1,6 @@
 //! Lengths and digests of histories, by the digests of both.
 
-ghost use Rattle.std.specs.Prelude.{◌≡◌, ◌++◌, ◌≤◌, [], length, IfOk, OnOk, OnErr};
+ghost use Rattle.std.specs.Prelude.{◌≡◌, [], IfOk, OnOk, OnErr};
 ghost use Rattle.ab_links.specs.Apart.{keep_one, repeats};
 ghost use Rattle.ab_links.specs.Bases.{base_of, digest_of_base, is_same_base};
 

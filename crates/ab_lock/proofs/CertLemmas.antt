@@ -1,5 +1,5 @@
 -- The certificates of a replica, by their slots.
-use Rattle.std.proofs.Common.{◌≡◌, ℕ, zero, suc, pred, Some, None, Option, List, [], ◌∷◌, length, slice_get, refl, ap, sym, subst, ◌∙◌, arith}
+use Rattle.std.proofs.Common.{◌≡◌, ℕ, zero, suc, pred, Some, None, Option, List, [], ◌∷◌, length, slice_get, refl, ap, sym, subst}
 use Rattle.ab_lock.specs.Steps.{Cert, cert_at, set_cert, set_value, with_cert}
 
 module _ {V : Type 0} where

@@ -1,6 +1,6 @@
 //! Acts that meet the premises.
 
-ghost use Rattle.std.specs.Prelude.{◌≡◌, List, [], ◌∷◌};
+ghost use Rattle.std.specs.Prelude.{◌≡◌, [], ◌∷◌};
 ghost use Rattle.ab_lock.specs.Promises.{LockPremises, executed_of};
 ghost use Rattle.ab_lock.specs.SmallActs.{digest, goes, may_stand, small_acts};
 

@@ -131,7 +131,7 @@ next_is (Some (d ∷ ds)) = refl
 
 -- ---- forms of steps
 
--- want of memory before anything is done
+-- an allocation failed before anything was done
 pub follows_wanting : {C : Type 0} (n : Node C) (o : Outside) (k : Counts) (out : Out C) → Follows n o o k k out (Err fault.OutOfMemory)
 follows_wanting n o k out = record { node = tt; did = part_none o out.effects; counted = (rises_same k, tt) }
 

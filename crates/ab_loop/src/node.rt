@@ -1,13 +1,13 @@
 //! One party's core with all that its turns need.
 
-ghost use Rattle.std.specs.Prelude.{◌≡◌, ◌==◌, ◌&&◌, ◌+◌, ◌≤◌, ◌<◌, [], drop, slice_get, MatchOption, IfOk, IfErr, OnOk, OnErr, length, if◌then◌else◌};
+ghost use Rattle.std.specs.Prelude.{◌≡◌, ◌==◌, ◌&&◌, ◌+◌, ◌≤◌, ◌<◌, drop, slice_get, MatchOption, IfOk, OnOk, length, if◌then◌else◌};
 ghost use Rattle.std.specs.declared.option.Option.TheVariants.{None, Some};
 ghost use Rattle.ab_msg.specs.Fields.{IsParty};
 ghost use Rattle.ab_piece.specs.Joining.{answer_of, step_of};
 ghost use Rattle.ab_loop.specs.Cores.{event_of};
 ghost use Rattle.ab_loop.specs.Texts.{reply_text};
-ghost use Rattle.ab_loop.specs.Outside.{Does, Counted, Says, SayCause, capped, counts, outside};
-ghost use Rattle.ab_loop.specs.Nodes.{Follows, Takes, with_joiner, turn_step, command_step, reply_step, datagrams_in, deadline_after, next_deadline, event_step, has_expired, is_done, latest, new_node, parcels_of, datagram_step, after_reply, same_timer, node_after, timer_step, trace_text};
+ghost use Rattle.ab_loop.specs.Outside.{Says, SayCause, capped, counts, outside};
+ghost use Rattle.ab_loop.specs.Nodes.{Follows, Takes, with_joiner, turn_step, command_step, reply_step, deadline_after, next_deadline, event_step, has_expired, is_done, latest, new_node, parcels_of, datagram_step, after_reply, same_timer, timer_step, trace_text};
 
 use crate::fault::ServeFault;
 use crate::outside::{say, send_all};

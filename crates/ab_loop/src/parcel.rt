@@ -1,8 +1,7 @@
 //! Messages as datagrams.
 
-ghost use Rattle.std.specs.Prelude.{◌≡◌, ◌+◌, ◌<◌, ◌≤◌, ◌++◌, All, IfOk, length, map, slice_index_or, drop, ℕ, []};
+ghost use Rattle.std.specs.Prelude.{◌≡◌, ◌+◌, ◌<◌, ◌≤◌, All, IfOk, length, map, slice_index_or};
 ghost use Rattle.ab_msg.specs.Fields.{IsParty};
-ghost use Rattle.ab_piece.specs.Pieces.{cut_of};
 ghost use Rattle.ab_loop.specs.Cores.{IsSendable};
 ghost use Rattle.ab_loop.specs.Outside.{capped};
 ghost use Rattle.ab_loop.specs.Nodes.{port_of, parcel_of, parcels_of, datagrams_in};

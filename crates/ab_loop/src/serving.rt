@@ -1,6 +1,6 @@
 //! A node from its start to its end.
 
-ghost use Rattle.std.specs.Prelude.{◌≡◌, ◌≤◌, ℕ, IfOk, IfErr, length};
+ghost use Rattle.std.specs.Prelude.{◌≡◌, ◌≤◌, IfOk, IfErr, length};
 ghost use Rattle.ab_msg.specs.Fields.{IsParty};
 ghost use Rattle.ab_loop.specs.Outside.{Says, SayCause, outside, counts};
 ghost use Rattle.ab_loop.specs.Texts.{end_text};

@@ -1,8 +1,7 @@
 //! The lines of a node.
 
 ghost use Rattle.std.specs.Prelude.{◌≡◌, ◌++◌, ◌∷◌, IfOk, OnOk, codes, string_bytes};
-ghost use Rattle.hex.specs.Hex.{encode_lower};
-ghost use Rattle.ab_text.specs.Cores.{core_text, party_text};
+ghost use Rattle.ab_text.specs.Cores.{core_text};
 ghost use Rattle.ab_loop.specs.Cores.{event_of};
 ghost use Rattle.ab_loop.specs.Texts.{end_text, event_text, own_core, reply_front, reply_text};
 

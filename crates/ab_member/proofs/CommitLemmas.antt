@@ -1,5 +1,5 @@
 -- The commit among what is seen.
-use Rattle.std.proofs.Common.{◌≡◌, ℕ, suc, ◌+◌, ◌<◌, List, ◌∷◌, length, drop, get_or, ap, sym, ◌∙◌, add-one, drop-cons}
+use Rattle.std.proofs.Common.{◌≡◌, ℕ, suc, ◌+◌, ◌<◌, List, length, drop, get_or, ap, sym, ◌∙◌, add-one, drop-cons}
 use Rattle.ab_abs.specs.declared.seen.Seen.{Seen}
 use Rattle.ab_member.specs.Clients.{commit_in, commit_of, first_of}
 

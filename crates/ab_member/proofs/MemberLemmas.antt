@@ -1,7 +1,6 @@
 -- What holds of members in every event.
-use Rattle.std.proofs.Common.{◌≡◌, ℕ, ◌+◌, ◌-◌, ◌*◌, ◌^◌, ◌<◌, ◌≤◌, Bool, true, false, Result, Ok, Err, List, [], ◌∷◌, map, length, Option, None, Some, IsTrue, All, refl, sym, ap, ◌∙◌, subst, arith, slice_get, slice_set, suc}
+use Rattle.std.proofs.Common.{◌≡◌, ℕ, ◌+◌, ◌-◌, ◌*◌, ◌^◌, ◌<◌, ◌≤◌, Bool, true, false, Result, Ok, Err, List, [], map, length, Option, Some, IsTrue, All, refl, sym, ap, ◌∙◌, subst, arith, slice_get, slice_set}
 use Rattle.std.specs.Prelude.{IfOk, OnOk, ◌≢◌, ◌&&◌, nat_le, nat_lt, if◌then◌else◌}
-use Rattle.std.specs.List.{list_all}
 use Rattle.std.specs.Option.{option_map}
 use Rattle.std.proofs.lemmas.Bool.{and_parts, leb-true, ltb-true}
 use Rattle.std.proofs.lemmas.List.Elements.{All-nil}

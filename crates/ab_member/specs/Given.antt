@@ -1,5 +1,5 @@
 -- What comes to a party that its keys let through, and what the code answers to it.
-use Rattle.std.specs.Prelude.{◌≡◌, List, All, Option, None}
+use Rattle.std.specs.Prelude.{◌≡◌, All}
 use Rattle.ab_wire.specs.Views.{IsReceived, message as message_of}
 use Rattle.ab_abs.specs.Messages.{Call, took, timed}
 use Rattle.ab_run.specs.Local.{Cue, cue_message, cue_time}

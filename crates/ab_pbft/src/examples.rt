@@ -1,6 +1,6 @@
 //! Replicas that execute a request.
 
-ghost use Rattle.std.specs.Prelude.{◌≡◌, List, [], ◌∷◌};
+ghost use Rattle.std.specs.Prelude.{◌≡◌, [], ◌∷◌};
 ghost use Rattle.ab_hist.specs.declared.request.Request.{Request};
 ghost use Rattle.ab_order.specs.Inputs.{timeout};
 ghost use Rattle.ab_pbft.specs.Rules.{pbft};

@@ -1,6 +1,6 @@
 //! A Backup over PBFT as a protocol.
 
-ghost use Rattle.std.specs.Prelude.{◌≡◌, ℕ, ◌+◌, true, false, Some, List, [], ◌∷◌, Contains, slice_get};
+ghost use Rattle.std.specs.Prelude.{◌≡◌, ℕ, ◌+◌, true, false, Some, [], ◌∷◌, Contains, slice_get};
 ghost use mathlib.Core.List.{IsPrefix};
 ghost use Rattle.ab_num.specs.declared.cluster.Cluster.{Cluster};
 ghost use Rattle.ab_num.specs.declared.party.Party.TheVariants.{Replica};

@@ -1,8 +1,7 @@
 -- What correct parties make in a run has bytes.
-use Rattle.std.proofs.Common.{◌≡◌, ℕ, zero, suc, ◌+◌, ◌*◌, ◌<◌, ◌≤◌, ◌⊎◌, true, false, Bool, Some, None, Option, List, [], ◌∷◌, ◌++◌, length, refl, sym, ap, ◌∙◌, subst, inl, inr, arith, append-nil}
-use Rattle.std.proofs.Math.Dec.{eqb-zero-suc}
+use Rattle.std.proofs.Common.{◌≡◌, ℕ, suc, ◌+◌, ◌<◌, ◌≤◌, true, false, Bool, Some, None, Option, List, [], ◌∷◌, ◌++◌, length, refl, sym, ap, subst, inl, inr, arith, append-nil}
 use Rattle.std.proofs.lemmas.Grind.{flat_map-append}
-use Rattle.std.specs.Prelude.{All, IsTrue, Contains, nat_le, nat_lt, ◌==◌, ◌&&◌, ◌^◌, if◌then◌else◌, flat_map, map}
+use Rattle.std.specs.Prelude.{All, Contains, nat_le, nat_lt, ◌==◌, ◌&&◌, ◌^◌, if◌then◌else◌, flat_map, map}
 use Rattle.arrayvec.specs.ArrayVec.{ArrayVec}
 use Rattle.std.proofs.lemmas.Bool.{cases_Bool, cases_eq, and_parts, ltb-true}
 use Rattle.std.specs.List.{list_any}

@@ -4,7 +4,6 @@ ghost use Rattle.std.specs.Prelude.{◌≡◌, ◌≤◌, ◌↔◌, ℕ, Bool, 
 ghost use Rattle.ab_num.specs.declared.party.Party.{Party as TheParty};
 ghost use Rattle.ab_num.specs.declared.plan.Kind.{Kind};
 ghost use Rattle.ab_text.specs.declared.line.Premise.{Premise as TheLine};
-ghost use Rattle.ab_msg.specs.declared.content.Content.{Content};
 ghost use Rattle.ab_msg.specs.Carried.{is_replica};
 ghost use Rattle.ab_msg.specs.Contents.{spell_content};
 ghost use Rattle.ab_abs.specs.Ensembles.{Proto};

@@ -1,6 +1,6 @@
 //! What a VIEW-CHANGE tells.
 
-ghost use Rattle.std.specs.Prelude.{◌≡◌, ◌+◌, ◌*◌, IfOk, map, nat_lt};
+ghost use Rattle.std.specs.Prelude.{◌≡◌, ◌*◌, IfOk, map, nat_lt};
 ghost use Rattle.std.specs.List.{list_all};
 ghost use Rattle.std.specs.Option.{option_map};
 ghost use Rattle.ab_order.specs.Readings.{change_of, changes_of, is_of_slot, is_ours, slots_of};

@@ -1,5 +1,5 @@
 -- What a replica of PBFT keeps names clients of the cluster alone, if what it is told does.
-use Rattle.std.proofs.Common.{◌≡◌, ℕ, zero, suc, ◌+◌, ◌*◌, ◌<◌, ◌==◌, Bool, true, false, Some, None, Option, List, [], ◌∷◌, ◌++◌, ◌⊎◌, length, take, slice_get, map, refl, sym, ap, ◌∙◌, subst, inl, inr, arith}
+use Rattle.std.proofs.Common.{◌≡◌, ℕ, zero, suc, ◌+◌, ◌*◌, ◌<◌, ◌==◌, Bool, true, false, Some, None, Option, List, [], ◌∷◌, ◌++◌, length, take, slice_get, refl, sym, ap, ◌∙◌, subst, inl, inr, arith}
 use Rattle.std.specs.Prelude.{Contains, if◌then◌else◌}
 use Rattle.std.specs.Str.{bytes_eq}
 use Rattle.std.proofs.lemmas.Bool.{cases_Bool}
@@ -30,7 +30,7 @@ use Rattle.ab_lock.proofs.VoteLemmas.{IsNext, by_sign, by_prepare, by_execute, n
 use Rattle.ab_order.specs.Inputs.{Input, request, pre_prepare_base, pre_prepare, prepare, commit, view_change, new_view, timeout, other, ProvedSlot, ChangeInput}
 use Rattle.ab_order.proofs.BackupLaws.{keep_cases}
 use Rattle.ab_pbft.specs.Traces.{OrderStep}
-use Rattle.ab_pbft.specs.Rules.{Seat, Memory, Work, core_of, with_peer, does, idle, take_value, change_of, cert_of, settle, keep_request, keep_change, leave_to, without, work}
+use Rattle.ab_pbft.specs.Rules.{Seat, Memory, Work, core_of, with_peer, idle, take_value, change_of, cert_of, settle, keep_request, keep_change, leave_to, without, work}
 use Rattle.ab_pbft.proofs.RuleInduction.{WhyTaken, own_base, waiting, base_brought, request_brought, WhyEntered, from_kept, from_new_view, IsKept, work_kept}
 
 -- a request of a client among so many

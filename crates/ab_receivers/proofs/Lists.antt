@@ -1,6 +1,6 @@
 -- Elements of lists.
-use Rattle.std.proofs.Common.{◌≡◌, ℕ, zero, suc, ◌≤◌, Bool, true, Option, Some, List, [], ◌∷◌, ◌++◌, ◌⊎◌, length, drop, subst, inl, inr, arith}
-use Rattle.std.specs.Prelude.{Contains, slice_get, slice_set}
+use Rattle.std.proofs.Common.{◌≡◌, ℕ, zero, suc, ◌≤◌, Bool, true, List, [], ◌∷◌, ◌++◌, ◌⊎◌, length, drop, subst, inl, inr, arith}
+use Rattle.std.specs.Prelude.{Contains, slice_set}
 use Rattle.std.specs.List.{list_all}
 use Rattle.ab_abs.proofs.Counting.{Contains-head, Contains-tail}
 use Rattle.ab_abs.proofs.Lists.{Contains-cons_cases}

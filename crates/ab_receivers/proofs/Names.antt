@@ -1,6 +1,6 @@
 -- What a message that opened names: clients of the cluster alone.
-use Rattle.std.proofs.Common.{◌≡◌, ℕ, ◌<◌, ◌≤◌, Bool, true, false, List, [], ◌∷◌, ◌++◌, Option, Some, None, Result, Ok, Err, refl, sym, ap, subst, inl, inr, arith}
-use Rattle.std.specs.Prelude.{◌⊎◌, Contains, map, flat_map, nat_lt, if◌then◌else◌}
+use Rattle.std.proofs.Common.{◌≡◌, ℕ, ◌<◌, ◌≤◌, true, List, [], ◌∷◌, Result, Ok, Err, refl, subst, inl, inr, arith}
+use Rattle.std.specs.Prelude.{Contains, map, flat_map, nat_lt}
 use Rattle.std.specs.List.{list_all}
 use Rattle.std.proofs.lemmas.Bool.{cases_Bool}
 use Rattle.std.proofs.lemmas.List.Elements.{Contains-append_left, Contains-append_right}

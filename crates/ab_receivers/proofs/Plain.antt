@@ -1,6 +1,6 @@
 -- Quorum, ZLight and Chain send to replicas, and to the client whose request came.
-use Rattle.std.proofs.Common.{◌≡◌, ℕ, zero, suc, ◌+◌, ◌*◌, ◌<◌, ◌≤◌, ◌==◌, Bool, true, false, not, Some, None, Option, List, [], ◌∷◌, ◌++◌, length, refl, sym, ap, ◌∙◌, subst, inl, inr, arith}
-use Rattle.std.specs.Prelude.{Contains, ◌&&◌, if◌then◌else◌, unwrap_or, map}
+use Rattle.std.proofs.Common.{◌≡◌, ℕ, zero, suc, ◌+◌, ◌*◌, ◌<◌, ◌≤◌, ◌==◌, Bool, true, false, not, Some, None, Option, List, [], ◌∷◌, refl, sym, subst, inl, inr, arith}
+use Rattle.std.specs.Prelude.{Contains, ◌&&◌, if◌then◌else◌, map}
 use Rattle.std.proofs.lemmas.List.Elements.{Contains-append_cases}
 use Rattle.std.proofs.lemmas.Option.{none-some, same_Some}
 use Rattle.ab_num.specs.declared.cluster.Cluster.{Cluster}

@@ -1,5 +1,5 @@
 -- Runs without a refusal, and what the first refusal says of a text.
-use Rattle.std.proofs.Common.{◌≡◌, ◌↔◌, ℕ, zero, suc, ◌+◌, ◌*◌, ◌≤◌, ◌<◌, List, [], ◌∷◌, Bool, true, false, Option, None, Some, Result, Ok, Err, if◌then◌else◌, drop, get_or, length, slice_set, refl, sym, ap, ◌∙◌, subst, inr, arith}
+use Rattle.std.proofs.Common.{◌≡◌, ℕ, zero, suc, ◌+◌, ◌*◌, ◌≤◌, ◌<◌, List, [], ◌∷◌, Bool, true, false, Option, None, Some, Result, Ok, Err, if◌then◌else◌, drop, get_or, length, slice_set, refl, sym, ap, ◌∙◌, subst, inr, arith}
 use Rattle.std.proofs.Math.Bridge.{le_prop}
 use Rattle.std.specs.Prelude.{IfErr}
 use Rattle.std.specs.Result.{IsErrAnd}
@@ -35,7 +35,7 @@ use Rattle.ab_world.specs.Worlds.{World, start}
 use Rattle.ab_replay.specs.declared.refusal.Refusal.{Refusal}
 use Rattle.ab_replay.specs.declared.running.ReplayFault.{ReplayFault}
 use Rattle.ab_replay.specs.declared.running.ReplayFault.TheVariants.{Read, TooLong, Refused, TooManyEvents, TooManyPackets, OutOfMemory}
-use Rattle.ab_replay.specs.Replays.{IsClusterOf, RunsTo, Runs, run_in, setup_in, proto_of, head_lines, EventsCause, TextCause, fault_from, step_refusal}
+use Rattle.ab_replay.specs.Replays.{IsClusterOf, RunsTo, run_in, setup_in, proto_of, head_lines, EventsCause, TextCause, fault_from, step_refusal}
 
 -- ---- how many replicas a world has
 

@@ -1,5 +1,5 @@
 -- Replays of schedules.
-use Rattle.std.specs.Prelude.{◌≡◌, ◌⊎◌, ◌↔◌, ⊤, ℕ, ◌+◌, ◌*◌, ◌<◌, ◌≤◌, Bool, IsTrue, if◌then◌else◌, Option, None, Some, List, [], ◌∷◌, Result, Ok, Err, length}
+use Rattle.std.specs.Prelude.{◌≡◌, ◌⊎◌, ◌↔◌, ⊤, ℕ, ◌+◌, ◌<◌, Bool, IsTrue, if◌then◌else◌, Option, None, Some, List, [], ◌∷◌, Result, Ok, Err, length}
 use Rattle.ab_num.specs.declared.party.Party.TheVariants.{Replica}
 use Rattle.ab_num.specs.declared.plan.ServiceName.{ServiceName}
 use Rattle.ab_num.specs.declared.plan.ServiceName.TheVariants.{Echo, Kv}

@@ -1,6 +1,6 @@
 //! What an event brings about beside the state of the party that it comes to.
 
-ghost use Rattle.std.specs.Prelude.{◌≡◌, ◌≤◌, [], true, false, IfOk, length};
+ghost use Rattle.std.specs.Prelude.{◌≡◌, ◌≤◌, [], false, IfOk, length};
 ghost use Rattle.ab_replica.specs.Entries.{with_entry};
 
 use crate::accepted::init_marks;

@@ -49,7 +49,6 @@ pub struct Replica<S: Service, P: Protocol<S>> {
 impl<S: Service, P: Protocol<S>> Model for Replica<S, P> {
     ghost use Rattle.std.specs.Prelude.{◌+◌, ◌*◌, ◌<◌, ◌≤◌};
     ghost use Rattle.ab_abs.specs.Promises.{ServesAll};
-    ghost use Rattle.ab_run.specs.Replicas.{Rep};
     ghost use Rattle.ab_replica.specs.Sites.{Site};
 
     ghost Value = { Site P };

@@ -1,6 +1,6 @@
 //! The lines of events.
 
-ghost use Rattle.std.specs.Prelude.{◌≡◌, ◌++◌, ◌∷◌, [], IfOk, OnOk, decimal, map, string_bytes};
+ghost use Rattle.std.specs.Prelude.{◌≡◌, ◌++◌, ◌∷◌, [], IfOk, OnOk, map, string_bytes};
 ghost use Rattle.ab_text.specs.Cores.{core_text};
 ghost use Rattle.ab_text.specs.EventLines.{delivery_text, event_line};
 ghost use Rattle.ab_schedule.specs.Texts.{text_of};

@@ -1,7 +1,6 @@
 //! The lines of the head, and of faulty parties.
 
 ghost use Rattle.std.specs.Prelude.{◌≡◌, ◌++◌, ◌∷◌, [], IfOk, OnOk, codes, decimal, map, string_bytes};
-ghost use Rattle.ab_num.specs.declared.party.Party.{Party as TheParty};
 ghost use Rattle.ab_text.specs.Heads.{lms_line, plan_line, service_line};
 ghost use Rattle.ab_text.specs.Schedules.{faulty_line, script_of};
 ghost use Rattle.ab_text.specs.Spelling.{head_lines};

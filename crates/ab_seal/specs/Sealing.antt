@@ -9,7 +9,7 @@ use Rattle.ab_hist.specs.declared.request.Request.{Request}
 use Rattle.ab_keys.specs.Rings.{Ring, tag_to}
 use Rattle.ab_msg.specs.declared.chain_tags.TagBetween.{TagBetween}
 use Rattle.ab_msg.specs.declared.content.Content.{Content}
-use Rattle.ab_msg.specs.declared.content.Content.TheVariants.{Resp, ChainTag}
+use Rattle.ab_msg.specs.declared.content.Content.TheVariants.{Req, Resp, ChainTag}
 use Rattle.ab_msg.specs.declared.message.Msg.{Msg}
 use Rattle.ab_msg.specs.declared.message.Msg.TheVariants as msg
 use Rattle.ab_msg.specs.declared.message.Out.{Out}
@@ -84,6 +84,16 @@ is_for_all (msg.Init cert) = true
 is_for_all (msg.Prepare prepare) = true
 is_for_all (msg.ViewChange change) = true
 is_for_all _ = false
+
+-- whether a text asks for a command
+abbrev pub asks : Content → Bool
+asks (Req maker i m) = true
+asks _ = false
+
+-- whether a message is a client's request
+abbrev pub is_request : Msg → Bool
+is_request (msg.Req content tags) = asks content
+is_request _ = false
 
 -- whatever in the message needs the tag or the signature of its sender p, p states
 abbrev pub IsOwn : ℕ → Party → Msg → Type 0

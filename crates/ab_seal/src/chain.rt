@@ -2,8 +2,7 @@
 
 ghost use Rattle.std.specs.Prelude.{◌≡◌, ◌+◌, ◌-◌, ◌*◌, ◌<◌, ◌≤◌, ◌++◌, min, length, IfOk, OnOk};
 ghost use Rattle.ab_num.specs.declared.party.Party.TheVariants.{Replica};
-ghost use Rattle.ab_num.specs.Places.{position_in};
-ghost use Rattle.ab_seal.specs.Sealing.{answer_tags, forward_tags, own_tags, reach_of, tag_for, tags_at};
+ghost use Rattle.ab_seal.specs.Sealing.{answer_tags, forward_tags, own_tags, tag_for, tags_at};
 
 use crate::tags::tag_made;
 use ab_hist::{Reply, Request, copy_reply};

@@ -1,8 +1,8 @@
 //! The replicas for which a client's request has tags.
 
-ghost use Rattle.std.specs.Prelude.{◌≡◌, ◌≤◌, ◌+◌, ◌*◌, ◌<◌};
+ghost use Rattle.std.specs.Prelude.{◌≡◌, ◌≤◌, ◌+◌};
 ghost use Rattle.ab_num.specs.Places.{kind_of};
-ghost use Rattle.ab_seal.specs.Receivers.{is_in_front, is_receiver, receivers};
+ghost use Rattle.ab_seal.specs.Receivers.{is_in_front, is_receiver};
 
 use ab_num::{Cluster, Kind};
 use arrayvec::ArrayVec;

@@ -1,13 +1,13 @@
 //! Sealing messages.
 
-ghost use Rattle.std.specs.Prelude.{◌≡◌, ◌+◌, ◌≤◌, ◌++◌, length, drop, replicate, unwrap_or, IfOk, All};
+ghost use Rattle.std.specs.Prelude.{◌≡◌, ◌+◌, ◌≤◌, ◌++◌, length, IfOk, All};
 ghost use Rattle.ab_form.specs.Formats.{u8_bytes};
 ghost use Rattle.ab_form.specs.Lists.{u8_list};
 ghost use Rattle.ab_msg.specs.declared.message.Msg.TheVariants as msg;
 ghost use Rattle.ab_msg.specs.Claims.{instance_of};
 ghost use Rattle.ab_msg.specs.Contents.{IsReq, spell_content};
 ghost use Rattle.ab_msg.specs.Fields.{spell_tags};
-ghost use Rattle.ab_msg.specs.Messages.{IsDraft, IsMessage, spell_message, spell_offer};
+ghost use Rattle.ab_msg.specs.Messages.{IsDraft, spell_message, spell_offer};
 ghost use Rattle.ab_write.specs.Writable.{AreSigned, IsProofFit};
 ghost use Rattle.ab_msg.specs.Certs.{spell_proof};
 ghost use Rattle.ab_seal.specs.Sealing.{IsOwn, content_tag, own_tags as tags_of_party, sealed, tags_made as made_tags};

@@ -1,7 +1,6 @@
 //! Tags that a party makes.
 
-ghost use Rattle.std.specs.Prelude.{◌≡◌, ◌≤◌, length, unwrap_or, replicate};
-ghost use Rattle.ab_keys.specs.Rings.{tag_to};
+ghost use Rattle.std.specs.Prelude.{◌≡◌, ◌≤◌, unwrap_or};
 ghost use Rattle.ab_seal.specs.Sealing.{tag_made, tags_made};
 
 use crate::receivers::is_receiver;

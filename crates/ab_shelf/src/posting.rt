@@ -4,7 +4,7 @@ ghost use Rattle.std.specs.Prelude.{◌≡◌, ◌+◌, ◌*◌, ◌<◌, ◌↔
 ghost use Rattle.ab_num.specs.declared.party.Party.TheVariants.{Replica};
 ghost use Rattle.ab_msg.specs.Pens.{moved};
 ghost use Rattle.ab_shelf.specs.Shelves.{with_ballot, with_sealed, left_for};
-ghost use Rattle.ab_shelf.specs.Posts.{Post, posts, posts_all, posts_prepare, posts_change, own_change_of, signed_by, signings, to_others, commit_message, lead_message};
+ghost use Rattle.ab_shelf.specs.Posts.{posts, posts_all, posts_prepare, posts_change, own_change_of, signed_by, signings, to_others, commit_message, lead_message};
 
 use crate::changes::{own_proof, proofs_for};
 use crate::kept::Ballot;

@@ -1,5 +1,5 @@
 -- Kept VIEW-CHANGEs.
-use Rattle.std.proofs.Common.{◌≡◌, ◌⊎◌, ℕ, zero, suc, ◌<◌, ◌≤◌, ◌==◌, true, false, not, cond, ◌+◌, Some, None, Option, List, [], ◌∷◌, ◌++◌, length, take, drop, get_or, refl, sym, ap, ◌∙◌, subst, inl, inr, arith}
+use Rattle.std.proofs.Common.{◌≡◌, ◌⊎◌, ℕ, suc, ◌<◌, ◌≤◌, ◌==◌, true, false, not, cond, ◌+◌, Some, None, Option, List, [], ◌∷◌, ◌++◌, length, take, get_or, refl, sym, ap, ◌∙◌, subst, inl, inr, arith}
 use Rattle.std.specs.Prelude.{count_by, nat_lt, if◌then◌else◌, slice_get, slice_set}
 use Rattle.std.specs.List.{insert, filter, take_while}
 use Rattle.std.proofs.lemmas.List.Recursion.{is_count_by}

@@ -1,5 +1,5 @@
 -- Where a replica's VIEW-CHANGE, and a client's request, stands among those that are kept.
-use Rattle.std.specs.Prelude.{ℕ, zero, suc, Bool, false, ◌==◌, nat_lt, if◌then◌else◌, Option, Some, None, List, [], ◌∷◌}
+use Rattle.std.specs.Prelude.{ℕ, suc, Bool, false, ◌==◌, nat_lt, if◌then◌else◌, Option, Some, None, List, [], ◌∷◌}
 use Rattle.ab_hist.specs.declared.request.Request.{Request}
 use Rattle.ab_msg.specs.declared.value.Value.{Value}
 use Rattle.ab_lock.specs.ViewChanges.{Kept}

@@ -1,6 +1,6 @@
 //! Certificates, and the VIEW-CHANGEs that hold them.
 
-ghost use Rattle.std.specs.Prelude.{◌≡◌, IfOk};
+ghost use Rattle.std.specs.Prelude.{◌≡◌};
 
 use crate::copies::copy_each;
 use ab_msg::{Copied, Value};

@@ -1,6 +1,6 @@
 //! What holds of every storm.
 
-ghost use Rattle.std.specs.Prelude.{ℕ, ◌≤◌, List, Bool, length};
+ghost use Rattle.std.specs.Prelude.{ℕ, List, Bool};
 ghost use Rattle.ab_storm.specs.Storms.{Storm, next_of, CanHappen};
 
 /// Each event that is drawn can happen: a packet that was sent is delivered, an idle client is given a command of 1 to 128

@@ -53,7 +53,7 @@ module _ {P : Type 0} (proto : Proto P) where
       let none : n - i ≡ 0 = omega (arith, all) in
       sym (append-nil kept) ∙ ap (λ m. kept ++ drawn_events proto m s w) (sym none) ∙ so
 
-  -- want of memory ends an event
+  -- a failed allocation ends an event
   pub memory_ends : (r : Result (World P) WorldFault) (o : Result (Unit {0}) StormFault) → IfErr o (λ e. e ≡ OutOfMemory) → IfErr o (λ e. StepCause e r)
   memory_ends r (Ok done) is = tt
   memory_ends r (Err e) is = subst (λ (f : StormFault). StepCause f r) (sym is) tt

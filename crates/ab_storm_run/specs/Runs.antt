@@ -1,5 +1,5 @@
 -- Storms that are run: events that are drawn one after another, each from where the world stands then.
-use Rattle.std.specs.Prelude.{◌≡◌, ◌↔◌, ⊤, ℕ, zero, suc, ◌≤◌, Bool, IsTrue, List, [], ◌∷◌, Contains, length, map, slice_get, Option, None, Some, Result, Ok, Err}
+use Rattle.std.specs.Prelude.{◌≡◌, ◌↔◌, ⊤, ℕ, zero, suc, Bool, IsTrue, List, [], ◌∷◌, Contains, length, map, slice_get, Option, None, Some, Result, Ok, Err}
 use Rattle.std.specs.List.{range_with_len}
 use Rattle.ab_num.specs.declared.cluster.Cluster.{Cluster}
 use Rattle.ab_num.specs.declared.plan.Height.TheVariants.{Ten}

@@ -18,7 +18,7 @@ module _ (m : Met) (r : Status) where
   pub past_settled : Settles r (Limit Packets) m.err → IsPast m → IsKept m.out → Cause r
   past_settled how past kept = settled_as Cause r (Limit Packets) m.err how (λ said. (past, (kept, said))) (λ rose. (inr rose, inl kept)) (λ says. (inl kept, inl says))
 
-  -- want of memory before anything was written
+  -- an allocation failed before anything was written
   pub memory_settled : Settles r OutOfMemory m.err → IsKept m.out → Cause r
   memory_settled how kept = settled_as Cause r OutOfMemory m.err how (λ said. (inl kept, inl (inl said))) (λ rose. (inr rose, inl kept)) (λ says. (inl kept, inl says))
 

@@ -1,6 +1,6 @@
 //! What the program does.
 
-ghost use Rattle.std.specs.Prelude.{◌≡◌, ◌≤◌, ◌∷◌, List, ℕ, IfOk, IfSome, MatchOption, None, codes, map};
+ghost use Rattle.std.specs.Prelude.{◌≡◌, ◌≤◌, ◌∷◌, List, ℕ, IfOk, IfSome, None, codes, map};
 ghost use Rattle.ab_words.specs.Uses.{texts};
 ghost use Rattle.ab_words.specs.Commands.{StormCommand as TheStorm};
 ghost use Rattle.ab_command.specs.Outputs.{output};

@@ -140,7 +140,7 @@ digits_of s bytes good is =
 pub decodes : (s bytes : List ℕ) → IsInjected bytes → s ≡ encode_lower bytes → decode_of s ≡ Ok bytes
 decodes s bytes good is = ap decode_of is ∙ decode_of-encode_lower bytes (IsBytes-from bytes good.small)
 
--- what a text of bytes is refused for is want of memory
+-- a text of bytes is refused only because an allocation failed
 pub refused : (s bytes : List ℕ) (e : FromHexError) → IsInjected bytes → s ≡ encode_lower bytes → (e ≡ OutOfMemory) ⊎ (decode_of s ≡ Err e) → (e ≡ OutOfMemory → ⊥) → ⊥
 refused s bytes e good is (inl memory) other = other memory
 refused s bytes e good is (inr h) other = let k : ◌≡◌ {A = Result (List ℕ) FromHexError} (Ok bytes) (Err e) = sym (decodes s bytes good is) ∙ h in cc

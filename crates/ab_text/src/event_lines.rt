@@ -1,6 +1,6 @@
 //! The lines of events.
 
-ghost use Rattle.std.specs.Prelude.{◌≡◌, ℕ, List, ◌^◌, ◌<◌, ◌≤◌, ◌++◌, ◌∷◌, ◌↔◌, All, IsTrue, IfOk, IfSome, IsSomeAnd, Option, None, Some, decimal, codes};
+ghost use Rattle.std.specs.Prelude.{◌≡◌, ℕ, List, ◌^◌, ◌<◌, ◌++◌, ◌∷◌, ◌↔◌, IsTrue, IfOk, IfSome, IsSomeAnd, Option, None, Some, decimal, codes};
 ghost use Rattle.hex.specs.Hex.{encode_lower};
 ghost use Rattle.ab_text.specs.declared.event.Core.{Core as TheCore};
 ghost use Rattle.ab_text.specs.declared.event.Event.{Event as TheEvent};

@@ -1,6 +1,6 @@
 //! The lines of faulty parties.
 
-ghost use Rattle.std.specs.Prelude.{◌≡◌, ℕ, ◌^◌, ◌<◌, ◌≤◌, ◌+◌, ◌*◌, ◌++◌, ◌∷◌, ◌↔◌, List, All, IsTrue, IfSome, Some, decimal, codes};
+ghost use Rattle.std.specs.Prelude.{◌≡◌, ℕ, ◌<◌, ◌≤◌, ◌+◌, ◌++◌, ◌∷◌, ◌↔◌, All, IsTrue, IfSome, Some, decimal};
 ghost use Rattle.ab_num.specs.declared.party.Party.{Party as TheParty};
 ghost use Rattle.ab_text.specs.Cores.{IsParty, party_text};
 ghost use Rattle.ab_text.specs.Schedules.{IsBefore, IsInside, IsNextFaulty, faulty_line};

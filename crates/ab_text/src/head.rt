@@ -1,7 +1,6 @@
 //! The head of a schedule.
 
 ghost use Rattle.std.specs.Prelude.{◌≡◌, ◌<◌, ◌≤◌, [], length, IfOk};
-ghost use Rattle.ab_num.specs.Bounds.{IsInBounds};
 ghost use Rattle.ab_text.specs.Lines.{lines_of};
 ghost use Rattle.ab_text.specs.Heads.{Gives, line_at, number_at, name_at, head_at, number_after, spelled_in, plan_line, plans, service_line, services, lms_line, heights};
 ghost use Rattle.ab_text.specs.Settings.{set_up};

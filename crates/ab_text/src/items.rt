@@ -1,6 +1,6 @@
 //! Lists on the heap.
 
-ghost use Rattle.std.specs.Prelude.{◌≡◌, [], ◌∷◌, ◌++◌, List, OnOk, OnErr, length};
+ghost use Rattle.std.specs.Prelude.{◌≡◌, [], ◌∷◌, ◌++◌, List, OnOk, OnErr};
 
 use ab_num::OutOfMemory;
 use std::alloc::Global;

@@ -1,9 +1,9 @@
 //! The text of a report.
 
-ghost use Rattle.std.specs.Prelude.{◌≡◌, ◌++◌, OnOk, OnErr, IfOk, List, codes, decimal, string_bytes};
+ghost use Rattle.std.specs.Prelude.{◌≡◌, ◌++◌, OnOk, OnErr, IfOk, codes, string_bytes};
 ghost use Rattle.std.specs.List.{flat_map};
 ghost use Rattle.ab_text.specs.Cores.{party_text};
-ghost use Rattle.ab_text.specs.Reports.{◌then◌, entry_text, next_entry_text, entries_text, cause_text, breach_text, refused_line, cert_line, init_line, invoked_line, commit_front, commit_line, spent_line, line_text, log_line, log_text, premise_text, broken_line, end_text};
+ghost use Rattle.ab_text.specs.Reports.{entry_text, next_entry_text, entries_text, cause_text, breach_text, refused_line, cert_line, init_line, invoked_line, commit_front, spent_line, line_text, log_line, premise_text, broken_line, end_text};
 
 use crate::line::{Breach, Cause, Line, Premise};
 use ab_num::{OutOfMemory, Party};

@@ -1,6 +1,6 @@
 //! Schedules and reports against worked ones.
 
-ghost use Rattle.std.specs.Prelude.{◌≡◌, ◌<◌, ◌^◌};
+ghost use Rattle.std.specs.Prelude.{◌<◌};
 
 use ab_num::{Height, Party, Plan, ServiceName};
 use ab_text::{

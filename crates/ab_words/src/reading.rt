@@ -1,6 +1,6 @@
 //! The reading of the words.
 
-ghost use Rattle.std.specs.Prelude.{◌≡◌, IfOk, IfSome, MatchOption, None, Some};
+ghost use Rattle.std.specs.Prelude.{◌≡◌, IfOk, None, Some};
 ghost use Rattle.ab_words.specs.Language.{command_in, command_of, keys_in, node_in, storm_in};
 ghost use Rattle.ab_words.specs.Uses.{texts, uses_seen};
 

@@ -1,6 +1,6 @@
 //! The uses of options.
 
-ghost use Rattle.std.specs.Prelude.{◌≡◌, ◌∷◌, ◌++◌, [], IfOk, MatchOption, None, Some, ℕ, List};
+ghost use Rattle.std.specs.Prelude.{◌≡◌, IfOk, MatchOption, None, Some};
 ghost use Rattle.ab_words.specs.Uses.{opened, opened_by, opened_seen, parted, text_at, texts, uses_in, uses_seen, with_word};
 
 use ab_num::OutOfMemory;

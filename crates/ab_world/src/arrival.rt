@@ -1,7 +1,6 @@
 //! What is looked at as bytes come to a party.
 
-ghost use Rattle.std.specs.Prelude.{◌≡◌, ℕ, Ok, Err, MatchResult, IfOk, IsTrue};
-ghost use Rattle.ab_msg.specs.Messages.{IsMessage};
+ghost use Rattle.std.specs.Prelude.{◌≡◌, Ok, Err, MatchResult, IfOk, IsTrue};
 ghost use Rattle.ab_msg.specs.Contents.{spell_content};
 ghost use Rattle.ab_msg.specs.Claims.{claims};
 ghost use Rattle.ab_run.specs.Stages.{forged_in};

@@ -1,6 +1,6 @@
 //! What comes to a core.
 
-ghost use Rattle.std.specs.Prelude.{◌≡◌, ◌<◌, ℕ, All, IfOk, OnErr, Option, Some};
+ghost use Rattle.std.specs.Prelude.{◌≡◌, ◌<◌, ℕ, IfOk, OnErr, Option, Some};
 ghost use Rattle.ab_run.specs.Forms.{IsDraftOf};
 ghost use Rattle.ab_cast.specs.Setups.{party_at, place_of};
 ghost use Rattle.ab_world.specs.Handing.{IsHanded, EachOut};

@@ -1,12 +1,12 @@
 //! The cluster as a whole.
 
-ghost use Rattle.std.specs.Prelude.{◌≡◌, ◌⊎◌, ◌+◌, ◌<◌, ◌≤◌, ℕ, All, length, IsTrue, OnOk, OnErr, IfErr, IfOk, IfSome, MatchOption, Ok, Some, None, Option, is_some, slice_get};
+ghost use Rattle.std.specs.Prelude.{◌≡◌, ◌<◌, ◌≤◌, ℕ, All, length, IsTrue, OnOk, OnErr, IfErr, IfOk, Ok, Some, None, Option, is_some, slice_get};
 ghost use Rattle.std.specs.Option.{option_map};
 ghost use Rattle.ab_abs.specs.Promises.{ServesAll};
 ghost use Rattle.ab_keys.specs.Keys.{is_party};
 ghost use Rattle.ab_run.specs.Forms.{IsDraftOf};
 ghost use Rattle.ab_post.specs.Packets.{total, most_bytes};
-ghost use Rattle.ab_cast.specs.Setups.{place_of, party_at};
+ghost use Rattle.ab_cast.specs.Setups.{place_of};
 ghost use Rattle.ab_cast.specs.Casts.{is_free};
 ghost use Rattle.ab_premise.specs.Collisions.{first_watch};
 ghost use Rattle.ab_world.specs.Worlds.{premise_of, start};
@@ -399,8 +399,8 @@ impl<S: Service, P: Protocol<S>> World<S, P> {
         }
     }
 
-    /// One event. A refused event changes nothing, but for the limits and want of memory: after
-    /// these the world has ended, and each further step answers the same.
+    /// One event. A refused event changes nothing, but for the limits and a failed allocation:
+    /// after these the world has ended, and each further step answers the same.
     pub fn step(&mut self, alloc: Global, e: &Event) -> Result<(), WorldFault>
         ensures ok { OnOk result (stepped P.proto self.old e.now ≡ Ok self.new) }
         ensures cause { IfErr result (λ f. Cause P.proto f self.old e.now) }

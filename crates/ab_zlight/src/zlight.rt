@@ -1,6 +1,6 @@
 //! A replica of ZLight in one instance.
 
-ghost use Rattle.std.specs.Prelude.{◌≡◌, ◌+◌, ◌*◌, ◌<◌, [], ◌++◌, Some, IfOk, OnErr, IsErrOf, not, ◌&&◌, if◌then◌else◌, replicate, unwrap_or, vec_len};
+ghost use Rattle.std.specs.Prelude.{◌≡◌, ◌+◌, ◌*◌, ◌<◌, [], ◌++◌, Some, IfOk, OnErr, not, ◌&&◌, if◌then◌else◌, replicate, unwrap_or, vec_len};
 ghost use Rattle.std.specs.Vec.{vec_capacity};
 ghost use Rattle.ab_num.specs.declared.party.Party.TheVariants.{Replica};
 ghost use Rattle.ab_num.specs.Parties.{party_eq};
@@ -241,7 +241,7 @@ impl<S: Service> ZLight<S> {
 }
 
 impl<S: Service> Protocol<S> for ZLight<S> {
-    ghost use Rattle.std.specs.Prelude.{ℕ, None};
+    ghost use Rattle.std.specs.Prelude.{None};
     ghost use Rattle.ab_abs.specs.Rules.{IsSound};
     ghost use Rattle.ab_abs.specs.Acts.{state_of};
     ghost use Rattle.ab_abs.specs.Members.{IsAt};

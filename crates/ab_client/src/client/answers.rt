@@ -2,7 +2,6 @@
 
 ghost use Rattle.std.specs.Prelude.{◌≡◌, ◌<◌, ◌∷◌, ◌&&◌, ◌==◌, [], List, ℕ, None, Some};
 ghost use Rattle.std.specs.Option.{option_map};
-ghost use Rattle.ab_num.specs.Places.{kind_of};
 ghost use Rattle.ab_form.specs.Lists.{FitsInside};
 ghost use Rattle.ab_hist.specs.declared.request.Request.{Request as TheRequest};
 ghost use Rattle.ab_msg.specs.declared.chain_tags.TagBetween.{TagBetween};

@@ -1,7 +1,6 @@
 //! How a client stops its instance, and how it enters another.
 
 ghost use Rattle.std.specs.Prelude.{◌≡◌, ◌+◌, ◌<◌, ◌≤◌, ◌∷◌, [], if◌then◌else◌, List, None, Some, IfOk, IfSome, IsNone, IsSome, OnOk, OnErr, ◌⊎◌};
-ghost use Rattle.std.specs.Option.{option_map};
 ghost use Rattle.ab_num.specs.Places.{kind_of};
 ghost use Rattle.ab_hist.specs.declared.request.Request.{Request as TheRequest};
 ghost use Rattle.ab_msg.specs.declared.message.Msg.TheVariants as sent;

@@ -1,4 +1,4 @@
-use Rattle.std.proofs.Common.{◌≡◌, ap, sym, ◌∙◌}
+use Rattle.std.proofs.Common.{ap, sym, ◌∙◌}
 use Rattle.ab_abs.specs.Messages.{took}
 use Rattle.ab_slots.specs.Inputs.{input_of}
 use Rattle.ab_shelf.specs.Signing.{puts}

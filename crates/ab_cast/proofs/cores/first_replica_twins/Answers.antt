@@ -1,5 +1,4 @@
-use Rattle.std.proofs.Common.{map, ap, ◌++◌, ◌∙◌, arith}
-use Rattle.std.specs.Prelude.{replicate}
+use Rattle.std.proofs.Common.{map, ap, ◌∙◌, arith}
 use Rattle.ab_num.specs.declared.party.Party.TheVariants.{Replica}
 use Rattle.ab_cast.specs.Casts.{first_site}
 use Rattle.ab_cast.specs.Setups.{replica_twins}

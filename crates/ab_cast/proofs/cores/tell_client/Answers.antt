@@ -1,4 +1,4 @@
-use Rattle.std.proofs.Common.{◌≡◌, ◌≢◌, ◌+◌, false, length, slice_set, arith, refl, sym, ap, ◌∙◌, subst, inl, inr}
+use Rattle.std.proofs.Common.{◌≡◌, ◌≢◌, false, length, slice_set, arith, refl, sym, ap, ◌∙◌, subst, inl, inr}
 use Rattle.ab_run.specs.declared.phase.Phase.TheVariants.{Idle}
 use Rattle.ab_client.specs.declared.client.InvokeFault.{InvokeFault}
 use Rattle.ab_client.specs.Clients.{Seat, told, InvokeCause}

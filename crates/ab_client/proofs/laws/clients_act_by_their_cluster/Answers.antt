@@ -1,4 +1,4 @@
-use Rattle.std.proofs.Common.{◌≡◌, sym, ap}
+use Rattle.std.proofs.Common.{sym, ap}
 use Rattle.ab_run.specs.Local.{cli_after, cli_marks, cli_sends}
 use Rattle.ab_client.specs.Clients.{alone}
 use Rattle.ab_client.proofs.laws.clients_act_by_their_cluster.Goals as goal

@@ -1,4 +1,4 @@
-use Rattle.std.proofs.Common.{◌≡◌, ◌+◌, ◌<◌, drop, length, arith, ap, sym, ◌∙◌}
+use Rattle.std.proofs.Common.{◌+◌, ◌<◌, drop, length, arith, ap, sym, ◌∙◌}
 use Rattle.ab_member.specs.Clients.{commit_in, first_of}
 use Rattle.ab_member.proofs.CommitLemmas.{commit_here}
 use Rattle.ab_member.proofs.commits.commit_in.Goals as goal

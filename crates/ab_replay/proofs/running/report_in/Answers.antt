@@ -1,4 +1,4 @@
-use Rattle.std.proofs.Common.{◌≡◌, ◌↔◌, ℕ, IsTrue, Ok, Result, sym, subst, rules}
+use Rattle.std.proofs.Common.{◌≡◌, ◌↔◌, IsTrue, Ok, subst}
 use Rattle.ab_world.specs.Runs.{outcome}
 use Rattle.ab_text.specs.declared.line.Premise.{Premise}
 use Rattle.ab_text.specs.declared.line.Premise.TheVariants.{Held}

@@ -1,4 +1,4 @@
-use Rattle.std.proofs.Common.{◌≡◌, ◌+◌, ℕ, length, arith, ap, sym, subst}
+use Rattle.std.proofs.Common.{◌+◌, ℕ, length, arith, ap, sym, subst}
 use Rattle.ab_num.specs.declared.plan.ServiceName.{ServiceName}
 use Rattle.ab_svc.specs.Echoes.{echo_machine}
 use Rattle.ab_kv.specs.KvMachines.{kv_machine}

@@ -1,4 +1,4 @@
-use Rattle.std.proofs.Common.{◌≡◌, ◌∙◌, sym}
+use Rattle.std.proofs.Common.{◌∙◌, sym}
 use Rattle.ab_slots.proofs.CertLemmas.{cert_there, cert_none}
 use Rattle.ab_slots.proofs.certs.cert_at.Goals as goal
 

@@ -1,4 +1,4 @@
-use Rattle.std.proofs.Common.{rules, ◌≡◌, ◌∙◌, ◌++◌, ◌∷◌, [], Some, None, sym, ap}
+use Rattle.std.proofs.Common.{rules, ◌≡◌, ◌++◌, ◌∷◌, [], Some, None}
 use Rattle.ab_lock.specs.Steps.{cert_at}
 use Rattle.ab_slots.proofs.CertLemmas.{front_more, front_ends}
 use Rattle.ab_slots.proofs.certs.front.Goals as goal

@@ -1,4 +1,4 @@
-use Rattle.std.proofs.Common.{◌≡◌, ◌+◌, ◌-◌, ◌<◌, ◌∙◌, arith, subst, sym}
+use Rattle.std.proofs.Common.{◌≡◌, ◌-◌, ◌∙◌, arith, subst, sym}
 use Rattle.ab_world.specs.Runs.{outcome}
 use Rattle.ab_storm_run.specs.Runs.{drawn_events, EndCause}
 use Rattle.ab_storm_run.proofs.StormLemmas.{ends_run, goes_next, kept_err, run_done}

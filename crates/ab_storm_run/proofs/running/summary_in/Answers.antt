@@ -1,4 +1,4 @@
-use Rattle.std.proofs.Common.{◌≡◌, ◌↔◌, ◌∙◌, IsTrue, Ok, refl, sym, ap, subst}
+use Rattle.std.proofs.Common.{◌≡◌, ◌↔◌, IsTrue, Ok, refl, sym, subst}
 use Rattle.ab_num.specs.Places.{kind_of}
 use Rattle.ab_num.specs.declared.plan.Plan.{Plan}
 use Rattle.ab_text.specs.declared.line.Premise.{Premise}

@@ -1,4 +1,4 @@
-use Rattle.std.proofs.Common.{◌+◌, ◌∙◌, drop, refl, ap, arith}
+use Rattle.std.proofs.Common.{◌+◌, ◌∙◌, drop, refl, ap}
 use Rattle.std.specs.Prelude.{max, slice_get}
 use Rattle.ab_storm_run.specs.Summaries.{highest}
 use Rattle.ab_storm_run.proofs.SummaryLemmas.{larger, top_next}

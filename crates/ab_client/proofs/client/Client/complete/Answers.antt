@@ -1,4 +1,4 @@
-use Rattle.std.proofs.Common.{◌≡◌, All, sym, ap, ◌∙◌, subst}
+use Rattle.std.proofs.Common.{All, sym, ap, ◌∙◌, subst}
 use Rattle.ab_num.specs.Places.{kind_of}
 use Rattle.ab_msg.specs.Contents.{IsAbort}
 use Rattle.ab_msg.specs.Certs.{IsSigned}

@@ -1,4 +1,4 @@
-use Rattle.std.proofs.Common.{◌≡◌, ◌+◌, ◌*◌, ◌≤◌, ◌∷◌, ◌++◌, [], List, arith, sym, ap, ◌∙◌, subst}
+use Rattle.std.proofs.Common.{◌+◌, ◌*◌, ◌≤◌, ◌∷◌, ◌++◌, [], List, arith, sym, ap, ◌∙◌, subst}
 use Rattle.ab_abs.specs.declared.seen.Seen.{Seen}
 use Rattle.ab_run.specs.Clients.{move_panic, cert_out, to_all}
 use Rattle.ab_client.specs.Clients.{Seat, alone, panic_msg}

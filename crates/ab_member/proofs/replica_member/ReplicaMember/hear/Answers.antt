@@ -1,4 +1,4 @@
-use Rattle.std.proofs.Common.{◌≡◌, All, ap, sym, ◌∙◌, subst}
+use Rattle.std.proofs.Common.{All, ap, sym, ◌∙◌, subst}
 use Rattle.ab_run.specs.Forms.{IsDraftOf}
 use Rattle.ab_member.specs.Given.{given_call}
 use Rattle.ab_member.specs.Replicas.{ReplicaMember}

@@ -1,4 +1,4 @@
-use Rattle.std.proofs.Common.{◌≡◌, ◌+◌, ◌*◌, ◌<◌, IsTrue, refl, sym, subst}
+use Rattle.std.proofs.Common.{◌≡◌, IsTrue, refl, sym, subst}
 use Rattle.ab_num.specs.declared.plan.Plan.{Plan}
 use Rattle.ab_num.specs.Places.{kind_of}
 use Rattle.ab_abs.specs.Promises.{ServesAll}
