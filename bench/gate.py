@@ -1,13 +1,13 @@
 #!/usr/bin/env python3
 """Runs the gate, `rt ci`, and tells what it took, crate by crate.
 
-usage: gate.py [--lanes N] [--log FILE]
+usage: gate.py [--anew] [--processors N] [--log FILE]
 
-The gate runs in this repository, with N checks side by side (as many as there are processors). What it writes goes to FILE
-(gate.log, in the folder that the script is called in). Each of its checks is a process whose processor time is read once a
-second, so that up to a second of each is missed. Prints a line for each crate, the dearest first, with processor minutes for its
-proof, its tests and its edits, and what `rt ci` said last; then the sums, and the minutes from start to end. Of a run that is
-interrupted it tells what has been until then.
+The gate runs in this repository, on the first N processors (all that there are); with --anew it proves all again, whatever was
+kept. What it writes goes to FILE (gate.log, in the folder that the script is called in). Each of its checks is a process whose
+processor time is read once a second, so that up to a second of each is missed. Prints a line for each crate, the dearest first,
+with processor minutes for its proof, its tests and its edits, and what `rt ci` said last; then the sums, and the minutes from start
+to end. Of a run that is interrupted it tells what has been until then.
 """
 
 import argparse
@@ -89,13 +89,16 @@ def tell(checks, minutes, last):
 
 def main():
     parser = argparse.ArgumentParser()
-    parser.add_argument("--lanes", type=int)
+    parser.add_argument("--anew", action="store_true")
+    parser.add_argument("--processors", type=int)
     parser.add_argument("--log", default="gate.log")
     asked = parser.parse_args()
-    environment = {**os.environ, **({"RT_JOBS": str(asked.lanes)} if asked.lanes else {})}
+    if asked.processors:
+        os.sched_setaffinity(0, sorted(os.sched_getaffinity(0))[: asked.processors])
+    words = ["rt", "ci"] + ["--anew"] * asked.anew
     checks, begin = {}, time.monotonic()
     with open(asked.log, "w") as log:
-        gate = subprocess.Popen(["rt", "ci"], cwd=TOP, env=environment, stdout=log, stderr=subprocess.STDOUT)
+        gate = subprocess.Popen(words, cwd=TOP, stdout=log, stderr=subprocess.STDOUT)
         try:
             while gate.poll() is None:
                 look(gate.pid, checks)
