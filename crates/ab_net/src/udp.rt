@@ -1,14 +1,16 @@
 //! Datagrams over the loopback address.
 
-ghost use Rattle.std.specs.Prelude.{◌≡◌, ◌≤◌, length, Err, IfErr, IsSome, OnOk};
+ghost use Rattle.std.specs.Prelude.{◌≡◌, ◌≤◌, length, Err, IfErr, IsSome, OnErr, OnOk};
 ghost use Rattle.std.specs.declared.option.Option.TheVariants.{None};
 ghost use Rattle.ab_io.specs.Causes.{HasCause, HasGotCause, HasRefusalCause};
 ghost use Rattle.ab_io.specs.Datagrams.{FitsIn};
 ghost use Rattle.ab_io.specs.declared.fault.Refused.TheVariants as refused;
 ghost use Rattle.ab_io.specs.declared.link.Got.TheVariants as got;
+ghost use Rattle.ab_net.specs.UdpLinks.{unopened};
 
 use ab_io::{Failed, Got, LONGEST_DATAGRAM, Link, Refused};
 use std::io::ErrorKind;
+use std::marker::Model;
 use std::net::{Ipv4Addr, Net, SocketAddrV4, UdpSocket};
 use std::time::Duration;
 
@@ -22,10 +24,19 @@ pub struct UdpLink<R: Net + Drop> {
     losses: u64,
 }
 
+/// It is seen as its socket, once it is open, with its faults and its losses.
+impl<R: Net + Drop> Model for UdpLink<R> {
+    ghost use Rattle.ab_net.specs.UdpLinks.{UdpState};
+
+    ghost Value = { UdpState };
+
+    ghost view = { λ l. record { socket = l.socket; faults = l.faults; losses = l.losses } };
+}
+
 impl<R: Net + Drop> UdpLink<R> {
     /// A link that isn't open.
     pub fn new(net: R) -> Self
-        ensures { (result.socket ≡ None) × (result.faults ≡ 0) × (result.losses ≡ 0) }
+        ensures { result ≡ unopened }
     {
         UdpLink {
             net,
@@ -71,6 +82,7 @@ impl<R: Net + Drop> Link for UdpLink<R> {
 
     fn open(&mut self, port: u16) -> Result<(), Failed>
         ensures open { OnOk result (IsSome self.new.socket) }
+        ensures err { OnErr result (self.new.socket ≡ self.old.socket) }
         ensures cause { HasCause self.old.faults self.new.faults result }
         ensures losses { self.new.losses ≡ self.old.losses }
     {

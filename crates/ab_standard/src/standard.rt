@@ -8,6 +8,7 @@ ghost use Rattle.std.specs.declared.option.Option.TheVariants.{None};
 
 use ab_io::{Failed, Refused, Sink, Source};
 use std::io::{ErrorKind, Read, Write};
+use std::marker::Model;
 
 /// How often a call that is interrupted is tried again.
 const TRIES: u64 = u64::MAX;
@@ -19,9 +20,18 @@ pub struct StdSource<R> {
     faults: u64,
 }
 
+/// It is seen as the reader, with its faults.
+impl<R> Model for StdSource<R> {
+    ghost use Rattle.ab_standard.specs.Streams.{StdStream};
+
+    ghost Value = { StdStream R };
+
+    ghost view = { λ s. record { stream = s.inner; faults = s.faults } };
+}
+
 impl<R> StdSource<R> {
     pub fn new(inner: R) -> StdSource<R>
-        ensures { (result.inner ≡ inner) × (result.faults ≡ 0) }
+        ensures { result ≡ record { stream = inner; faults = 0 } }
     {
         StdSource { inner, faults: 0 }
     }
@@ -37,7 +47,7 @@ impl<R: Read> Source for StdSource<R> {
         ensures bytes { ReadConsumes None None result buf.new }
         ensures cause { HasCause self.old.faults self.new.faults result }
         // the reader's own word is kept: its end is its end, and a fault isn't
-        ensures reader { ReadConsumes (R.remaining self.old.inner) (R.remaining self.new.inner) result buf.new }
+        ensures reader { ReadConsumes (R.remaining self.old.stream) (R.remaining self.new.stream) result buf.new }
     {
         for _ in 0..TRIES {
             match self.inner.read(buf) {
@@ -58,9 +68,18 @@ pub struct StdSink<W> {
     faults: u64,
 }
 
+/// It is seen as the writer, with its faults.
+impl<W> Model for StdSink<W> {
+    ghost use Rattle.ab_standard.specs.Streams.{StdStream};
+
+    ghost Value = { StdStream W };
+
+    ghost view = { λ s. record { stream = s.inner; faults = s.faults } };
+}
+
 impl<W> StdSink<W> {
     pub fn new(inner: W) -> StdSink<W>
-        ensures { (result.inner ≡ inner) × (result.faults ≡ 0) }
+        ensures { result ≡ record { stream = inner; faults = 0 } }
     {
         StdSink { inner, faults: 0 }
     }
@@ -77,7 +96,7 @@ impl<W: Write> Sink for StdSink<W> {
         ensures cause { HasRefusalCause self.old.faults self.new.faults result }
         ensures refused { IfErr result (λ why. why ≡ refused.Failed) }
         // what the writer says that it took was given to it
-        ensures writer { WriteAppends (W.contents self.old.inner) (W.contents self.new.inner) result bytes.now }
+        ensures writer { WriteAppends (W.contents self.old.stream) (W.contents self.new.stream) result bytes.now }
     {
         for _ in 0..TRIES {
             match self.inner.write(bytes) {

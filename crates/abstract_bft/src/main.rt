@@ -8,7 +8,7 @@
 #![tactic(auto)]
 
 ghost use Rattle.std.specs.Prelude.{◌≡◌, IfOk};
-ghost use Rattle.std.specs.declared.option.Option.TheVariants.{None};
+ghost use Rattle.ab_net.specs.UdpLinks.{unopened};
 
 use ab_command::{refuse_memory, run};
 use ab_net::{StdClock, UdpLink};
@@ -19,7 +19,7 @@ use std::process::ExitCode;
 
 /// Datagrams over the loopback address, and the system's clock.
 fn network(rt: &HostRuntime) -> Result<(UdpLink<HostRuntime>, StdClock<HostRuntime>), AllocError>
-    ensures { IfOk result (λ both. (both.0.socket ≡ None) × (both.1 ≡ 0)) }
+    ensures { IfOk result (λ both. (both.0 ≡ unopened) × (both.1 ≡ 0)) }
 {
     let link = UdpLink::new(rt.clone()?);
     let clock = StdClock::new(rt.clone()?);
