@@ -240,7 +240,7 @@ fn serve<I: Source, O: Sink, E: Sink, L: Link, C: Clock>(
 /// - 8: a client's turns were used, and commands are unanswered.
 /// - 9: memory was refused.
 ///
-/// Each but 0 and 1 is said on `err`. Only `node` calls `link` and `clock`.
+/// Each but 0 and 1 is said on `err`, unless `err` fails. Only `node` calls `link` and `clock`.
 pub fn run<I: Source, O: Sink, E: Sink, L: Link, C: Clock>(
     alloc: Global,
     words: &[&str],

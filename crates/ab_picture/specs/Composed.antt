@@ -23,7 +23,7 @@ abbrev pub tale_of : Told → Tale
 tale_of told = record { events = told.events.now; counts = told.counts.now; parcels = told.parcels.now; lines = told.lines.now; premise = told.premise }
 
 -- the picture of a run of a cluster with these faulty parties: the lanes of its cores, its events, an arrow for each delivery, a
--- stub for each packet that is never delivered, a mark for each line of the report, in order, and the premise line
+-- stub for each packet that is not delivered, a mark for each line of the report, in order, and the premise line
 pub record IsPicture (c : Cluster) (faulty : List (Party × ℕ)) (t : Tale) (p : Picture) : Type 0 where
   pub cluster : p.cluster ≡ c
   pub lanes : p.lanes.items ≡ lanes_of c faulty

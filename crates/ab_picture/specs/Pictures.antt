@@ -76,7 +76,7 @@ stub_at counts k p = record { packet = k; code = p.code; from = sender_of counts
 abbrev pub stub_of : List Event → List ℕ → ℕ → Parcel → Option Stub
 stub_of events counts k p = if is_delivered events k then None else Some (stub_at counts k p)
 
--- a stub for each packet that is never delivered
+-- a stub for each packet that is not delivered
 abbrev pub stubs_of : List Event → List ℕ → List Parcel → List Stub
 stubs_of events counts parcels = filter_map (λ x. stub_of events counts x.0 x.1) (enumerate_from 1 parcels)
 

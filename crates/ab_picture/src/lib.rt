@@ -1,5 +1,5 @@
 //! What a picture of a run shows, as plain data: where each event was, an arrow for each delivery, a stub for
-//! each packet that was never delivered, and a mark for each line of the report.
+//! each packet that is not delivered, and a mark for each line of the report.
 #![tactic(auto)]
 
 mod composing;

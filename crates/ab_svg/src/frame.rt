@@ -40,7 +40,7 @@ text.red{stroke:none;font-weight:bold}
 
 const LEGEND: &[u8] = b"<g font-size=\"11\">
 <path class=\"arrow\" d=\"M24 76H62\"/><text x=\"70\" y=\"80\">delivered: message and packet</text>
-<path class=\"stub\" d=\"M32 98H50\"/><text x=\"70\" y=\"102\">a packet that is never delivered</text>
+<path class=\"stub\" d=\"M32 98H50\"/><text x=\"70\" y=\"102\">a packet that is not delivered</text>
 <path class=\"lane faulty\" d=\"M24 120H62\"/><text x=\"70\" y=\"124\">a faulty party, or a twin of it</text>
 <rect class=\"i2\" x=\"32\" y=\"133\" width=\"18\" height=\"18\" rx=\"8\"/><text class=\"badge\" x=\"41\" y=\"146\">2</text><text x=\"70\" y=\"146\">enters the instance (colour)</text>
 <text class=\"red\" x=\"26\" y=\"168\">red</text><text x=\"70\" y=\"168\">what a broken premise names</text>

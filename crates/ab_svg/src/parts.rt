@@ -216,7 +216,7 @@ pub(crate) fn stub_string(
     let number = stub.packet;
     let party = party_string(alloc, stub.to)?;
     format!(in alloc;
-        "<path class=\"stub\" d=\"M{x} {y}L{there} {end}\"><title>{name} {number} to {party}, never delivered</title></path>\n"
+        "<path class=\"stub\" d=\"M{x} {y}L{there} {end}\"><title>{name} {number} to {party}, not delivered</title></path>\n"
     )
 }
 
