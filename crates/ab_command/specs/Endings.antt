@@ -26,11 +26,11 @@ FailsToWrite out err = (HasFailed out × Says WriteFault err) ⊎ HasFailed err
 abbrev pub SaysNoMemory : Output → Type 0
 SaysNoMemory err = Says OutOfMemory err ⊎ ((s : Status) × GetsPart err (text_of s))
 
--- a status that was to be said on err: it was, or err failed, or memory was refused
+-- a status that was to be said on err: it was, or err failed, or an allocation failed
 abbrev pub Settles : Status → Status → Output → Type 0
 Settles r s err = ((r ≡ s) × Says s err) ⊎ (((r ≡ WriteFault) × HasFailed err) ⊎ ((r ≡ OutOfMemory) × SaysNoMemory err))
 
--- a usage line that was to be said on err: it was, or err failed, or memory was refused
+-- a usage line that was to be said on err: it was, or err failed, or an allocation failed
 abbrev pub SettlesUsage : Status → List ℕ → Output → Type 0
 SettlesUsage r usage err = ((r ≡ Usage) × Gets err usage) ⊎ (((r ≡ WriteFault) × HasFailed err) ⊎ ((r ≡ OutOfMemory) × GetsPart err usage))
 
@@ -40,6 +40,6 @@ abbrev pub SaysNoMemoryOrUsage : Type 0 → List ℕ → Output → Type 0
 SaysNoMemoryOrUsage AreWrong usage err = SaysNoMemory err ⊎ (AreWrong × GetsPart err usage)
 
 -- a text that was to be written to out, with the status of a call that did: out got it and nothing was said, or out got a front of it,
--- and that out failed or memory was refused was to be said on err
+-- and that out or an allocation failed was to be said on err
 abbrev pub WritesOrSays : Status → Status → List ℕ → Output → Output → Type 0
 WritesOrSays r s text out err = ((r ≡ s) × Gets out text × IsKept err) ⊎ (GetsFront out text × ((HasFailed out × Settles r WriteFault err) ⊎ Settles r OutOfMemory err))

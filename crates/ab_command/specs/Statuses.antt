@@ -148,17 +148,18 @@ pub record IsClearForNode (c : Call) (k : NodeCommand) : Type 0 where
   pub err : HasFailed c.err → ⊥
   pub link : Rose c.network.link_before c.network.link_now → ⊥
 
--- the party was served to the end; or it is a client whose turns were used before its commands were answered; or memory was refused
+-- the party was served to the end; or it is a client whose turns were used before its commands were answered; or an allocation
+-- failed
 abbrev pub IsServedOut : ℕ → Node → Call → Type 0
 IsServedOut n node c =
     ((n ≡ 0) × ServesNode c)
     ⊎ (((n ≡ 8) × (is_client node.keys.me ≡ true) × ((unanswered : ℕ) × StopsNode (stop.Serving (serving.TurnsSpent unanswered)) c))
     ⊎ (n ≡ 9))
 
--- the number is that of a status that has its cause. Where nothing stands in the way, it is that of the premise line, or memory
--- was refused. Where keys are asked for, they are written whole, or memory was refused. Where a storm is asked for, its summary is
--- written whole and the number is that of the premise line, or its packets pass the limit of bytes and the number is 7, or memory was
--- refused. Where a node is asked for, its party is served out
+-- the number is that of a status that has its cause. Where nothing stands in the way and no allocation fails, it is that of the
+-- premise line. Where keys are asked for, they are written whole. Where a storm is asked for, its summary is written whole and the
+-- number is that of the premise line, or its packets pass the limit of bytes and the number is 7. Where a node is asked for, its
+-- party is served out
 pub record HasCauseOf (n : ℕ) (c : Call) : Type 0 where
   pub status : Status
   pub code : n ≡ code_of status

@@ -23,7 +23,7 @@ pub fn say<E: Sink>(err: &mut E, text: &str, status: Status) -> Status
     }
 }
 
-/// Says that memory was refused.
+/// Says that an allocation failed.
 pub fn say_no_memory<E: Sink>(err: &mut E) -> Status
     ensures status { Settles result Status.OutOfMemory (output (E.contents err.old) (E.contents err.new) (E.faults err.old) (E.faults err.new)) }
     ensures later { E.faults err.old ≤ E.faults err.new }

@@ -238,7 +238,7 @@ fn serve<I: Source, O: Sink, E: Sink, L: Link, C: Clock>(
 /// - 7: the input has more bytes or more events than are taken, or the packets of the run have more
 ///   bytes.
 /// - 8: a client's turns were used, and commands are unanswered.
-/// - 9: memory was refused.
+/// - 9: an allocation failed.
 ///
 /// Each but 0 and 1 is said on `err`, unless `err` fails. Only `node` calls `link` and `clock`.
 pub fn run<I: Source, O: Sink, E: Sink, L: Link, C: Clock>(
@@ -277,7 +277,7 @@ pub fn run<I: Source, O: Sink, E: Sink, L: Link, C: Clock>(
     status.code()
 }
 
-/// Says that memory was refused before the command began, and returns the number of the status.
+/// Says that an allocation failed before the command began, and returns the number of the status.
 pub fn refuse_memory<E: Sink>(err: &mut E) -> u8
     ensures { ((result ≡ 9) × SaysNoMemory (output (E.contents err.old) (E.contents err.new) (E.faults err.old) (E.faults err.new))) ⊎ ((result ≡ 5) × Rose (E.faults err.old) (E.faults err.new)) }
 {

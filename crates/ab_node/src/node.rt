@@ -35,7 +35,7 @@ fn setting_of(asked: &NodeCommand, me: Party) -> Setting
     }
 }
 
-/// The refusal of a text that sets up no node. None where memory was refused.
+/// The refusal of a text that sets up no node. None where an allocation failed.
 fn refusal_of(fault: NodeFault) -> Option<Refusal>
     ensures { result ≡ text_refusal fault }
 {

@@ -60,7 +60,7 @@ impl From<OutOfMemory> for ReplayFault {
     }
 }
 
-/// The refusal of a text that is no schedule. None where memory was refused.
+/// The refusal of a text that is no schedule. None where an allocation failed.
 pub fn refusal_of_text(fault: TextFault) -> Option<Refusal>
     ensures { result ≡ text_refusal fault }
 {

@@ -4,7 +4,7 @@
 //! It ends with 0 where the premises of the order properties held, 1 where one was broken, 2 for
 //! words that are no command, 3 for a line that is refused, 4 for a fault of standard input, 5 for one
 //! of standard output or standard error, 6 for one of the socket, 7 past a limit, 8 where a client's turns were used and
-//! commands are unanswered, and 9 where memory was refused.
+//! commands are unanswered, and 9 where an allocation failed.
 #![tactic(auto)]
 
 ghost use Rattle.std.specs.Prelude.{◌≡◌, IfOk};
