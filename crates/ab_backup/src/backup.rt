@@ -24,7 +24,7 @@ fn empty_book<S: Service>(alloc: Global) -> Result<Book<S>, OutOfMemory>
 }
 
 /// Replicas log what an orderer orders, answer it, and stop after so many requests as the instance commits. A
-/// client commits on f + 1 equal answers, so a Backup commits whatever f replicas do.
+/// client commits on f + 1 equal answers.
 #[derive(Drop)]
 pub struct Backup<S: Service, O: Orderer> {
     parts: Parts<S, O>,

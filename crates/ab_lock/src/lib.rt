@@ -1,5 +1,5 @@
 //! PBFT over all views, of plain values: what correct replicas prepared stays, and what they execute
-//! is one list. It knows no request, no message and no digest; slots hold any values.
+//! is one list. It knows no request and no message: slots hold any values, under any digest of them.
 #![tactic(auto)]
 
 mod examples;

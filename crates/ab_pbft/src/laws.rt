@@ -25,7 +25,8 @@ pub fn pbft_is_one_order()
     ensures { (x : Setting) (k : ℕ) (acts : List Act) → IsPbftSound x k acts → IsOneOrder x k acts }
 {}
 
-/// What f + 1 correct replicas prepared in a slot, no other value is prepared in from then on.
+/// Where f + 1 correct replicas prepared a value in a slot, no correct one prepares another there, in that view or a
+/// later one.
 pub fn pbft_locks()
     ensures { (x : Setting) (k : ℕ) (acts : List Act) → IsPbftSound x k acts → AreLocked x acts }
 {}
