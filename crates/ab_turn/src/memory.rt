@@ -1,6 +1,6 @@
 //! What a replica of PBFT remembers.
 
-ghost use Rattle.std.specs.Prelude.{◌≡◌, ◌<◌, ◌≤◌, [], Some, None, true, IsTrue, IfOk, IfSome, length, slice_get, suc, take, nat_le, if◌then◌else◌};
+ghost use Rattle.std.specs.Prelude.{◌≡◌, ◌<◌, [], Some, None, true, IsTrue, IfOk, IfSome, length, slice_get, suc, take, nat_le, if◌then◌else◌};
 ghost use Rattle.std.specs.Option.{option_map};
 ghost use Rattle.std.specs.Str.{bytes_eq};
 ghost use Rattle.ab_msg.specs.declared.value.Value.{Value as SlotValue};

@@ -1,6 +1,6 @@
 //! What a replica of PBFT does as something comes.
 
-ghost use Rattle.std.specs.Prelude.{◌≡◌, ℕ, List, ◌<◌, ◌≤◌, ◌==◌, ◌&&◌, true, false, IsTrue, Some, None, IfOk, OnOk, length, slice_get, suc, take, nat_le};
+ghost use Rattle.std.specs.Prelude.{◌≡◌, ℕ, List, [], ◌∷◌, ◌++◌, ◌<◌, ◌==◌, ◌&&◌, true, false, IsTrue, Some, None, IfOk, OnOk, length, slice_get, suc, take, nat_le};
 ghost use Rattle.std.specs.Str.{bytes_eq};
 ghost use Rattle.ab_msg.specs.declared.value.Value.{Value as SlotValue};
 ghost use Rattle.ab_msg.specs.declared.value.Value.TheVariants as value;
@@ -10,7 +10,8 @@ ghost use Rattle.ab_lock.specs.Steps.{State, Change as ChangeOf, signs, prepares
 ghost use Rattle.ab_lock.specs.ViewChanges.{certs_from};
 ghost use Rattle.ab_lock.specs.Choosing.{chosen_of};
 ghost use Rattle.ab_pbft.specs.Rules as rules;
-ghost use Rattle.ab_pbft.specs.Rules.{Work, idle, take_value, does as says, keep_request as keeps_request, keep_change as keeps_change, cert_of, change_of};
+ghost use Rattle.ab_pbft.specs.Rules.{Work, idle, take_value, does as says, keep_request as keeps_request, keep_change as keeps_change};
+ghost use Rattle.ab_slots.specs.declared.deed.Deed.TheVariants.{Offers};
 ghost use Rattle.ab_slots.specs.Inputs.{input_of};
 ghost use Rattle.ab_turn.specs.Turns.{seat_of, memory_of, Shows, Does, Went, Offered, takes, next_in, next_on, enters_from, leaves, offers_all, can_leave, can_offer_base, votes_for, commits_for};
 
@@ -70,15 +71,19 @@ impl Turn {
         let view = self.memory.view;
         let value = self.memory.accepted.at(n);
         let x = slot_digest(value);
-        let backed = value.copy(alloc)?;
-        let value = value.copy(alloc)?;
         let slot = n as u8;
+        let told = value.copy(alloc)?;
+        self.deeds.push(Deed::Prepares {
+            view,
+            slot,
+            value: told,
+        })?;
+        let backed = value.copy(alloc)?;
         let cert = Cert::new(view, backed);
         let vote = Vote::new(me, slot, x);
         set_cert(&mut self.memory.certs, n, cert)?;
         keep(&mut self.memory.commits, vote)?;
         self.memory.prepared += 1;
-        self.deeds.push(Deed::Prepares { view, slot, value })?;
         Ok(())
     }
 
@@ -148,11 +153,11 @@ impl Turn {
         Ok(())
     }
 
-    /// Accepts a value in the next slot, and offers it to the others.
-    fn offer(&mut self, alloc: Global, value: Value) -> Result<(), OutOfMemory>
-        requires next { goes self.old.memory.accepted value ≡ true }
-        requires room { length self.old.memory.accepted < 256 }
-        ensures { OnOk result ((seat : rules.Seat) → Does self.old self.new (rules.offer seat value)) }
+    /// Tells the others that it offers a value in the next slot.
+    fn tell_offer(&mut self, alloc: Global, value: &Value) -> Result<(), OutOfMemory>
+        requires { length self.old.memory.accepted < 256 }
+        ensures same { OnOk result (self.new.memory ≡ self.old.memory) }
+        ensures told { OnOk result (self.new.deeds.items ≡ self.old.deeds.items ++ Offers self.old.memory.view (length self.old.memory.accepted) value.now ∷ []) }
     {
         let told = value.copy(alloc)?;
         self.deeds.push(Deed::Offers {
@@ -160,6 +165,16 @@ impl Turn {
             slot: self.memory.accepted.len() as u8,
             value: told,
         })?;
+        Ok(())
+    }
+
+    /// Accepts a value in the next slot, and offers it to the others.
+    fn offer(&mut self, alloc: Global, value: Value) -> Result<(), OutOfMemory>
+        requires next { goes self.old.memory.accepted value ≡ true }
+        requires room { length self.old.memory.accepted < 256 }
+        ensures { OnOk result ((seat : rules.Seat) → Does self.old self.new (rules.offer seat value)) }
+    {
+        self.tell_offer(alloc, &value)?;
         self.accept(alloc, value)?;
         Ok(())
     }

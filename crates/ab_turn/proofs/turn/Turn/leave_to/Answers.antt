@@ -1,4 +1,4 @@
-use Rattle.std.proofs.Common.{◌≡◌, ◌∙◌, ◌+◌, suc, refl, ap, arith}
+use Rattle.std.proofs.Common.{◌≡◌, ◌∙◌, ◌+◌, suc, refl, arith}
 use Rattle.ab_lock.specs.Steps.{cert_at}
 use Rattle.ab_lock.specs.ViewChanges.{certs_from}
 use Rattle.ab_turn.specs.Turns.{seat_of, memory_of}

@@ -26,4 +26,4 @@ returns c =
     let commits = c.in_ok-keep.ensures ∙ (ap (λ (u : Vote (List ℕ)). keep u b.peer.commits) vote ∙ sym (prepared_commits h n value long there c.args.me b.peer.commits)) in
     step_does c.args.self.now _ c.args.me (prepares b.peer.core.view h)
     (λ j. record b { peer = record b.peer { core = record b.peer.core { prepared = one j; certs = certs j }; commits = commits j } })
-    (c.in_ok-push.ensures.items ∙ (ap (λ (v : Value). c.args.self.now.deeds.items ++ Prepares b.peer.core.view n v ∷ []) c.in_ok-value.ensures ∙ ap (λ l. c.args.self.now.deeds.items ++ l) (sym (prepared_told h n value long there b.peer.core.view))))
+    (c.in_ok-push.ensures.items ∙ (ap (λ (v : Value). c.args.self.now.deeds.items ++ Prepares b.peer.core.view n v ∷ []) c.in_ok-told.ensures ∙ ap (λ l. c.args.self.now.deeds.items ++ l) (sym (prepared_told h n value long there b.peer.core.view))))

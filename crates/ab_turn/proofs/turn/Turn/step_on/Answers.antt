@@ -1,4 +1,4 @@
-use Rattle.std.proofs.Common.{◌≡◌, ◌∙◌, Bool, Option, Some, None, suc, take, length, ap}
+use Rattle.std.proofs.Common.{◌∙◌, Bool, Option, Some, None, suc, take, length, ap}
 use Rattle.std.specs.Prelude.{slice_get, if◌then◌else◌}
 use Rattle.std.specs.Option.{option_map}
 use Rattle.ab_lock.specs.Steps.{prepares, executes}

@@ -1,7 +1,5 @@
-use Rattle.std.proofs.Common.{◌≡◌, ◌∙◌, ◌&&◌, ◌==◌, true, false, map, length, sym, arith}
+use Rattle.std.proofs.Common.{◌≡◌, ◌∙◌, true, false, sym, arith}
 use Rattle.std.proofs.lemmas.Grind.{common_steps}
-use Rattle.std.specs.Prelude.{nat_le}
-use Rattle.std.specs.Str.{bytes_eq}
 use Rattle.ab_msg.specs.declared.value.Value.TheVariants.{Base}
 use Rattle.ab_pbft.specs.Rules as rules
 use Rattle.ab_turn.specs.Turns.{seat_of, memory_of}

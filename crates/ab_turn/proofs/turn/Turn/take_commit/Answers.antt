@@ -1,4 +1,4 @@
-use Rattle.std.proofs.Common.{◌≡◌, ◌∙◌, ◌==◌, true, false, subst, arith}
+use Rattle.std.proofs.Common.{◌≡◌, ◌==◌, true, false, subst, arith}
 use Rattle.std.proofs.lemmas.Bool.Decides.{nat_tests}
 use Rattle.ab_pbft.specs.Rules as rules
 use Rattle.ab_turn.specs.Turns.{seat_of, Does, commits_for}
