@@ -1,6 +1,5 @@
 //! What a view change states of one slot.
 
-ghost use Rattle.std.specs.Prelude.{◌≡◌};
 
 use ab_form::{Bad, Part, array_at, u32_at};
 use ab_num::OutOfMemory;

@@ -1,6 +1,5 @@
 //! Signatures that stand in received bytes.
 
-ghost use Rattle.std.specs.Prelude.{◌≡◌};
 ghost use Rattle.ab_form.specs.Readers.{Gives};
 ghost use Rattle.ab_content.specs.Parts.{sig_at, signer_at};
 ghost use Rattle.ab_content.specs.Views.{signer};

@@ -1,7 +1,7 @@
 //! Parts that are added to bytes. Where memory is refused, the bytes stay as they were.
 
-ghost use Rattle.std.specs.Prelude.{◌≡◌, ◌≤◌, ◌++◌, length, OnOk, OnErr};
-ghost use Rattle.ab_form.specs.Formats.{u8_bytes, u8_text, u16_bytes, u16_text, u32_bytes, u64_bytes};
+ghost use Rattle.std.specs.Prelude.{◌≡◌, ◌++◌, OnOk, OnErr};
+ghost use Rattle.ab_form.specs.Formats.{u8_bytes, u16_bytes, u32_bytes, u64_bytes};
 
 use ab_num::OutOfMemory;
 use std::alloc::Global;

@@ -4,7 +4,6 @@ ghost use Rattle.std.specs.Prelude.{◌≡◌, ◌+◌, ◌-◌, ◌<◌, ◌≤
 ghost use Rattle.std.specs.Vec.{vec_capacity};
 ghost use Rattle.std.specs.List.{list_any};
 ghost use Rattle.indexmap.specs.IndexMap.{get, spare as map_spare};
-ghost use Rattle.indexmap.specs.IndexSet.{spare};
 ghost use Rattle.ab_hist.specs.Requests.{key_of, is_key_of};
 ghost use Rattle.ab_hist.specs.Indexes.{latest_of};
 

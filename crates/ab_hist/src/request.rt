@@ -1,7 +1,6 @@
 //! A client's request.
 
 ghost use Rattle.std.specs.Prelude.{◌≡◌, ◌+◌, ◌≤◌, ◌++◌, length};
-ghost use Rattle.arrayvec.specs.ArrayVec.{array_vec_len};
 ghost use Rattle.ab_hist.specs.Requests.{request_bytes};
 ghost use Rattle.ab_hist.specs.Digests.{request_digest};
 

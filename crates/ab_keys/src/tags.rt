@@ -2,8 +2,7 @@
 
 ghost use Rattle.std.specs.Prelude.{◌≡◌};
 ghost use Rattle.std.specs.Option.{option_map};
-ghost use Rattle.ab_keys.specs.Rings.{tag_from};
-ghost use Rattle.ab_keys.specs.Tags.{is_tag, is_tag_from};
+ghost use Rattle.ab_keys.specs.Tags.{is_tag_from};
 
 use crate::ring::KeyRing;
 use ab_num::Party;

@@ -1,6 +1,6 @@
 //! Tags by HMAC (RFC 2104) over SHA-256.
 
-ghost use Rattle.std.specs.Prelude.{◌≡◌, ◌++◌, map, bit_xor};
+ghost use Rattle.std.specs.Prelude.{◌≡◌, map, bit_xor};
 ghost use Rattle.sha2.specs.Hashers.{Holds256};
 ghost use Rattle.ab_mac.specs.Tags.{hmac, inner_block, outer_block, padded_key};
 

@@ -2,7 +2,7 @@
 
 ghost use Rattle.std.specs.Prelude.{◌≡◌, ◌++◌, ◌+◌, ◌*◌, ◌<◌, ◌≤◌, IfOk, OnOk, length, slice_index_or};
 ghost use Rattle.ab_msg.specs.Fields.{IsParty, spell_party};
-ghost use Rattle.ab_piece.specs.Pieces.{Header, count_of, cut_at, cut_of, part_at, spell_header};
+ghost use Rattle.ab_piece.specs.Pieces.{count_of, cut_at, cut_of, part_at, spell_header};
 
 use crate::datagram::Datagram;
 use crate::reading::BODY;

@@ -1,6 +1,6 @@
 //! A message of which pieces are missing.
 
-ghost use Rattle.std.specs.Prelude.{◌≡◌, ◌+◌, ◌<◌, ◌≤◌, IfOk, OnOk, OnErr, length, replicate, set, is_some, false, slice_index_or, None, Some};
+ghost use Rattle.std.specs.Prelude.{◌≡◌, ◌<◌, ◌≤◌, IfOk, OnOk, OnErr, length, replicate, set, is_some, false, slice_index_or, None, Some};
 ghost use Rattle.ab_piece.specs.Views.{piece};
 ghost use Rattle.ab_piece.specs.Joining.{body_in, is_from, is_of, message_of, missing, opened, with_body};
 

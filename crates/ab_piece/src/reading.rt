@@ -1,6 +1,6 @@
 //! Pieces, read from bytes.
 
-ghost use Rattle.std.specs.Prelude.{◌≡◌, ◌<◌, ◌≤◌, length, IfOk};
+ghost use Rattle.std.specs.Prelude.{◌≡◌, ◌<◌, ◌≤◌, IfOk};
 ghost use Rattle.std.specs.Bool.{OnTrue};
 ghost use Rattle.ab_form.specs.Readers.{Gives};
 ghost use Rattle.ab_piece.specs.Pieces.{header_at, piece_of, body_fits};

@@ -1,14 +1,13 @@
 //! A message from its bytes.
 
-ghost use Rattle.std.specs.Prelude.{◌≡◌, ◌≤◌, length, Option, IfOk, IsOkAnd, option_map};
-ghost use Rattle.arrayvec.specs.ArrayVec.{ArrayVec};
-ghost use Rattle.ab_form.specs.Readers.{Gives, listed};
+ghost use Rattle.std.specs.Prelude.{◌≡◌, Option, IfOk, IsOkAnd, option_map};
+ghost use Rattle.ab_form.specs.Readers.{Gives};
 ghost use Rattle.ab_form.specs.Lists.{optional_at};
 ghost use Rattle.ab_msg.specs.declared.message.Msg.{Msg as Message};
 ghost use Rattle.ab_wire.specs.Signed.{aborts_at, signed_abort_at};
 ghost use Rattle.ab_msg.specs.Messages.{IsMessage, slot_in, spell_message};
 ghost use Rattle.ab_read.specs.Messages.{abort_message_at, body_at, chain_message_at, change_message_at, commit_message_at, init_message_at, message_of, new_view_message_at, offer_at, order_message_at, panic_message_at, pre_prepare_message_at, prepare_message_at, reply_at, req_message_at, resp_message_at};
-ghost use Rattle.ab_wire.specs.Views.{IsKept, IsReceived, Spells, aborts, message, offered, reply_of};
+ghost use Rattle.ab_wire.specs.Views.{IsKept, IsReceived, aborts, message, offered, reply_of};
 ghost use Rattle.ab_content.specs.Views.{content as shown};
 
 use ab_content::{

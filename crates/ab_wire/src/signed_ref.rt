@@ -2,7 +2,6 @@
 
 ghost use Rattle.std.specs.Prelude.{◌≡◌, ◌++◌, IfOk};
 ghost use Rattle.ab_form.specs.Readers.{Gives};
-ghost use Rattle.ab_msg.specs.Certs.{IsSigned};
 ghost use Rattle.ab_msg.specs.Contents.{IsAbort, IsChange, IsContent, IsPrepare, spell_content};
 ghost use Rattle.ab_msg.specs.Fields.{IsReplica};
 ghost use Rattle.ab_content.specs.Views.{content as shown};

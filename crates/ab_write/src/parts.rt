@@ -1,8 +1,7 @@
 //! The parts of contents and messages.
 
 ghost use Rattle.std.specs.Prelude.{◌≡◌, ◌++◌, ◌≤◌, length, OnOk};
-ghost use Rattle.ab_form.specs.Formats.{u8_text, u16_text, u8_bytes, u16_bytes};
-ghost use Rattle.ab_form.specs.Lists.{spell_optional, u8_list};
+ghost use Rattle.ab_form.specs.Lists.{spell_optional};
 ghost use Rattle.ab_msg.specs.Fields.{spell_party, spell_sig};
 ghost use Rattle.ab_msg.specs.Fields.{spell_history};
 ghost use Rattle.ab_msg.specs.Fields.{spell_reply};

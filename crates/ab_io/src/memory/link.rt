@@ -1,6 +1,6 @@
 //! A link in memory.
 
-ghost use Rattle.std.specs.Prelude.{◌≡◌, ◌≤◌, ◌↔◌, ℕ, List, [], length, take, map, IsErr, IsErrOf, IsTrue, OnOk, OnErr};
+ghost use Rattle.std.specs.Prelude.{◌≡◌, ◌≤◌, ◌↔◌, [], length, take, map, IsErr, IsErrOf, IsTrue, OnOk, OnErr};
 ghost use Rattle.std.specs.declared.option.Option.TheVariants.{Some};
 ghost use Rattle.ab_io.specs.Causes.{HasCause, HasGotCause, HasRefusalCause};
 ghost use Rattle.ab_io.specs.Datagrams.{FitsIn, Gives, given_of, left_after, with_sent};
