@@ -8,10 +8,10 @@ fn numbers_are_big_endian(rt: HostRuntime) {
     put_u16(&mut buf, 0, 0x0102);
     put_u32(&mut buf, 2, 0x03040506);
     put_u64(&mut buf, 6, 0x0708090a0b0c0d0e);
-    assert_eq!(rt; buf, [1, 2, 3, 4, 5, 6, 7, 8, 9, 10, 11, 12, 13, 14, 0, 0]);
-    assert_eq!(rt; get_u16(&buf, 1), Some(0x0203));
-    assert_eq!(rt; get_u32(&buf, 13), None);
-    assert_eq!(rt; get_u64(&buf, 8), Some(0x090a0b0c0d0e0000));
+    assert!(rt; buf == [1, 2, 3, 4, 5, 6, 7, 8, 9, 10, 11, 12, 13, 14, 0, 0]);
+    assert!(rt; get_u16(&buf, 1) == Some(0x0203));
+    assert!(rt; get_u32(&buf, 13) == None);
+    assert!(rt; get_u64(&buf, 8) == Some(0x090a0b0c0d0e0000));
 }
 
 #[test]
@@ -20,46 +20,46 @@ fn cursor_stays_where_too_few_are_left(rt: HostRuntime) {
         1u8, 2, 3, 4, 5, 6, 7, 8, 9, 10, 11, 12, 13, 14, 15, 16, 17, 18, 19, 20,
     ];
     let mut cursor = Cur::new(&buf);
-    assert_eq!(rt; cursor.u8(), Some(1));
-    assert_eq!(rt; cursor.u16(), Some(0x0203));
-    assert_eq!(rt; cursor.u32(), Some(0x04050607));
-    assert_eq!(rt; cursor.u64(), Some(0x08090a0b0c0d0e0f));
-    assert_eq!(rt; cursor.left(), 5);
-    assert_eq!(rt; cursor.u64(), None);
-    assert_eq!(rt; cursor.left(), 5);
+    assert!(rt; cursor.u8() == Some(1));
+    assert!(rt; cursor.u16() == Some(0x0203));
+    assert!(rt; cursor.u32() == Some(0x04050607));
+    assert!(rt; cursor.u64() == Some(0x08090a0b0c0d0e0f));
+    assert!(rt; cursor.left() == 5);
+    assert!(rt; cursor.u64() == None);
+    assert!(rt; cursor.left() == 5);
     let bytes = cursor.bytes(3).expect(&rt, "three bytes");
-    assert_eq!(rt; bytes, [16, 17, 18].as_slice());
-    assert_eq!(rt; cursor.bytes(3).is_none(), true);
-    assert_eq!(rt; cursor.u16(), Some(0x1314));
-    assert_eq!(rt; cursor.u8(), None);
+    assert!(rt; bytes == [16, 17, 18].as_slice());
+    assert!(rt; cursor.bytes(3).is_none());
+    assert!(rt; cursor.u16() == Some(0x1314));
+    assert!(rt; cursor.u8() == None);
 }
 
 #[test]
 fn plans_say_kind_and_limit(rt: HostRuntime) {
     let azyzzyva = Cluster::new(1, 16, Plan::AZyzzyva).expect(&rt, "in bounds");
-    assert_eq!(rt; azyzzyva.kind(1), Kind::ZLight);
-    assert_eq!(rt; azyzzyva.kind(2), Kind::Backup);
-    assert_eq!(rt; azyzzyva.replicas(), 4);
-    assert_eq!(rt; azyzzyva.limit(2), 1);
-    assert_eq!(rt; azyzzyva.limit(8), 8);
-    assert_eq!(rt; azyzzyva.limit(4294967294), 16);
+    assert!(rt; azyzzyva.kind(1) == Kind::ZLight);
+    assert!(rt; azyzzyva.kind(2) == Kind::Backup);
+    assert!(rt; azyzzyva.replicas() == 4);
+    assert!(rt; azyzzyva.limit(2) == 1);
+    assert!(rt; azyzzyva.limit(8) == 8);
+    assert!(rt; azyzzyva.limit(4294967294) == 16);
     let aliph = Cluster::new(2, 1, Plan::Aliph).expect(&rt, "in bounds");
-    assert_eq!(rt; aliph.kind(1), Kind::Quorum);
-    assert_eq!(rt; aliph.kind(2), Kind::Chain);
-    assert_eq!(rt; aliph.kind(3), Kind::Backup);
-    assert_eq!(rt; aliph.limit(6), 2);
-    assert_eq!(rt; Cluster::new(3, 1, Plan::Aliph), None);
-    assert_eq!(rt; Cluster::new(1, 17, Plan::Aliph), None);
+    assert!(rt; aliph.kind(1) == Kind::Quorum);
+    assert!(rt; aliph.kind(2) == Kind::Chain);
+    assert!(rt; aliph.kind(3) == Kind::Backup);
+    assert!(rt; aliph.limit(6) == 2);
+    assert!(rt; Cluster::new(3, 1, Plan::Aliph) == None);
+    assert!(rt; Cluster::new(1, 17, Plan::Aliph) == None);
 }
 
 #[test]
 fn positions_begin_at_the_primary(rt: HostRuntime) {
     let cluster = Cluster::new(1, 1, Plan::Chain).expect(&rt, "in bounds");
-    assert_eq!(rt; cluster.primary(1), 0);
-    assert_eq!(rt; cluster.primary(6), 1);
-    assert_eq!(rt; cluster.at_position(6, 1), 1);
-    assert_eq!(rt; cluster.at_position(6, 4), 0);
-    assert_eq!(rt; cluster.position_of(6, 0), 4);
-    assert_eq!(rt; cluster.position_of(6, 3), 3);
-    assert_eq!(rt; cluster.at_position(4294967295, 4), 1);
+    assert!(rt; cluster.primary(1) == 0);
+    assert!(rt; cluster.primary(6) == 1);
+    assert!(rt; cluster.at_position(6, 1) == 1);
+    assert!(rt; cluster.at_position(6, 4) == 0);
+    assert!(rt; cluster.position_of(6, 0) == 4);
+    assert!(rt; cluster.position_of(6, 3) == 3);
+    assert!(rt; cluster.at_position(4294967295, 4) == 1);
 }

@@ -9,14 +9,14 @@ use ab_form::{
 #[test]
 fn numbers_are_big_endian(rt: HostRuntime) {
     let bytes = [0x01, 0x02, 0x03, 0x04, 0x05, 0x06, 0x07, 0x08, 0x09];
-    assert_eq!(rt; u8_at(&bytes), Ok((0x01, &bytes[1..])));
-    assert_eq!(rt; u16_at(&bytes), Ok((0x0102, &bytes[2..])));
-    assert_eq!(rt; u32_at(&bytes), Ok((0x0102_0304, &bytes[4..])));
-    assert_eq!(rt; u64_at(&bytes), Ok((0x0102_0304_0506_0708, &bytes[8..])));
-    assert_eq!(rt; u8_at(&[]), Err(Bad::Short));
-    assert_eq!(rt; u16_at(&bytes[..1]), Err(Bad::Short));
-    assert_eq!(rt; u32_at(&bytes[..3]), Err(Bad::Short));
-    assert_eq!(rt; u64_at(&bytes[..7]), Err(Bad::Short));
+    assert!(rt; u8_at(&bytes) == Ok((0x01, &bytes[1..])));
+    assert!(rt; u16_at(&bytes) == Ok((0x0102, &bytes[2..])));
+    assert!(rt; u32_at(&bytes) == Ok((0x0102_0304, &bytes[4..])));
+    assert!(rt; u64_at(&bytes) == Ok((0x0102_0304_0506_0708, &bytes[8..])));
+    assert!(rt; u8_at(&[]) == Err(Bad::Short));
+    assert!(rt; u16_at(&bytes[..1]) == Err(Bad::Short));
+    assert!(rt; u32_at(&bytes[..3]) == Err(Bad::Short));
+    assert!(rt; u64_at(&bytes[..7]) == Err(Bad::Short));
 }
 
 /// What was read, without the bytes behind it.
@@ -30,40 +30,28 @@ fn value<T: Copy>(read: Result<(T, &[u8]), Bad>) -> Result<T, Bad> {
 #[test]
 fn bounds_are_kept(rt: HostRuntime) {
     let bytes = [0, 0, 0, 0, 0, 0, 0, 5];
-    assert_eq!(rt; value(ranged_u8(0, 0, Bad::BadCode, &bytes)), Ok(0));
-    assert_eq!(rt;
-        value(ranged_u8(1, 9, Bad::BadCode, &bytes)),
-        Err(Bad::BadCode)
-    );
-    assert_eq!(rt; value(ranged_u16(5, 5, Bad::BadField, &bytes[6..])), Ok(5));
-    assert_eq!(rt;
-        value(ranged_u16(0, 4, Bad::BadField, &bytes[6..])),
-        Err(Bad::BadField)
-    );
-    assert_eq!(rt; value(ranged_u32(5, 9, Bad::BadField, &bytes[4..])), Ok(5));
-    assert_eq!(rt;
-        value(ranged_u32(6, 9, Bad::BadField, &bytes[4..])),
-        Err(Bad::BadField)
-    );
-    assert_eq!(rt; value(ranged_u64(1, 5, Bad::BadLength, &bytes)), Ok(5));
-    assert_eq!(rt;
-        value(ranged_u64(1, 4, Bad::BadLength, &bytes)),
-        Err(Bad::BadLength)
-    );
+    assert!(rt; value(ranged_u8(0, 0, Bad::BadCode, &bytes)) == Ok(0));
+    assert!(rt; value(ranged_u8(1, 9, Bad::BadCode, &bytes)) == Err(Bad::BadCode));
+    assert!(rt; value(ranged_u16(5, 5, Bad::BadField, &bytes[6..])) == Ok(5));
+    assert!(rt; value(ranged_u16(0, 4, Bad::BadField, &bytes[6..])) == Err(Bad::BadField));
+    assert!(rt; value(ranged_u32(5, 9, Bad::BadField, &bytes[4..])) == Ok(5));
+    assert!(rt; value(ranged_u32(6, 9, Bad::BadField, &bytes[4..])) == Err(Bad::BadField));
+    assert!(rt; value(ranged_u64(1, 5, Bad::BadLength, &bytes)) == Ok(5));
+    assert!(rt; value(ranged_u64(1, 4, Bad::BadLength, &bytes)) == Err(Bad::BadLength));
 }
 
 #[test]
 fn texts_stand_behind_their_length(rt: HostRuntime) {
     let bytes = [0, 2, 0x6f, 0x6b, 0xff];
-    assert_eq!(rt; text_u16(1, 2, &bytes), Ok((&bytes[2..4], &bytes[4..])));
-    assert_eq!(rt; text_u16(3, 9, &bytes), Err(Bad::BadLength));
-    assert_eq!(rt; text_u8(2, 2, &bytes[1..]), Ok((&bytes[2..4], &bytes[4..])));
-    assert_eq!(rt; text_u8(0, 1, &bytes[1..]), Err(Bad::BadLength));
-    assert_eq!(rt; text_u8(0, 2, &bytes[1..3]), Err(Bad::Short));
-    assert_eq!(rt; bytes_at(2, &bytes), Ok((&bytes[..2], &bytes[2..])));
-    assert_eq!(rt; bytes_at(6, &bytes), Err(Bad::Short));
-    assert_eq!(rt; array_at(&[7; 33]), Ok((&[7; 32], [7].as_slice())));
-    assert_eq!(rt; array_at(&[7; 31]), Err(Bad::Short));
+    assert!(rt; text_u16(1, 2, &bytes) == Ok((&bytes[2..4], &bytes[4..])));
+    assert!(rt; text_u16(3, 9, &bytes) == Err(Bad::BadLength));
+    assert!(rt; text_u8(2, 2, &bytes[1..]) == Ok((&bytes[2..4], &bytes[4..])));
+    assert!(rt; text_u8(0, 1, &bytes[1..]) == Err(Bad::BadLength));
+    assert!(rt; text_u8(0, 2, &bytes[1..3]) == Err(Bad::Short));
+    assert!(rt; bytes_at(2, &bytes) == Ok((&bytes[..2], &bytes[2..])));
+    assert!(rt; bytes_at(6, &bytes) == Err(Bad::Short));
+    assert!(rt; array_at(&[7; 33]) == Ok((&[7; 32], [7].as_slice())));
+    assert!(rt; array_at(&[7; 31]) == Err(Bad::Short));
 }
 
 #[test]
@@ -77,7 +65,7 @@ fn parts_are_added(rt: HostRuntime) {
     let bytes = [
         1, 2, 3, 4, 5, 6, 7, 8, 9, 10, 11, 12, 13, 14, 15, 0x6f, 0x6b,
     ];
-    assert_eq!(rt; out.as_slice(), bytes.as_slice());
+    assert!(rt; out.as_slice() == bytes.as_slice());
 }
 
 #[test]

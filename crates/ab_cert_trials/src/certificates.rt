@@ -64,7 +64,7 @@ fn all_give(alloc: Global) -> Result<bool, OutOfMemory> {
 
 #[test]
 fn lists_give_what_they_share(rt: HostRuntime) {
-    assert_eq!(rt; all_give(rt.alloc()), Ok(true));
+    assert!(rt; all_give(rt.alloc()) == Ok(true));
 }
 
 /// The ABORT of a replica with a log of these clients' requests.
@@ -172,7 +172,7 @@ fn have_faults(alloc: Global) -> Result<bool, OutOfMemory> {
 
 #[test]
 fn faults_come_in_their_order(rt: HostRuntime) {
-    assert_eq!(rt; have_faults(rt.alloc()), Ok(true));
+    assert!(rt; have_faults(rt.alloc()) == Ok(true));
 }
 
 /// ABORTs of instance 1 by replicas 3, 1 and 0, the first ones of these, with logs of these clients' requests.
@@ -192,7 +192,7 @@ fn fault_of_two(alloc: Global) -> Result<Option<CertFault>, OutOfMemory> {
 
 #[test]
 fn logs_of_a_backup_are_equal(rt: HostRuntime) {
-    assert_eq!(rt; fault_of_two(rt.alloc()), Ok(Some(CertFault::Unequal)));
+    assert!(rt; fault_of_two(rt.alloc()) == Ok(Some(CertFault::Unequal)));
 }
 
 /// Whether equal ABORTs have client 0's request as their history.
@@ -215,15 +215,9 @@ fn share_one(alloc: Global) -> Result<bool, OutOfMemory> {
 #[test]
 fn certificates_have_their_history(rt: HostRuntime) {
     let alloc = rt.alloc();
-    assert_eq!(rt;
-        have_one(alloc, Plan::ZLight, 1, [0, 1, 2].as_slice()),
-        Ok(true)
-    );
-    assert_eq!(rt;
-        have_one(alloc, Plan::Backup, 3, [3, 1].as_slice()),
-        Ok(true)
-    );
-    assert_eq!(rt; share_one(alloc), Ok(true));
+    assert!(rt; have_one(alloc, Plan::ZLight, 1, [0, 1, 2].as_slice()) == Ok(true));
+    assert!(rt; have_one(alloc, Plan::Backup, 3, [3, 1].as_slice()) == Ok(true));
+    assert!(rt; share_one(alloc) == Ok(true));
 }
 
 #[test]

@@ -134,7 +134,7 @@ fn the_first_position_answers(rt: HostRuntime) {
         Some(c) => passes::<Kv, Chain<Kv>>(rt.alloc(), &c, 0, &REQUEST, &TO_SECOND),
         None => Ok(false),
     };
-    assert_eq!(rt; kept, Ok(true));
+    assert!(rt; kept == Ok(true));
 }
 
 #[test]
@@ -143,7 +143,7 @@ fn the_second_position_passes_on(rt: HostRuntime) {
         Some(c) => passes::<Kv, Chain<Kv>>(rt.alloc(), &c, 1, &TO_SECOND, &REQUEST),
         None => Ok(false),
     };
-    assert_eq!(rt; kept, Ok(true));
+    assert!(rt; kept == Ok(true));
 }
 
 #[test]
@@ -152,7 +152,7 @@ fn the_last_position_answers_the_client(rt: HostRuntime) {
         Some(c) => passes::<Kv, Chain<Kv>>(rt.alloc(), &c, 3, &TO_LAST, &TO_SECOND),
         None => Ok(false),
     };
-    assert_eq!(rt; kept, Ok(true));
+    assert!(rt; kept == Ok(true));
 }
 
 #[test]
@@ -161,7 +161,7 @@ fn the_last_position_refuses_another_reply(rt: HostRuntime) {
         Some(c) => refuses::<Echo, Chain<Echo>>(rt.alloc(), &c, 3, &TO_LAST),
         None => Ok(false),
     };
-    assert_eq!(rt; kept, Ok(true));
+    assert!(rt; kept == Ok(true));
 }
 
 #[test]
@@ -170,5 +170,5 @@ fn it_has_the_rules_of_its_kind(rt: HostRuntime) {
         Some(c) => keeps_rules::<Echo, Chain<Echo>>(rt.alloc(), &c),
         None => Ok(false),
     };
-    assert_eq!(rt; kept, Ok(true));
+    assert!(rt; kept == Ok(true));
 }

@@ -160,7 +160,7 @@ fn one_may_be_faulty(rt: HostRuntime) {
         Some(c) => passes_all::<Kv, Chain<Kv>>(rt.alloc(), &c, 3, &OF_ONE),
         None => Ok(false),
     };
-    assert_eq!(rt; kept, Ok(true));
+    assert!(rt; kept == Ok(true));
 }
 
 #[test]
@@ -169,7 +169,7 @@ fn two_may_be_faulty(rt: HostRuntime) {
         Some(c) => passes_all::<Kv, Chain<Kv>>(rt.alloc(), &c, 5, &OF_TWO),
         None => Ok(false),
     };
-    assert_eq!(rt; kept, Ok(true));
+    assert!(rt; kept == Ok(true));
 }
 
 /// The history of these clients' requests.
@@ -208,5 +208,5 @@ fn another_history_is_not_logged(rt: HostRuntime) {
         Some(c) => refuses::<Kv, Chain<Kv>>(rt.alloc(), &c),
         None => Ok(false),
     };
-    assert_eq!(rt; kept, Ok(true));
+    assert!(rt; kept == Ok(true));
 }

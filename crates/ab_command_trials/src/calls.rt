@@ -84,7 +84,7 @@ pub(crate) fn call(
 
 /// What a call has to come to.
 pub(crate) fn expect(rt: &impl Abort, told: &Told, status: u8, out: &str, err: &str) {
-    assert_eq!(rt; told.status, status);
-    assert_eq!(rt; told.out.bytes(), out.as_bytes());
-    assert_eq!(rt; told.err.bytes(), err.as_bytes());
+    assert!(rt; told.status == status);
+    assert!(rt; told.out.bytes() == out.as_bytes());
+    assert!(rt; told.err.bytes() == err.as_bytes());
 }

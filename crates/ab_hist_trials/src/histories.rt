@@ -39,42 +39,39 @@ fn request(client: u16, stamp: u64, text: &[u8]) -> Request {
 #[test]
 fn request_has_its_bytes_and_digest(rt: HostRuntime) {
     let put = request(0, 1, b"put a 1");
-    assert_eq!(rt; put.bytes().as_slice(), PUT_BYTES.as_slice());
-    assert_eq!(rt; put.digest(), PUT_DIGEST);
-    assert_eq!(rt; put.copy(), put);
+    assert!(rt; put.bytes().as_slice() == PUT_BYTES.as_slice());
+    assert!(rt; put.digest() == PUT_DIGEST);
+    assert!(rt; put.copy() == put);
 }
 
 #[test]
 fn history_has_places_and_digests(rt: HostRuntime) {
     let alloc = rt.alloc();
     let mut history = History::new(alloc);
-    assert_eq!(rt; history.push(alloc, request(0, 1, b"put a 1")), Ok(()));
-    assert_eq!(rt;
-        history.push(alloc, request(0, 1, b"put a 1")),
-        Err(PushFault::Repeat)
-    );
-    assert_eq!(rt; history.push(alloc, request(1, 1, b"get a")), Ok(()));
-    assert_eq!(rt; history.len(), 2);
-    assert_eq!(rt; history.digest_at(2), DIGEST_OF_TWO);
-    assert_eq!(rt; history.place_of(&request(1, 1, b"get a")), Some(2));
-    assert_eq!(rt; history.place_of(&request(1, 1, b"get b")), None);
-    assert_eq!(rt; history.at(1).stamp, 1);
+    assert!(rt; history.push(alloc, request(0, 1, b"put a 1")) == Ok(()));
+    assert!(rt; history.push(alloc, request(0, 1, b"put a 1")) == Err(PushFault::Repeat));
+    assert!(rt; history.push(alloc, request(1, 1, b"get a")) == Ok(()));
+    assert!(rt; history.len() == 2);
+    assert!(rt; history.digest_at(2) == DIGEST_OF_TWO);
+    assert!(rt; history.place_of(&request(1, 1, b"get a")) == Some(2));
+    assert!(rt; history.place_of(&request(1, 1, b"get b")) == None);
+    assert!(rt; history.at(1).stamp == 1);
 }
 
 #[test]
 fn cut_forgets_and_push_goes_on(rt: HostRuntime) {
     let alloc = rt.alloc();
     let mut history = History::new(alloc);
-    assert_eq!(rt; history.push(alloc, request(0, 1, b"put a 1")), Ok(()));
-    assert_eq!(rt; history.push(alloc, request(0, 5, b"put a 5")), Ok(()));
+    assert!(rt; history.push(alloc, request(0, 1, b"put a 1")) == Ok(()));
+    assert!(rt; history.push(alloc, request(0, 5, b"put a 5")) == Ok(()));
     let whole = history.copy(alloc).expect(&rt, "memory");
-    assert_eq!(rt; history.len(), 2);
+    assert!(rt; history.len() == 2);
     history.cut(1);
-    assert_eq!(rt; history.is_prefix_of(&whole), true);
-    assert_eq!(rt; whole.is_prefix_of(&history), false);
-    assert_eq!(rt; history.can_push(&request(0, 1, b"again")), false);
-    assert_eq!(rt; history.push(alloc, request(0, 2, b"put a 2")), Ok(()));
-    assert_eq!(rt; history.is_prefix_of(&whole), false);
+    assert!(rt; history.is_prefix_of(&whole));
+    assert!(rt; !whole.is_prefix_of(&history));
+    assert!(rt; !history.can_push(&request(0, 1, b"again")));
+    assert!(rt; history.push(alloc, request(0, 2, b"put a 2")) == Ok(()));
+    assert!(rt; !history.is_prefix_of(&whole));
 }
 
 #[test]
@@ -82,16 +79,13 @@ fn full_history_is_quick(rt: HostRuntime) {
     let alloc = rt.alloc();
     let mut history = History::new(alloc);
     for stamp in 1..1025u64 {
-        assert_eq!(rt; history.push(alloc, request(0, stamp, b"put a 1")), Ok(()));
+        assert!(rt; history.push(alloc, request(0, stamp, b"put a 1")) == Ok(()));
     }
-    assert_eq!(rt;
-        history.push(alloc, request(0, 1025, b"put a 1")),
-        Err(PushFault::Full)
-    );
-    assert_eq!(rt; history.len(), 1024);
+    assert!(rt; history.push(alloc, request(0, 1025, b"put a 1")) == Err(PushFault::Full));
+    assert!(rt; history.len() == 1024);
     let mut all_same = true;
     for _ in 0..1_000_000 {
         all_same &= history.digest_at(1024) == DIGEST_OF_FULL;
     }
-    assert_eq!(rt; all_same, true);
+    assert!(rt; all_same);
 }

@@ -43,10 +43,10 @@ fn store_answers_in_turn(rt: HostRuntime) {
         ("get _.-z", "val 0"),
     ] {
         let got = ask::<Kv>(alloc, &mut kv, text.as_bytes()).expect(&rt, "memory");
-        assert_eq!(rt; got.as_slice(), reply.as_bytes(), "{text}");
+        assert!(rt; got.as_slice() == reply.as_bytes(), "{text}");
     }
-    assert_eq!(rt; kv.len(), 1);
-    assert_eq!(rt; kv.value_of(b"_.-z"), Some(b"0".as_slice()));
+    assert!(rt; kv.len() == 1);
+    assert!(rt; kv.value_of(b"_.-z") == Some(b"0".as_slice()));
 }
 
 #[test]
@@ -98,10 +98,10 @@ fn other_bytes_are_no_command(rt: HostRuntime) {
         "cas a 1 {",
     ] {
         let got = ask::<Kv>(alloc, &mut kv, text.as_bytes()).expect(&rt, "memory");
-        assert_eq!(rt; got.as_slice(), b"bad".as_slice(), "{text}");
+        assert!(rt; got.as_slice() == b"bad".as_slice(), "{text}");
     }
-    assert_eq!(rt; kv.len(), 1);
-    assert_eq!(rt; kv.value_of(b"a"), Some(b"1".as_slice()));
+    assert!(rt; kv.len() == 1);
+    assert!(rt; kv.value_of(b"a") == Some(b"1".as_slice()));
 }
 
 #[test]
@@ -118,16 +118,16 @@ fn words_have_their_lengths(rt: HostRuntime) {
         let value = "v".repeat(alloc, value).expect(&rt, "memory");
         let put = format!(in alloc; "put {key} {value}").expect(&rt, "memory");
         let got = ask::<Kv>(alloc, &mut kv, put.as_bytes()).expect(&rt, "memory");
-        assert_eq!(rt; got.as_slice(), reply.as_bytes(), "{put}");
+        assert!(rt; got.as_slice() == reply.as_bytes(), "{put}");
     }
     let longest = "k".repeat(alloc, 32).expect(&rt, "memory");
     let get = format!(in alloc; "get {longest}").expect(&rt, "memory");
     let got = ask::<Kv>(alloc, &mut kv, get.as_bytes()).expect(&rt, "memory");
-    assert_eq!(rt; got.len(), 68);
+    assert!(rt; got.len() == 68);
     let longer = "k".repeat(alloc, 33).expect(&rt, "memory");
     let get = format!(in alloc; "get {longer}").expect(&rt, "memory");
     let got = ask::<Kv>(alloc, &mut kv, get.as_bytes()).expect(&rt, "memory");
-    assert_eq!(rt; got.as_slice(), b"bad".as_slice());
+    assert!(rt; got.as_slice() == b"bad".as_slice());
 }
 
 #[test]
@@ -137,9 +137,9 @@ fn store_is_full_at_65536_keys(rt: HostRuntime) {
     for i in 0..65536 {
         let put = format!(in alloc; "put k{i} {i}").expect(&rt, "memory");
         let got = ask::<Kv>(alloc, &mut kv, put.as_bytes()).expect(&rt, "memory");
-        assert_eq!(rt; got.as_slice(), b"ok".as_slice(), "{put}");
+        assert!(rt; got.as_slice() == b"ok".as_slice(), "{put}");
     }
-    assert_eq!(rt; kv.len(), 65536);
+    assert!(rt; kv.len() == 65536);
     for (text, reply) in [
         ("put new 1", "full"),
         ("get new", "none"),
@@ -152,7 +152,7 @@ fn store_is_full_at_65536_keys(rt: HostRuntime) {
         ("put k65535 1", "full"),
     ] {
         let got = ask::<Kv>(alloc, &mut kv, text.as_bytes()).expect(&rt, "memory");
-        assert_eq!(rt; got.as_slice(), reply.as_bytes(), "{text}");
+        assert!(rt; got.as_slice() == reply.as_bytes(), "{text}");
     }
 }
 
@@ -164,8 +164,8 @@ fn copy_is_independent(rt: HostRuntime) {
     let mut copy = kv.copy(alloc).expect(&rt, "memory");
     let _ = ask::<Kv>(alloc, &mut kv, b"put a 2").expect(&rt, "memory");
     let _ = ask::<Kv>(alloc, &mut copy, b"del a").expect(&rt, "memory");
-    assert_eq!(rt; kv.value_of(b"a"), Some(b"2".as_slice()));
-    assert_eq!(rt; copy.value_of(b"a"), None);
+    assert!(rt; kv.value_of(b"a") == Some(b"2".as_slice()));
+    assert!(rt; copy.value_of(b"a") == None);
 }
 
 /// With an allocation that fails, a `put` that is refused changes nothing, and can be asked again.
@@ -178,11 +178,11 @@ fn refused_put_changes_nothing(rt: HostRuntime) {
         let put = [b'p', b'u', b't', b' ', digit, b' ', b'1'];
         let before = kv.len();
         if ask::<Kv>(alloc, &mut kv, &put).is_err() {
-            assert_eq!(rt; kv.len(), before);
-            assert_eq!(rt; kv.value_of(&key), None);
+            assert!(rt; kv.len() == before);
+            assert!(rt; kv.value_of(&key) == None);
             let _ = ask::<Kv>(alloc, &mut kv, &put).expect(&rt, "memory");
         }
-        assert_eq!(rt; kv.len(), before + 1);
-        assert_eq!(rt; kv.value_of(&key), Some(b"1".as_slice()));
+        assert!(rt; kv.len() == before + 1);
+        assert!(rt; kv.value_of(&key) == Some(b"1".as_slice()));
     }
 }

@@ -102,7 +102,7 @@ fn the_primary_orders(rt: HostRuntime) {
         Some(c) => orders::<ZLight<Echo>>(rt.alloc(), &c),
         None => Ok(false),
     };
-    assert_eq!(rt; kept, Ok(true));
+    assert!(rt; kept == Ok(true));
 }
 
 #[test]
@@ -111,7 +111,7 @@ fn the_others_follow(rt: HostRuntime) {
         Some(c) => follows::<ZLight<Echo>>(rt.alloc(), &c),
         None => Ok(false),
     };
-    assert_eq!(rt; kept, Ok(true));
+    assert!(rt; kept == Ok(true));
 }
 
 #[test]
@@ -120,5 +120,5 @@ fn it_has_the_rules_of_its_kind(rt: HostRuntime) {
         Some(c) => keeps_rules::<ZLight<Echo>>(rt.alloc(), &c),
         None => Ok(false),
     };
-    assert_eq!(rt; kept, Ok(true));
+    assert!(rt; kept == Ok(true));
 }

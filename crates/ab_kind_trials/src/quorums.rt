@@ -70,5 +70,5 @@ fn quorum_answers_until_it_is_stopped(rt: HostRuntime) {
         Some(c) => keeps_rules::<Quorum<Echo>>(rt.alloc(), &c),
         None => Ok(false),
     };
-    assert_eq!(rt; kept, Ok(true));
+    assert!(rt; kept == Ok(true));
 }

@@ -131,14 +131,13 @@ fn a_quiet_link_uses_the_turns(rt: HostRuntime) {
     );
     let mut out = SureSink::new(alloc);
     let job = job(alloc, 3, false).expect(&rt, "memory");
-    assert_eq!(rt;
-        serve(alloc, job, &mut link, &mut clock(alloc), &mut out),
-        Err(ServeFault::TurnsSpent(1))
+    assert!(rt;
+        serve(alloc, job, &mut link, &mut clock(alloc), &mut out) == Err(ServeFault::TurnsSpent(1))
     );
-    assert_eq!(rt; out.bytes(), b"end 1 4 0 0\n".as_slice());
-    assert_eq!(rt; link.sent().len(), 4);
+    assert!(rt; out.bytes() == b"end 1 4 0 0\n".as_slice());
+    assert!(rt; link.sent().len() == 4);
     let last = link.sent().get(3).expect(&rt, "no datagram");
-    assert_eq!(rt; last.0, 9003);
+    assert!(rt; last.0 == 9003);
 }
 
 #[test]
@@ -154,11 +153,10 @@ fn the_second_recv_fails(rt: HostRuntime) {
     );
     let mut out = SureSink::new(alloc);
     let job = job(alloc, 3, false).expect(&rt, "memory");
-    assert_eq!(rt;
-        serve(alloc, job, &mut link, &mut clock(alloc), &mut out),
-        Err(ServeFault::LinkFailed)
+    assert!(rt;
+        serve(alloc, job, &mut link, &mut clock(alloc), &mut out) == Err(ServeFault::LinkFailed)
     );
-    assert_eq!(rt; out.bytes(), b"".as_slice());
+    assert!(rt; out.bytes() == b"".as_slice());
 }
 
 #[test]
@@ -174,12 +172,11 @@ fn a_lost_datagram_is_counted(rt: HostRuntime) {
     );
     let mut out = SureSink::new(alloc);
     let job = job(alloc, 3, false).expect(&rt, "memory");
-    assert_eq!(rt;
-        serve(alloc, job, &mut link, &mut clock(alloc), &mut out),
-        Err(ServeFault::TurnsSpent(1))
+    assert!(rt;
+        serve(alloc, job, &mut link, &mut clock(alloc), &mut out) == Err(ServeFault::TurnsSpent(1))
     );
-    assert_eq!(rt; out.bytes(), b"end 1 4 1 0\n".as_slice());
-    assert_eq!(rt; link.sent().len(), 3);
+    assert!(rt; out.bytes() == b"end 1 4 1 0\n".as_slice());
+    assert!(rt; link.sent().len() == 3);
 }
 
 #[test]
@@ -202,16 +199,16 @@ fn four_replies_commit(rt: HostRuntime) {
     let mut out = SureSink::new(alloc);
     let job = job(alloc, 4, true).expect(&rt, "memory");
     let served = serve(alloc, job, &mut link, &mut clock(alloc), &mut out);
-    assert_eq!(rt;
-        served,
-        Ok(Served {
-            events: 5,
-            sent: 4,
-            lost: 0,
-            spent: 0
-        })
+    assert!(rt;
+        served
+            == Ok(Served {
+                events: 5,
+                sent: 4,
+                lost: 0,
+                spent: 0
+            })
     );
     let text =
         b"invoke c0 put a 1\ninject c0 01fe\ninject c0 01fe\ninject c0 01fe\ninject c0 01fe\nreply 1 1 1 \nend 5 4 0 0\n";
-    assert_eq!(rt; out.bytes(), text.as_slice());
+    assert!(rt; out.bytes() == text.as_slice());
 }

@@ -20,21 +20,17 @@ fn piece(pieces: &Pieces, index: usize) -> &[u8] {
 fn one_piece_is_its_message(rt: HostRuntime) {
     let alloc = rt.alloc();
     let pieces = cut(alloc, Party::Replica(1), 5, &[0x0a, 0x0b, 0x0c]).expect(&rt, "memory");
-    assert_eq!(rt; pieces.len(), 1);
+    assert!(rt; pieces.len() == 1);
     let want = [
         1u8, 0, 0, 1, 0, 0, 0, 0, 0, 0, 0, 5, 0, 0, 0, 1, 0x0a, 0x0b, 0x0c,
     ];
-    assert_eq!(rt; piece(&pieces, 0), want.as_slice());
+    assert!(rt; piece(&pieces, 0) == want.as_slice());
     let mut joiner = Joiner::new(alloc);
-    assert_eq!(rt;
-        joiner.take(alloc, &want[..15]).expect(&rt, "memory"),
-        Taken::Dropped(Cause::Header)
+    assert!(rt;
+        joiner.take(alloc, &want[..15]).expect(&rt, "memory") == Taken::Dropped(Cause::Header)
     );
     let whole = vec![in alloc; 0x0au8, 0x0b, 0x0c].expect(&rt, "memory");
-    assert_eq!(rt;
-        joiner.take(alloc, piece(&pieces, 0)).expect(&rt, "memory"),
-        Taken::Whole(whole)
-    );
+    assert!(rt; joiner.take(alloc, piece(&pieces, 0)).expect(&rt, "memory") == Taken::Whole(whole));
 }
 
 /// A message of two pieces, by client 3.
@@ -49,13 +45,13 @@ fn two_pieces(alloc: Global, number: u64, last: u8) -> Option<(Vec<u8>, Pieces)>
 fn the_last_piece_has_the_rest(rt: HostRuntime) {
     let alloc = rt.alloc();
     let (_, pieces) = two_pieces(alloc, 258, 9).expect(&rt, "memory");
-    assert_eq!(rt; pieces.len(), 2);
+    assert!(rt; pieces.len() == 2);
     let full = piece(&pieces, 0);
     let front = [1u8, 1, 0, 3, 0, 0, 0, 0, 0, 0, 1, 2, 0, 0, 0, 2];
     assert!(rt; full.starts_with(&front));
-    assert_eq!(rt; full.len(), 8208);
+    assert!(rt; full.len() == 8208);
     let rest = [1u8, 1, 0, 3, 0, 0, 0, 0, 0, 0, 1, 2, 0, 1, 0, 2, 9];
-    assert_eq!(rt; piece(&pieces, 1), rest.as_slice());
+    assert!(rt; piece(&pieces, 1) == rest.as_slice());
 }
 
 #[test]
@@ -64,35 +60,18 @@ fn pieces_come_in_any_order(rt: HostRuntime) {
     let (first, a) = two_pieces(alloc, 1, 1).expect(&rt, "memory");
     let (second, b) = two_pieces(alloc, 2, 2).expect(&rt, "memory");
     let mut joiner = Joiner::new(alloc);
-    assert_eq!(rt;
-        joiner.take(alloc, piece(&b, 1)).expect(&rt, "memory"),
-        Taken::More
-    );
-    assert_eq!(rt;
-        joiner.take(alloc, piece(&a, 1)).expect(&rt, "memory"),
-        Taken::More
-    );
-    assert_eq!(rt;
-        joiner.take(alloc, piece(&a, 1)).expect(&rt, "memory"),
-        Taken::Dropped(Cause::Again)
+    assert!(rt; joiner.take(alloc, piece(&b, 1)).expect(&rt, "memory") == Taken::More);
+    assert!(rt; joiner.take(alloc, piece(&a, 1)).expect(&rt, "memory") == Taken::More);
+    assert!(rt;
+        joiner.take(alloc, piece(&a, 1)).expect(&rt, "memory") == Taken::Dropped(Cause::Again)
     );
     let of_three = [1u8, 1, 0, 3, 0, 0, 0, 0, 0, 0, 0, 1, 0, 2, 0, 3, 9];
-    assert_eq!(rt;
-        joiner.take(alloc, &of_three).expect(&rt, "memory"),
-        Taken::Dropped(Cause::Differs)
+    assert!(rt;
+        joiner.take(alloc, &of_three).expect(&rt, "memory") == Taken::Dropped(Cause::Differs)
     );
-    assert_eq!(rt;
-        joiner.take(alloc, piece(&b, 0)).expect(&rt, "memory"),
-        Taken::Whole(second)
-    );
-    assert_eq!(rt;
-        joiner.take(alloc, piece(&a, 0)).expect(&rt, "memory"),
-        Taken::Whole(first)
-    );
-    assert_eq!(rt;
-        joiner.take(alloc, piece(&a, 0)).expect(&rt, "memory"),
-        Taken::More
-    );
+    assert!(rt; joiner.take(alloc, piece(&b, 0)).expect(&rt, "memory") == Taken::Whole(second));
+    assert!(rt; joiner.take(alloc, piece(&a, 0)).expect(&rt, "memory") == Taken::Whole(first));
+    assert!(rt; joiner.take(alloc, piece(&a, 0)).expect(&rt, "memory") == Taken::More);
 }
 
 #[test]
@@ -101,21 +80,14 @@ fn a_ninth_removes_the_first(rt: HostRuntime) {
     let mut joiner = Joiner::new(alloc);
     for number in 1..10u64 {
         let (_, pieces) = two_pieces(alloc, number, 1).expect(&rt, "memory");
-        assert_eq!(rt;
-            joiner.take(alloc, piece(&pieces, 0)).expect(&rt, "memory"),
-            Taken::More
-        );
+        assert!(rt; joiner.take(alloc, piece(&pieces, 0)).expect(&rt, "memory") == Taken::More);
     }
     let (second, pieces) = two_pieces(alloc, 2, 1).expect(&rt, "memory");
-    assert_eq!(rt;
-        joiner.take(alloc, piece(&pieces, 1)).expect(&rt, "memory"),
-        Taken::Whole(second)
+    assert!(rt;
+        joiner.take(alloc, piece(&pieces, 1)).expect(&rt, "memory") == Taken::Whole(second)
     );
     let (_, pieces) = two_pieces(alloc, 1, 1).expect(&rt, "memory");
-    assert_eq!(rt;
-        joiner.take(alloc, piece(&pieces, 1)).expect(&rt, "memory"),
-        Taken::More
-    );
+    assert!(rt; joiner.take(alloc, piece(&pieces, 1)).expect(&rt, "memory") == Taken::More);
 }
 
 #[test]

@@ -12,7 +12,9 @@ use ab_hist::array_of;
 use ab_io::{MemClock, MemLink, SureSink};
 use ab_key_text::{PartyKeys, keys_are_whole};
 use ab_kv::Kv;
-use ab_loop::{Commands, Input, Job, PartyCore, ServeFault, Served, Setting, serve};
+use ab_loop::{
+    Commands, Input, Job, PartyCore, Reaction, Sealed, ServeFault, Served, Setting, serve,
+};
 use ab_member::{ClientMember, ReplicaMember};
 use ab_num::{Cluster, Height, OutOfMemory, Party, Plan, ServiceName};
 use ab_piece::cut;
@@ -35,7 +37,9 @@ fn keys_for(alloc: Global, me: Party) -> Result<PartyKeys, OutOfMemory>
 fn client(alloc: Global) -> Result<ClientMember, OutOfMemory> {
     keys_are_whole();
     let keys = keys_for(alloc, Party::Client(0))?;
-    ClientMember::new(alloc, &keys, 0)
+    let made = ClientMember::new(alloc, &keys, 0);
+    drop(keys);
+    made
 }
 
 fn replica(alloc: Global, r: u8) -> Result<ReplicaMember<Kv, Quorum<Kv>>, OutOfMemory>
@@ -43,7 +47,19 @@ fn replica(alloc: Global, r: u8) -> Result<ReplicaMember<Kv, Quorum<Kv>>, OutOfM
 {
     keys_are_whole();
     let keys = keys_for(alloc, Party::Replica(r))?;
-    ReplicaMember::new(alloc, &keys, r)
+    let made = ReplicaMember::new(alloc, &keys, r);
+    drop(keys);
+    made
+}
+
+/// Adds a datagram.
+fn add_datagram(
+    alloc: Global,
+    bytes: &[u8],
+    datagrams: &mut Vec<Vec<u8>>,
+) -> Result<(), OutOfMemory> {
+    datagrams.push(Vec::from_slice(alloc, bytes)?)?;
+    Ok(())
 }
 
 /// Adds the datagrams of a message of a replica.
@@ -59,39 +75,93 @@ fn add_message(
         return Ok(());
     }
     let pieces = cut(alloc, Party::Replica(r), 1, bytes)?;
+    let mut added = Ok(());
     for i in 0..pieces.len() {
-        datagrams.push(Vec::from_slice(alloc, pieces.get(i))?)?;
+        if added.is_ok() {
+            added = add_datagram(alloc, pieces.get(i), datagrams);
+        }
     }
-    Ok(())
+    drop(pieces);
+    added
+}
+
+/// What the client sends as it takes its first command.
+fn asked(alloc: Global) -> Result<Reaction, OutOfMemory> {
+    let mut client = client(alloc)?;
+    let done = client.step(alloc, &Input::Invoke(b"put a 1"));
+    drop(client);
+    done
+}
+
+/// What a replica that has begun sends as these bytes come.
+fn told(alloc: Global, r: u8, bytes: &[u8]) -> Result<Reaction, OutOfMemory>
+    requires { r < 4 }
+{
+    let mut replica = replica(alloc, r)?;
+    let done = replica.step(alloc, &Input::Message(bytes));
+    drop(replica);
+    done
+}
+
+/// Adds what a replica answers to a request that is for it.
+fn add_replies(
+    alloc: Global,
+    request: &Sealed,
+    datagrams: &mut Vec<Vec<u8>>,
+) -> Result<(), OutOfMemory> {
+    let Party::Replica(r) = request.to() else {
+        return Ok(());
+    };
+    if r >= 4 {
+        return Ok(());
+    }
+    let told = told(alloc, r, request.bytes())?;
+    let mut added = Ok(());
+    for reply in told.sends.as_slice() {
+        if added.is_ok() {
+            added = add_message(alloc, r, reply.bytes(), datagrams);
+        }
+    }
+    drop(told);
+    added
 }
 
 /// What the replicas answer to the client's first command.
 fn replies(alloc: Global) -> Result<Vec<Vec<u8>>, OutOfMemory> {
-    let asked = client(alloc)?.step(alloc, &Input::Invoke(b"put a 1"))?;
+    let asked = asked(alloc)?;
     let mut datagrams = Vec::new(alloc);
+    let mut added = Ok(());
     for request in asked.sends.as_slice() {
-        match request.to() {
-            Party::Client(_) => {}
-            Party::Replica(r) => {
-                if r < 4 {
-                    let told = replica(alloc, r)?.step(alloc, &Input::Message(request.bytes()))?;
-                    for reply in told.sends.as_slice() {
-                        add_message(alloc, r, reply.bytes(), &mut datagrams)?;
-                    }
-                }
-            }
+        if added.is_ok() {
+            added = add_replies(alloc, request, &mut datagrams);
         }
     }
-    Ok(datagrams)
+    drop(asked);
+    match added {
+        Ok(()) => Ok(datagrams),
+        Err(fault) => {
+            drop(datagrams);
+            Err(fault)
+        }
+    }
+}
+
+fn commands(alloc: Global) -> Option<Commands> {
+    let mut commands = Commands::new(alloc);
+    commands.push(array_of(b"put a 1")).ok()?;
+    Some(commands)
 }
 
 fn job(alloc: Global, turns: u64) -> Option<Job<ClientMember>>
     ensures { IfSome result (λ j. (j.setting.base ≡ 9000) × (j.setting.me ≡ Client 0)) }
 {
-    let mut commands = Commands::new(alloc);
-    commands.push(array_of(b"put a 1")).ok()?;
+    let commands = commands(alloc)?;
+    let Ok(core) = client(alloc) else {
+        drop(commands);
+        return None;
+    };
     Some(Job {
-        core: client(alloc).ok()?,
+        core,
         setting: Setting {
             me: Party::Client(0),
             base: 9000,
@@ -103,46 +173,46 @@ fn job(alloc: Global, turns: u64) -> Option<Job<ClientMember>>
     })
 }
 
-fn link(alloc: Global, to_come: Vec<Vec<u8>>) -> MemLink {
-    MemLink::new(
-        alloc,
-        to_come,
-        Vec::new(alloc),
-        Vec::new(alloc),
-        Vec::new(alloc),
-    )
+/// How a client's node ends where these datagrams come, and whether it wrote what is given.
+fn served(
+    alloc: Global,
+    to_come: Vec<Vec<u8>>,
+    turns: u64,
+    written: &[u8],
+) -> Option<(Result<Served, ServeFault>, bool)> {
+    let Some(job) = job(alloc, turns) else {
+        drop(to_come);
+        return None;
+    };
+    let none = Vec::new(alloc);
+    let mut link = MemLink::new(alloc, to_come, none, Vec::new(alloc), Vec::new(alloc));
+    let mut clock = MemClock::new(Vec::new(alloc));
+    let mut out = SureSink::new(alloc);
+    let served = serve(alloc, job, &mut link, &mut clock, &mut out);
+    let is_written = out.bytes() == written;
+    drop(link);
+    drop(clock);
+    drop(out);
+    Some((served, is_written))
 }
 
 #[test]
 fn a_quiet_link_uses_the_turns(rt: HostRuntime) {
     let alloc = rt.alloc();
-    let mut link = link(alloc, Vec::new(alloc));
-    let mut clock = MemClock::new(Vec::new(alloc));
-    let mut out = SureSink::new(alloc);
-    let job = job(alloc, 3).expect(&rt, "memory");
-    assert_eq!(rt;
-        serve(alloc, job, &mut link, &mut clock, &mut out),
-        Err(ServeFault::TurnsSpent(1))
-    );
-    assert_eq!(rt; out.bytes(), b"end 1 4 0 0\n".as_slice());
+    let done = served(alloc, Vec::new(alloc), 3, b"end 1 4 0 0\n");
+    assert!(rt; done == Some((Err(ServeFault::TurnsSpent(1)), true)));
 }
 
 #[test]
 fn four_replies_commit(rt: HostRuntime) {
     let alloc = rt.alloc();
-    let mut link = link(alloc, replies(alloc).expect(&rt, "memory"));
-    let mut clock = MemClock::new(Vec::new(alloc));
-    let mut out = SureSink::new(alloc);
-    let job = job(alloc, 4).expect(&rt, "memory");
-    let served = Served {
+    let to_come = replies(alloc).expect(&rt, "memory");
+    let done = served(alloc, to_come, 4, b"reply 1 1 1 ok\nend 5 4 0 0\n");
+    let ended = Served {
         events: 5,
         sent: 4,
         lost: 0,
         spent: 0,
     };
-    assert_eq!(rt;
-        serve(alloc, job, &mut link, &mut clock, &mut out),
-        Ok(served)
-    );
-    assert_eq!(rt; out.bytes(), b"reply 1 1 1 ok\nend 5 4 0 0\n".as_slice());
+    assert!(rt; done == Some((Ok(ended), true)));
 }

@@ -14,7 +14,7 @@ fn contents_with_memory_are_copied(rt: HostRuntime) {
     };
     let copy = abort.copy(rt.alloc()).expect(&rt, "memory");
     assert!(rt; copy.maker() == Party::Replica(1));
-    assert_eq!(rt; copy.instance(), 2);
+    assert!(rt; copy.instance() == 2);
     drop(copy);
     drop(abort);
 }

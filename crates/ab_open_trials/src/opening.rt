@@ -49,24 +49,15 @@ fn fault(alloc: Global, me: Party, right: bool, bytes: &[u8]) -> Option<OpenFaul
 
 #[test]
 fn a_panic_opens_at_replicas(rt: HostRuntime) {
-    assert_eq!(rt; fault(rt.alloc(), Party::Replica(3), true, &PANIC), None);
-    assert_eq!(rt;
-        fault(rt.alloc(), Party::Replica(3), false, &PANIC),
-        Some(OpenFault::BadTag(0))
-    );
-    assert_eq!(rt;
-        fault(rt.alloc(), Party::Client(0), false, &PANIC),
-        Some(OpenFault::NotMine)
-    );
+    assert!(rt; fault(rt.alloc(), Party::Replica(3), true, &PANIC) == None);
+    assert!(rt; fault(rt.alloc(), Party::Replica(3), false, &PANIC) == Some(OpenFault::BadTag(0)));
+    assert!(rt; fault(rt.alloc(), Party::Client(0), false, &PANIC) == Some(OpenFault::NotMine));
 }
 
 #[test]
 fn a_chain_wants_a_reply_at_its_client(rt: HostRuntime) {
-    assert_eq!(rt; fault(rt.alloc(), Party::Replica(1), true, &CHAIN), None);
-    assert_eq!(rt;
-        fault(rt.alloc(), Party::Client(0), true, &CHAIN),
-        Some(OpenFault::BadTag(0))
-    );
+    assert!(rt; fault(rt.alloc(), Party::Replica(1), true, &CHAIN) == None);
+    assert!(rt; fault(rt.alloc(), Party::Client(0), true, &CHAIN) == Some(OpenFault::BadTag(0)));
 }
 
 #[test]
@@ -81,7 +72,7 @@ fn a_chain_states_what_its_positions_check(rt: HostRuntime) {
         .ok()
         .expect(&rt, "it opens");
     let all = claims(alloc, &k, &checked).expect(&rt, "memory");
-    assert_eq!(rt; all.as_slice().len(), 2);
+    assert!(rt; all.as_slice().len() == 2);
     let mut stated = checked.stated(&k);
     let (first, asked) = stated.next().expect(&rt, "the client's request");
     assert!(rt; first == Party::Client(0) && asked.as_slice().len() == 21);

@@ -198,8 +198,8 @@ fn a_base_stands_in_slot_0(rt: HostRuntime) {
 fn the_names_beside_aborts_do_not_matter(rt: HostRuntime) {
     let alloc = rt.alloc();
     let c = Cluster::new(1, 1, Plan::Quorum).expect(&rt, "a cluster");
-    assert_eq!(rt; base_len(&rt, alloc, &c, [0, 1, 2]), 1);
-    assert_eq!(rt; base_len(&rt, alloc, &c, [3, 3, 9]), 1);
+    assert!(rt; base_len(&rt, alloc, &c, [0, 1, 2]) == 1);
+    assert!(rt; base_len(&rt, alloc, &c, [3, 3, 9]) == 1);
 }
 
 /// Replica 2's VIEW-CHANGE as a message.
@@ -225,7 +225,7 @@ fn lists_of_a_view_change_go_together(rt: HostRuntime) {
         Input::ViewChange(change) => change.by(),
         _ => 9,
     };
-    assert_eq!(rt; by, 2);
+    assert!(rt; by == 2);
     drop(whole);
     for (signer, lists) in [(3, 0), (3, 2), (4, 1)] {
         let base = Value::Base(History::new(alloc));
@@ -253,6 +253,6 @@ fn a_new_view_rests_on_view_changes(rt: HostRuntime) {
         Input::NewView { by: 1, changes, .. } => changes.len(),
         _ => 0,
     };
-    assert_eq!(rt; count, 1);
+    assert!(rt; count == 1);
     drop(entered);
 }

@@ -85,54 +85,54 @@ fn picture(alloc: Global) -> Option<Picture> {
 #[test]
 fn deliveries_have_arrows(rt: HostRuntime) {
     let picture = picture(rt.alloc()).expect(&rt, "memory");
-    assert_eq!(rt; picture.arrows.len(), 2);
+    assert!(rt; picture.arrows.len() == 2);
     let first = picture.arrows.first().expect(&rt, "no arrow");
-    assert_eq!(rt; (first.packet, first.code), (1, 1));
-    assert_eq!(rt; (first.from, first.to), (1, 2));
+    assert!(rt; (first.packet, first.code) == (1, 1));
+    assert!(rt; (first.from, first.to) == (1, 2));
     let last = picture.arrows.last().expect(&rt, "no arrow");
-    assert_eq!(rt; (last.packet, last.code), (3, 3));
-    assert_eq!(rt; (last.from, last.to), (2, 3));
+    assert!(rt; (last.packet, last.code) == (3, 3));
+    assert!(rt; (last.from, last.to) == (2, 3));
 }
 
 #[test]
 fn others_have_stubs(rt: HostRuntime) {
     let picture = picture(rt.alloc()).expect(&rt, "memory");
-    assert_eq!(rt; picture.stubs.len(), 1);
+    assert!(rt; picture.stubs.len() == 1);
     let stub = picture.stubs.first().expect(&rt, "no stub");
-    assert_eq!(rt; (stub.packet, stub.code), (2, 5));
-    assert_eq!(rt; stub.from, 1);
-    assert_eq!(rt; stub.to, Party::Replica(1));
+    assert!(rt; (stub.packet, stub.code) == (2, 5));
+    assert!(rt; stub.from == 1);
+    assert!(rt; stub.to == Party::Replica(1));
 }
 
 #[test]
 fn events_are_at_their_cores(rt: HostRuntime) {
     let picture = picture(rt.alloc()).expect(&rt, "memory");
-    assert_eq!(rt; picture.moments.len(), 4);
+    assert!(rt; picture.moments.len() == 4);
     let asked = picture.moments.first().expect(&rt, "no event");
-    assert_eq!(rt; asked.core, Some(own(Party::Client(0))));
-    assert_eq!(rt; asked.panics, true);
+    assert!(rt; asked.core == Some(own(Party::Client(0))));
+    assert!(rt; asked.panics);
     let taken = picture.moments.get(1).expect(&rt, "no event");
-    assert_eq!(rt; taken.core, Some(own(Party::Replica(0))));
-    assert_eq!(rt; taken.panics, false);
+    assert!(rt; taken.core == Some(own(Party::Replica(0))));
+    assert!(rt; !taken.panics);
 }
 
 #[test]
 fn twins_stand_side_by_side(rt: HostRuntime) {
     let picture = picture(rt.alloc()).expect(&rt, "memory");
-    assert_eq!(rt; picture.lanes.len(), 6);
+    assert!(rt; picture.lanes.len() == 6);
     for (place, twin) in [(2usize, 1u8), (3, 2)] {
         let lane = picture.lanes.get(place).expect(&rt, "no lane");
-        assert_eq!(rt; lane.faulty, true);
-        assert_eq!(rt; lane.core.party, Party::Replica(1));
-        assert_eq!(rt; lane.core.twin, Some(twin));
+        assert!(rt; lane.faulty);
+        assert!(rt; lane.core.party == Party::Replica(1));
+        assert!(rt; lane.core.twin == Some(twin));
     }
 }
 
 #[test]
 fn lines_have_marks(rt: HostRuntime) {
     let picture = picture(rt.alloc()).expect(&rt, "memory");
-    assert_eq!(rt; picture.marks.len(), 2);
+    assert!(rt; picture.marks.len() == 2);
     let last = picture.marks.last().expect(&rt, "no mark");
-    assert_eq!(rt; last.event, 3);
-    assert_eq!(rt; last.party, Party::Replica(2));
+    assert!(rt; last.event == 3);
+    assert!(rt; last.party == Party::Replica(2));
 }

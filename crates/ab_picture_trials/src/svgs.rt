@@ -80,38 +80,31 @@ fn text(alloc: Global, all: u32) -> Result<String, Fail> {
 #[test]
 fn parts_are_drawn(rt: HostRuntime) -> Result<(), Fail> {
     let text = text(rt.alloc(), 2)?;
-    assert_eq!(rt;
+    assert!(rt;
         text.as_str()
-            .starts_with("<svg xmlns=\"http://www.w3.org/2000/svg\""),
-        true
+            .starts_with("<svg xmlns=\"http://www.w3.org/2000/svg\"")
     );
-    assert_eq!(rt;
+    assert!(rt;
         text.as_str().ends_with(
             "c0 commits number 7 in instance 1: a &lt;&amp;&gt;&quot;'~??</text>\n</svg>\n"
-        ),
-        true
+        )
     );
-    assert_eq!(rt;
+    assert!(rt;
         text.as_str()
-            .contains("<path class=\"arrow\" d=\"M150 250Q206 274 262 274\"/>"),
-        true
+            .contains("<path class=\"arrow\" d=\"M150 250Q206 274 262 274\"/>")
     );
-    assert_eq!(rt; text.as_str().contains(">REQ 1</text>"), true);
-    assert_eq!(rt;
+    assert!(rt; text.as_str().contains(">REQ 1</text>"));
+    assert!(rt;
         text.as_str()
-            .contains("<text class=\"head red\" x=\"598\" y=\"202\">r3</text>"),
-        true
+            .contains("<text class=\"head red\" x=\"598\" y=\"202\">r3</text>")
     );
-    assert_eq!(rt; text.as_str().contains("are drawn"), false);
+    assert!(rt; !text.as_str().contains("are drawn"));
     Ok(())
 }
 
 #[test]
 fn a_cut_is_told(rt: HostRuntime) -> Result<(), Fail> {
     let text = text(rt.alloc(), 5000)?;
-    assert_eq!(rt;
-        text.as_str().contains("Events 1 to 2 of 5000 are drawn."),
-        true
-    );
+    assert!(rt; text.as_str().contains("Events 1 to 2 of 5000 are drawn."));
     Ok(())
 }

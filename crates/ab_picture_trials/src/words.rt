@@ -57,9 +57,8 @@ fn commands(rt: HostRuntime) {
         ("node base 1 --wait 1 --turns 1", false),
     ];
     for (text, taken) in cases {
-        assert_eq!(rt;
-            is_command(&rt, text).expect(&rt, "memory"),
-            taken,
+        assert!(rt;
+            is_command(&rt, text).expect(&rt, "memory") == taken,
             "{text}"
         );
     }
@@ -84,11 +83,11 @@ fn keys(rt: HostRuntime) {
     ];
     match command_in(rt.alloc(), &words).expect(&rt, "memory") {
         Some(Command::Keys(asked)) => {
-            assert_eq!(rt; asked.party(), Party::Replica(3));
-            assert_eq!(rt; asked.cluster().plan, Plan::Quorum);
-            assert_eq!(rt; asked.service(), ServiceName::Kv);
-            assert_eq!(rt; asked.height(), Height::Ten);
-            assert_eq!(rt; *asked.seed(), [0; 32]);
+            assert!(rt; asked.party() == Party::Replica(3));
+            assert!(rt; asked.cluster().plan == Plan::Quorum);
+            assert!(rt; asked.service() == ServiceName::Kv);
+            assert!(rt; asked.height() == Height::Ten);
+            assert!(rt; *asked.seed() == [0; 32]);
         }
         _ => panic!(rt; "a command"),
     }
@@ -106,6 +105,6 @@ fn keys(rt: HostRuntime) {
         let taken = command_in(rt.alloc(), &other)
             .expect(&rt, "memory")
             .is_some();
-        assert_eq!(rt; taken, word == "5");
+        assert!(rt; taken == word == "5");
     }
 }

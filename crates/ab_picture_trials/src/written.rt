@@ -20,8 +20,8 @@ fn rewritten(alloc: Global, text: &[u8]) -> Option<Vec<u8>>
 fn what_was_read_is_written(rt: HostRuntime) {
     let alloc = rt.alloc();
     let text = rewritten(alloc, TEXT).expect(&rt, "memory");
-    assert_eq!(rt; text.as_slice(), TEXT);
+    assert!(rt; text.as_slice() == TEXT);
     // The line feed at the end may be missing in what is read.
     let text = rewritten(alloc, &TEXT[..TEXT.len() - 1]).expect(&rt, "memory");
-    assert_eq!(rt; text.as_slice(), TEXT);
+    assert!(rt; text.as_slice() == TEXT);
 }

@@ -34,12 +34,12 @@ fn cluster() -> Option<Cluster> {
 #[test]
 fn parties_are_of_the_cluster(rt: HostRuntime) {
     let c = cluster().expect(&rt, "memory");
-    assert_eq!(rt; is_party(&c, Party::Replica(3)), true);
-    assert_eq!(rt; is_party(&c, Party::Replica(4)), false);
-    assert_eq!(rt; is_party(&c, Party::Client(1)), true);
-    assert_eq!(rt; is_party(&c, Party::Client(2)), false);
-    assert_eq!(rt; exchanges(Party::Client(1), Party::Replica(1)), true);
-    assert_eq!(rt; exchanges(Party::Replica(1), Party::Replica(1)), false);
+    assert!(rt; is_party(&c, Party::Replica(3)));
+    assert!(rt; !is_party(&c, Party::Replica(4)));
+    assert!(rt; is_party(&c, Party::Client(1)));
+    assert!(rt; !is_party(&c, Party::Client(2)));
+    assert!(rt; exchanges(Party::Client(1), Party::Replica(1)));
+    assert!(rt; !exchanges(Party::Replica(1), Party::Replica(1)));
 }
 
 #[test]
@@ -52,15 +52,15 @@ fn client_and_replica(rt: HostRuntime) {
     }
     let of_client = KeyRing::derive(rt.alloc(), &c, &SEED, client).expect(&rt, "memory");
     let of_replica = KeyRing::derive(rt.alloc(), &c, &SEED, replica).expect(&rt, "memory");
-    assert_eq!(rt; of_client.tag_for(replica, TEXT), Some(C0_TO_R1));
-    assert_eq!(rt; of_replica.tag_for(client, TEXT), Some(R1_TO_C0));
-    assert_eq!(rt; of_replica.checks(client, TEXT, &C0_TO_R1), true);
-    assert_eq!(rt; of_client.checks(replica, TEXT, &R1_TO_C0), true);
-    assert_eq!(rt; of_client.checks(replica, TEXT, &C0_TO_R1), false);
-    assert_eq!(rt; of_replica.checks(Party::Client(1), TEXT, &C0_TO_R1), false);
-    assert_eq!(rt; of_replica.checks(client, b"put a 2", &C0_TO_R1), false);
-    assert_eq!(rt; of_client.me(), client);
-    assert_eq!(rt; *of_replica.cluster(), c);
+    assert!(rt; of_client.tag_for(replica, TEXT) == Some(C0_TO_R1));
+    assert!(rt; of_replica.tag_for(client, TEXT) == Some(R1_TO_C0));
+    assert!(rt; of_replica.checks(client, TEXT, &C0_TO_R1));
+    assert!(rt; of_client.checks(replica, TEXT, &R1_TO_C0));
+    assert!(rt; !of_client.checks(replica, TEXT, &C0_TO_R1));
+    assert!(rt; !of_replica.checks(Party::Client(1), TEXT, &C0_TO_R1));
+    assert!(rt; !of_replica.checks(client, b"put a 2", &C0_TO_R1));
+    assert!(rt; of_client.me() == client);
+    assert!(rt; *of_replica.cluster() == c);
 }
 
 #[test]
@@ -73,12 +73,12 @@ fn replicas_and_no_key(rt: HostRuntime) {
     }
     let of_replica = KeyRing::derive(rt.alloc(), &c, &SEED, replica).expect(&rt, "memory");
     let of_client = KeyRing::derive(rt.alloc(), &c, &SEED, client).expect(&rt, "memory");
-    assert_eq!(rt; of_replica.tag_for(Party::Replica(3), TEXT), Some(R0_TO_R3));
-    assert_eq!(rt; of_replica.tag_for(replica, TEXT), None);
-    assert_eq!(rt; of_replica.tag_for(Party::Replica(4), TEXT), None);
-    assert_eq!(rt; of_replica.tag_for(Party::Client(2), TEXT), None);
-    assert_eq!(rt; of_replica.checks(replica, TEXT, &R0_TO_R3), false);
-    assert_eq!(rt; of_client.tag_for(client, TEXT), None);
-    assert_eq!(rt; of_client.tag_for(Party::Client(1), TEXT), None);
-    assert_eq!(rt; of_client.checks(Party::Client(1), TEXT, &C0_TO_R1), false);
+    assert!(rt; of_replica.tag_for(Party::Replica(3), TEXT) == Some(R0_TO_R3));
+    assert!(rt; of_replica.tag_for(replica, TEXT) == None);
+    assert!(rt; of_replica.tag_for(Party::Replica(4), TEXT) == None);
+    assert!(rt; of_replica.tag_for(Party::Client(2), TEXT) == None);
+    assert!(rt; !of_replica.checks(replica, TEXT, &R0_TO_R3));
+    assert!(rt; of_client.tag_for(client, TEXT) == None);
+    assert!(rt; of_client.tag_for(Party::Client(1), TEXT) == None);
+    assert!(rt; !of_client.checks(Party::Client(1), TEXT, &C0_TO_R1));
 }

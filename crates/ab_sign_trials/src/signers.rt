@@ -42,7 +42,7 @@ fn signs_as_others_do(rt: HostRuntime) {
     let Ok(sig) = pen.sign(rt.alloc(), &prepare(0)) else {
         panic!(rt; "no signature");
     };
-    assert_eq!(rt; hash(sig.as_slice()), FIRST);
+    assert!(rt; hash(sig.as_slice()) == FIRST);
 }
 
 #[test]
@@ -56,7 +56,7 @@ fn signed_and_checked(rt: HostRuntime) {
     let Ok(sig) = pen.sign(rt.alloc(), &content) else {
         panic!(rt; "no signature");
     };
-    assert_eq!(rt; (pen.used(), pen.left()), (32, 0));
+    assert!(rt; (pen.used(), pen.left()) == (32, 0));
     assert!(rt; pen.sign(rt.alloc(), &content).is_err());
     let mut verifier = Verifier::new(&ring, &signers);
     assert!(rt; verifier.sig(rt.alloc(), Party::Replica(1), &text, sig.as_slice()));
@@ -74,7 +74,7 @@ fn public_keys_do_not_sign(rt: HostRuntime) {
     let mut keys = Vec::new(rt.alloc());
     keys.push(SignKey::Public(public)).expect(&rt, "memory");
     let signers = Signers::of(rt.alloc(), keys);
-    assert_eq!(rt; signers.leaves(0), 0);
+    assert!(rt; signers.leaves(0) == 0);
     assert!(rt; signers.verifies(rt.alloc(), 0, b"text", &sig));
     assert!(rt; signers.verifies(rt.alloc(), 0, b"text", &sig));
     assert!(rt; !signers.verifies(rt.alloc(), 1, b"text", &sig));

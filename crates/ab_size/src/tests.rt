@@ -15,16 +15,16 @@ fn parts_have_their_sizes(rt: HostRuntime) {
         stamp: 1,
         command: array_of(b"put a 1"),
     };
-    assert_eq!(rt; request.size(), 19);
-    assert_eq!(rt; size_party(Party::Client(0)), 3);
+    assert!(rt; request.size() == 19);
+    assert!(rt; size_party(Party::Client(0)) == 3);
     let mut tags: Tags = ArrayVec::new();
     tags.push((0, [5; 32]));
     tags.push((1, [6; 32]));
     tags.push((2, [7; 32]));
     tags.push((3, [8; 32]));
-    assert_eq!(rt; size_tags(&tags), 133);
+    assert!(rt; size_tags(&tags) == 133);
     let reply: Reply = array_of(b"ok");
-    assert_eq!(rt; size_reply(&reply), 3);
-    assert_eq!(rt; size_optional(&Some(reply)), 4);
-    assert_eq!(rt; size_optional(&None), 1);
+    assert!(rt; size_reply(&reply) == 3);
+    assert!(rt; size_optional(&Some(reply)) == 4);
+    assert!(rt; size_optional(&None) == 1);
 }

@@ -108,7 +108,9 @@ fn client_of(alloc: Global, plan: Plan) -> Option<Client> {
 /// To how many replicas a client's first request goes.
 fn asked(alloc: Global, plan: Plan) -> Option<usize> {
     let mut client = client_of(alloc, plan)?;
-    match asks(alloc, &mut client, b"put a 1") {
+    let asked = asks(alloc, &mut client, b"put a 1");
+    drop(client);
+    match asked {
         Ok((outs, _)) => Some(outs),
         Err(_) => None,
     }
@@ -130,6 +132,7 @@ fn refuses(alloc: Global) -> Option<bool> {
     let taken = asks(alloc, &mut client, &[b'x'; 128]) == Ok((4, 1));
     let busy = asks(alloc, &mut client, b"x") == Err(InvokeFault::Busy);
     let stands = client.open() && client.stamp() == 1 && client.instance() == 1;
+    drop(client);
     Some(empty && long && taken && busy && stands)
 }
 
@@ -143,7 +146,9 @@ fn two_commit(alloc: Global, plan: Plan) -> Option<bool> {
     let mut client = client_of(alloc, plan)?;
     let _asked = asks(alloc, &mut client, b"put a 1");
     let _first = commits(alloc, &mut client, 0, 1);
-    Some(commits(alloc, &mut client, 1, 1))
+    let second = commits(alloc, &mut client, 1, 1);
+    drop(client);
+    Some(second)
 }
 
 /// Whether the answer of the fourth replica commits and no earlier one does, the third's second one
@@ -155,7 +160,9 @@ fn fourth_commits(alloc: Global, n: u8) -> Option<bool> {
     let second = commits(alloc, &mut client, 1, 7);
     let third = commits(alloc, &mut client, 2, 7);
     let again = commits(alloc, &mut client, 2, 7);
-    Some(!(first || second || third || again) && commits(alloc, &mut client, 3, n))
+    let fourth = commits(alloc, &mut client, 3, n);
+    drop(client);
+    Some(!(first || second || third || again) && fourth)
 }
 
 #[test]
@@ -171,7 +178,10 @@ fn the_kind_says_when_it_commits(rt: HostRuntime) {
 fn chain_commits(alloc: Global, plan: Plan) -> Option<bool> {
     let mut client = client_of(alloc, plan)?;
     let _asked = asks(alloc, &mut client, b"put a 1");
-    Some(matches!(heard(alloc, &mut client, &CHAIN), Ok(Some((0, 1)))) && client.timer().is_none())
+    let committed = heard(alloc, &mut client, &CHAIN) == Ok(Some((0, 1)));
+    let rests = client.timer().is_none();
+    drop(client);
+    Some(committed && rests)
 }
 
 #[test]
@@ -206,7 +216,9 @@ fn switches(alloc: Global) -> Option<bool> {
     let mut client = client_of(alloc, Plan::ZLight)?;
     let left = panics(alloc, &mut client);
     let entered = enters_by_aborts(alloc, &mut client);
-    Some(left && entered && stays(alloc, &mut client))
+    let stayed = stays(alloc, &mut client);
+    drop(client);
+    Some(left && entered && stayed)
 }
 
 #[test]
@@ -221,7 +233,9 @@ fn is_brought(alloc: Global, plan: Plan) -> Option<(bool, bool)> {
     let _asked = asks(alloc, &mut client, b"put a 1");
     let here = enters(alloc, &mut client) == Ok(Some((8, 2)));
     let again = waits(alloc, &mut client) == Ok((8, 0));
-    Some((idle && here && client.instance() == 2, again))
+    let there = client.instance() == 2;
+    drop(client);
+    Some((idle && here && there, again))
 }
 
 #[test]

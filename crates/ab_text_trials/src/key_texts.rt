@@ -95,33 +95,29 @@ fn derived_text(rt: HostRuntime) {
         &rt, "memory",
     );
     let text = keys.text(rt.alloc()).expect(&rt, "memory");
-    assert_eq!(rt; text.as_slice(), OF_R6.as_bytes());
-    assert_eq!(rt; keys.me(), me);
-    assert_eq!(rt; *keys.cluster(), c);
-    assert_eq!(rt; keys.service(), ServiceName::Kv);
-    assert_eq!(rt; keys.height(), Height::Five);
+    assert!(rt; text.as_slice() == OF_R6.as_bytes());
+    assert!(rt; keys.me() == me);
+    assert!(rt; *keys.cluster() == c);
+    assert!(rt; keys.service() == ServiceName::Kv);
+    assert!(rt; keys.height() == Height::Five);
     let ring = keys.ring(rt.alloc()).expect(&rt, "memory");
     let derived = KeyRing::derive(rt.alloc(), &c, &SEED, me).expect(&rt, "memory");
     let to = Party::Client(2);
-    assert_eq!(rt;
-        ring.tag_for(to, b"put a 1"),
-        derived.tag_for(to, b"put a 1")
-    );
+    assert!(rt; ring.tag_for(to, b"put a 1") == derived.tag_for(to, b"put a 1"));
 }
 
 #[test]
 fn read_text(rt: HostRuntime) {
     for text in [OF_C0, OF_R6] {
         match PartyKeys::read(rt.alloc(), text.as_bytes()) {
-            Ok(keys) => assert_eq!(rt;
-                keys.text(rt.alloc()).expect(&rt, "memory").as_slice(),
-                text.as_bytes()
+            Ok(keys) => assert!(rt;
+                keys.text(rt.alloc()).expect(&rt, "memory").as_slice() == text.as_bytes()
             ),
             Err(_) => panic!(rt; "a key text"),
         }
     }
     let open = OF_C0.strip_suffix("\n").expect(&rt, "it ends so");
-    assert_eq!(rt; fault_of(&rt, open), None);
+    assert!(rt; fault_of(&rt, open) == None);
 }
 
 #[test]
@@ -141,23 +137,14 @@ fn bad_lines(rt: HostRuntime) {
     ];
     for (old, new, n) in cases {
         let text = altered(&rt, OF_C0, old, new).expect(&rt, "memory");
-        assert_eq!(rt; fault_of(&rt, text.as_str()), Some(KeyFault::BadLine(n)));
+        assert!(rt; fault_of(&rt, text.as_str()) == Some(KeyFault::BadLine(n)));
     }
     let more = altered(&rt, OF_C0, "keys 1\n", "keys 1\n").expect(&rt, "memory");
-    assert_eq!(rt; fault_of(&rt, more.as_str()), None);
-    assert_eq!(rt; fault_of(&rt, ""), Some(KeyFault::BadLine(1)));
-    assert_eq!(rt;
-        fault_of(&rt, "keys 1\nparty r9\nf 1\nclients x\n"),
-        Some(KeyFault::BadLine(4))
-    );
-    assert_eq!(rt;
-        fault_of(&rt, "keys 1\nparty r9\nf 1\nclients 1\n"),
-        Some(KeyFault::BadLine(2))
-    );
-    assert_eq!(rt;
-        fault_of(&rt, "keys 1\nparty r1\nf 1\nclients 1\n"),
-        Some(KeyFault::BadLine(5))
-    );
+    assert!(rt; fault_of(&rt, more.as_str()) == None);
+    assert!(rt; fault_of(&rt, "") == Some(KeyFault::BadLine(1)));
+    assert!(rt; fault_of(&rt, "keys 1\nparty r9\nf 1\nclients x\n") == Some(KeyFault::BadLine(4)));
+    assert!(rt; fault_of(&rt, "keys 1\nparty r9\nf 1\nclients 1\n") == Some(KeyFault::BadLine(2)));
+    assert!(rt; fault_of(&rt, "keys 1\nparty r1\nf 1\nclients 1\n") == Some(KeyFault::BadLine(5)));
 }
 
 /// What is wrong with a node's text.
@@ -171,38 +158,28 @@ fn node_fault(rt: &HostRuntime, front: &str, back: &str) -> Option<Option<NodeFa
 
 #[test]
 fn nodes(rt: HostRuntime) {
-    assert_eq!(rt; node_fault(&rt, OF_C0, "end\n").expect(&rt, "memory"), None);
-    assert_eq!(rt;
-        node_fault(&rt, OF_C0, "do put a 1\ndo  x\nend").expect(&rt, "memory"),
-        None
+    assert!(rt; node_fault(&rt, OF_C0, "end\n").expect(&rt, "memory") == None);
+    assert!(rt; node_fault(&rt, OF_C0, "do put a 1\ndo  x\nend").expect(&rt, "memory") == None);
+    assert!(rt; node_fault(&rt, OF_R6, "end").expect(&rt, "memory") == None);
+    assert!(rt; node_fault(&rt, OF_C0, "").expect(&rt, "memory") == Some(NodeFault::NoEnd(20)));
+    assert!(rt;
+        node_fault(&rt, OF_C0, "do put a 1\n").expect(&rt, "memory") == Some(NodeFault::NoEnd(21))
     );
-    assert_eq!(rt; node_fault(&rt, OF_R6, "end").expect(&rt, "memory"), None);
-    assert_eq!(rt;
-        node_fault(&rt, OF_C0, "").expect(&rt, "memory"),
-        Some(NodeFault::NoEnd(20))
+    assert!(rt;
+        node_fault(&rt, OF_C0, "end\nend\n").expect(&rt, "memory") == Some(NodeFault::BadLine(21))
     );
-    assert_eq!(rt;
-        node_fault(&rt, OF_C0, "do put a 1\n").expect(&rt, "memory"),
-        Some(NodeFault::NoEnd(21))
+    assert!(rt;
+        node_fault(&rt, OF_C0, "do \nend\n").expect(&rt, "memory") == Some(NodeFault::BadLine(20))
     );
-    assert_eq!(rt;
-        node_fault(&rt, OF_C0, "end\nend\n").expect(&rt, "memory"),
-        Some(NodeFault::BadLine(21))
+    assert!(rt;
+        node_fault(&rt, OF_C0, "do a\tb\nend\n").expect(&rt, "memory")
+            == Some(NodeFault::BadLine(20))
     );
-    assert_eq!(rt;
-        node_fault(&rt, OF_C0, "do \nend\n").expect(&rt, "memory"),
-        Some(NodeFault::BadLine(20))
+    assert!(rt;
+        node_fault(&rt, OF_R6, "do put a 1\nend\n").expect(&rt, "memory")
+            == Some(NodeFault::BadLine(34))
     );
-    assert_eq!(rt;
-        node_fault(&rt, OF_C0, "do a\tb\nend\n").expect(&rt, "memory"),
-        Some(NodeFault::BadLine(20))
-    );
-    assert_eq!(rt;
-        node_fault(&rt, OF_R6, "do put a 1\nend\n").expect(&rt, "memory"),
-        Some(NodeFault::BadLine(34))
-    );
-    assert_eq!(rt;
-        node_fault(&rt, "keys 1\nparty c0\n", "").expect(&rt, "memory"),
-        Some(NodeFault::NoEnd(3))
+    assert!(rt;
+        node_fault(&rt, "keys 1\nparty c0\n", "").expect(&rt, "memory") == Some(NodeFault::NoEnd(3))
     );
 }

@@ -66,9 +66,8 @@ fn heads(rt: HostRuntime) {
         ),
     ];
     for (text, fault) in cases {
-        assert_eq!(rt;
-            fault_in(alloc, &rt, text.as_bytes()),
-            Some(fault),
+        assert!(rt;
+            fault_in(alloc, &rt, text.as_bytes()) == Some(fault),
             "{text}"
         );
     }
@@ -89,7 +88,7 @@ fn plans(rt: HostRuntime) {
         assert!(rt; text.len() < 1000);
         match read_schedule(alloc, text.as_bytes()) {
             Err(_) => assert!(rt; false),
-            Ok(schedule) => assert_eq!(rt; schedule.head.cluster.plan, plan),
+            Ok(schedule) => assert!(rt; schedule.head.cluster.plan == plan),
         }
     }
 }
@@ -98,9 +97,8 @@ fn plans(rt: HostRuntime) {
 fn refused(alloc: Global, rt: &impl Abort, cases: &[(&str, TextFault)]) -> Option<()> {
     for (rest, fault) in cases {
         let text = format!(in alloc; "{HEAD}{rest}").ok()?;
-        assert_eq!(rt;
-            fault_in(alloc, rt, text.as_bytes()),
-            Some(*fault),
+        assert!(rt;
+            fault_in(alloc, rt, text.as_bytes()) == Some(*fault),
             "{rest}"
         );
     }
@@ -144,14 +142,11 @@ fn lines(rt: HostRuntime) {
     ];
     refused(alloc, &rt, &cases).expect(&rt, "memory");
     let text = format!(in alloc; "{HEAD}run\n{long}").expect(&rt, "memory");
-    assert_eq!(rt;
-        fault_in(alloc, &rt, text.as_bytes()),
-        Some(TextFault::BadLine(8))
-    );
+    assert!(rt; fault_in(alloc, &rt, text.as_bytes()) == Some(TextFault::BadLine(8)));
     let text = format!(in alloc;
         "{HEAD}run\ninvoke c99 a\ndeliver 0\ndeliver 18446744073709551615\nend"
     ).expect(&rt, "memory");
-    assert_eq!(rt; fault_in(alloc, &rt, text.as_bytes()), None);
+    assert!(rt; fault_in(alloc, &rt, text.as_bytes()) == None);
 }
 
 #[test]
@@ -168,12 +163,12 @@ fn reads(rt: HostRuntime) {
         Err(_) => assert!(rt; false),
         Ok(schedule) => {
             let head = &schedule.head;
-            assert_eq!(rt; (head.cluster.f, head.cluster.clients), (1, 1));
-            assert_eq!(rt;
-                (head.cluster.plan, head.service, head.lms),
-                (Plan::Quorum, ServiceName::Echo, Height::Five)
+            assert!(rt; (head.cluster.f, head.cluster.clients) == (1, 1));
+            assert!(rt;
+                (head.cluster.plan, head.service, head.lms)
+                    == (Plan::Quorum, ServiceName::Echo, Height::Five)
             );
-            assert_eq!(rt; head.faulty.as_slice().len(), 0);
+            assert!(rt; head.faulty.as_slice().len() == 0);
             match schedule.events.as_slice() {
                 [
                     Event::Invoke { core, command },
@@ -183,8 +178,8 @@ fn reads(rt: HostRuntime) {
                         core: None,
                     },
                 ] => {
-                    assert_eq!(rt; core.party, Party::Client(0));
-                    assert_eq!(rt; command.as_slice(), b" x ".as_slice());
+                    assert!(rt; core.party == Party::Client(0));
+                    assert!(rt; command.as_slice() == b" x ".as_slice());
                 }
                 _ => assert!(rt; false),
             }
@@ -248,14 +243,14 @@ fn reads_twins(rt: HostRuntime) {
     match read_schedule(alloc, text.as_bytes()) {
         Err(_) => assert!(rt; false),
         Ok(schedule) => {
-            assert_eq!(rt;
-                schedule.head.faulty.as_slice(),
-                [
-                    (Party::Replica(0), 1),
-                    (Party::Replica(3), 4),
-                    (Party::Client(0), 2)
-                ]
-                .as_slice()
+            assert!(rt;
+                schedule.head.faulty.as_slice()
+                    == [
+                        (Party::Replica(0), 1),
+                        (Party::Replica(3), 4),
+                        (Party::Client(0), 2)
+                    ]
+                    .as_slice()
             );
             has_twin_events(&rt, schedule.events.as_slice());
         }
@@ -297,9 +292,9 @@ fn has_twin_events(rt: &impl Abort, events: &[Event]) {
                 bytes: two,
             },
         ] => {
-            assert_eq!(rt; command.as_slice(), b"x".as_slice());
-            assert_eq!(rt; one.as_slice(), [10].as_slice());
-            assert_eq!(rt; two.as_slice(), [0, 255].as_slice());
+            assert!(rt; command.as_slice() == b"x".as_slice());
+            assert!(rt; one.as_slice() == [10].as_slice());
+            assert!(rt; two.as_slice() == [0, 255].as_slice());
         }
         _ => assert!(rt; false),
     }
@@ -401,5 +396,5 @@ fn writes(rt: HostRuntime) {
     write_end(alloc, &mut out, 35, 62).expect(&rt, "memory");
     let want =
         b"refused 9 c0 tag\nrefused 18 r0 bad\nrefused 18 r0 kind\ncert 22 c0 1 c0.1,c1.1,c2.1\ninit 23 r0 2 c0.1,c1.1,c2.1\ninvoked 31 c0 1 2\ncommit 9 c0 1 1 1 put a 1\nspent 33 r1\nlog r1 1 c0.1\nlog r2 1 -\npremise held\npremise broken 9 forged r3\npremise broken 0 faulty r1\nend 35 62\n";
-    assert_eq!(rt; out.as_slice(), want.as_slice());
+    assert!(rt; out.as_slice() == want.as_slice());
 }
