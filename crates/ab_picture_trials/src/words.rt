@@ -105,6 +105,6 @@ fn keys(rt: HostRuntime) {
         let taken = command_in(rt.alloc(), &other)
             .expect(&rt, "memory")
             .is_some();
-        assert!(rt; taken == word == "5");
+        assert!(rt; taken == (word == "5"));
     }
 }

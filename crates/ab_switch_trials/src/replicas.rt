@@ -89,6 +89,7 @@ fn brought(e: &Effects) -> Option<usize> {
 }
 
 /// What a replica did: whether it had no signature left, how many messages and marks there are, and what went to client 0 alone.
+#[derive(Drop)]
 struct Done {
     spent: bool,
     outs: usize,
