@@ -188,18 +188,54 @@ fn put_change(bytes: &mut Vec<u8>, by: u8, view: u8) -> Result<(), AllocError> {
     put_sig(bytes)
 }
 
+fn put(bytes: &mut Vec<u8>, coming: Coming) -> Result<(), AllocError> {
+    match coming {
+        Coming::Timeout => Ok(()),
+        Coming::Request => put_request(bytes),
+        Coming::Offer(by, view, slot) => put_offer(bytes, by, view, slot),
+        Coming::Prepare(by, view, slot) => put_prepare(bytes, by, view, slot),
+        Coming::Commit(by, view, slot) => put_commit(bytes, by, view, slot),
+        Coming::Change(by, view) => put_change(bytes, by, view),
+    }
+}
+
 /// The bytes of a message that comes. The end of the timer has none.
 pub fn bytes_of(alloc: Global, coming: Coming) -> Result<Vec<u8>, AllocError> {
     let mut bytes = Vec::new(alloc);
-    match coming {
-        Coming::Timeout => {}
-        Coming::Request => put_request(&mut bytes)?,
-        Coming::Offer(by, view, slot) => put_offer(&mut bytes, by, view, slot)?,
-        Coming::Prepare(by, view, slot) => put_prepare(&mut bytes, by, view, slot)?,
-        Coming::Commit(by, view, slot) => put_commit(&mut bytes, by, view, slot)?,
-        Coming::Change(by, view) => put_change(&mut bytes, by, view)?,
-    }
+    put(&mut bytes, coming)?;
     Ok(bytes)
+}
+
+/// A list of PREPAREs by these replicas.
+fn put_signers(bytes: &mut Vec<u8>, signers: &[u8]) -> Result<(), AllocError> {
+    let mut count: u8 = 0;
+    for _ in signers {
+        count = count.saturating_add(1);
+    }
+    bytes.push(count)?;
+    for signer in signers {
+        bytes.push(*signer)?;
+        put_sig(bytes)?;
+    }
+    Ok(())
+}
+
+fn put_stating(
+    bytes: &mut Vec<u8>,
+    by: u8,
+    at: u8,
+    digest: &[u8; 32],
+    signers: &[u8],
+) -> Result<(), AllocError> {
+    bytes.push(11)?;
+    put_maker(bytes, 10, by)?;
+    put_view(bytes, 1)?;
+    bytes.push(1)?;
+    put_view(bytes, at)?;
+    bytes.extend_from_slice(digest)?;
+    put_sig(bytes)?;
+    bytes.extend_from_slice(&[0, 0])?;
+    put_signers(bytes, signers)
 }
 
 /// A VIEW-CHANGE of a replica for view 1, which states the empty base as prepared in a view with a digest, and PREPAREs by
@@ -212,22 +248,6 @@ pub fn stating(
     signers: &[u8],
 ) -> Result<Vec<u8>, AllocError> {
     let mut bytes = Vec::new(alloc);
-    bytes.push(11)?;
-    put_maker(&mut bytes, 10, by)?;
-    put_view(&mut bytes, 1)?;
-    bytes.push(1)?;
-    put_view(&mut bytes, at)?;
-    bytes.extend_from_slice(digest)?;
-    put_sig(&mut bytes)?;
-    bytes.extend_from_slice(&[0, 0])?;
-    let mut count: u8 = 0;
-    for _ in signers {
-        count = count.saturating_add(1);
-    }
-    bytes.push(count)?;
-    for signer in signers {
-        bytes.push(*signer)?;
-        put_sig(&mut bytes)?;
-    }
+    put_stating(&mut bytes, by, at, digest, signers)?;
     Ok(bytes)
 }

@@ -87,9 +87,9 @@ fn cert(alloc: Global, names: [u8; 3]) -> Result<Offer, OutOfMemory> {
 
 /// What a message tells. A call lets the message go: in place each of its forms would be taken apart.
 fn told(rt: &impl Abort, alloc: Global, c: &Cluster, i: u32, m: Msg) -> Input {
-    let input = read(alloc, c, i, &m).expect(rt, "memory");
+    let input = read(alloc, c, i, &m);
     drop(m);
-    input
+    input.expect(rt, "memory")
 }
 
 /// How many requests are in the base that this certificate gives in instance 2, 0 if it gives none.
@@ -104,29 +104,47 @@ fn base_len(rt: &impl Abort, alloc: Global, c: &Cluster, names: [u8; 3]) -> usiz
     len
 }
 
-/// A VIEW-CHANGE of replica 2 in instance 1 for view 1, with one slot prepared in view 0, and so many lists of PREPAREs
-/// by this replica.
-fn view_change(alloc: Global, value: Value, by: u8, lists: usize) -> Result<Proof, OutOfMemory> {
-    let mut entries = Vec::new(alloc);
-    entries.push((0, [7; 32]))?;
-    let content = Content::ViewChange {
-        maker: Party::Replica(2),
-        instance: 1,
-        view: 1,
-        entries: ViewEntries::of(entries),
-    };
-    let mut values = Vec::new(alloc);
-    values.push(value)?;
+/// So many lists of a PREPARE by this replica.
+fn prepares(alloc: Global, by: u8, lists: usize) -> Result<Prepares, OutOfMemory> {
     let mut prepares = Vec::new(alloc);
     for _ in 0..lists {
         let mut signers = Vec::new(alloc);
         signers.push((by, Sig::of(Vec::new(alloc))))?;
         prepares.push(SlotPrepares::of(signers))?;
     }
+    Ok(Prepares::of(prepares))
+}
+
+fn one_entry(alloc: Global) -> Result<ViewEntries, OutOfMemory> {
+    let mut entries = Vec::new(alloc);
+    entries.push((0, [7; 32]))?;
+    Ok(ViewEntries::of(entries))
+}
+
+fn one_value(alloc: Global, value: Value) -> Result<Values, OutOfMemory> {
+    let mut values = Vec::new(alloc);
+    values.push(value)?;
+    Ok(Values::of(values))
+}
+
+/// A VIEW-CHANGE of replica 2 in instance 1 for view 1, with one slot prepared in view 0, and so many lists of PREPAREs
+/// by this replica.
+fn view_change(alloc: Global, value: Value, by: u8, lists: usize) -> Result<Proof, OutOfMemory> {
+    let values = one_value(alloc, value)?;
+    let (Ok(entries), Ok(prepares)) = (one_entry(alloc), prepares(alloc, by, lists)) else {
+        drop(values);
+        return Err(OutOfMemory);
+    };
+    let content = Content::ViewChange {
+        maker: Party::Replica(2),
+        instance: 1,
+        view: 1,
+        entries,
+    };
     Ok(Proof {
         change: signed(alloc, 2, content),
-        values: Values::of(values),
-        prepares: Prepares::of(prepares),
+        values,
+        prepares,
     })
 }
 
@@ -158,18 +176,17 @@ fn what_is_of_others_tells_nothing(rt: HostRuntime) {
     let alloc = rt.alloc();
     let c = Cluster::new(1, 1, Plan::Backup).expect(&rt, "a cluster");
     let ours = told(&rt, alloc, &c, 1, prepare(alloc, Party::Replica(3), 1));
-    assert!(rt;
-        matches!(
-            &ours,
-            Input::Prepare {
-                by: 3,
-                view: 0,
-                slot: 1,
-                ..
-            }
-        )
+    let is_ours = matches!(
+        &ours,
+        Input::Prepare {
+            by: 3,
+            view: 0,
+            slot: 1,
+            ..
+        }
     );
     drop(ours);
+    assert!(rt; is_ours);
     assert!(rt; is_other(&rt, alloc, &c, 1, prepare(alloc, Party::Replica(3), 2)));
     assert!(rt; is_other(&rt, alloc, &c, 1, prepare(alloc, Party::Replica(4), 1)));
     assert!(rt; is_other(&rt, alloc, &c, 1, prepare(alloc, Party::Client(3), 1)));
@@ -184,14 +201,15 @@ fn a_base_stands_in_slot_0(rt: HostRuntime) {
         Input::PrePrepareBase { by: 0, base, .. } => base.entries().is_empty(),
         _ => false,
     };
-    assert!(rt; empty);
     drop(first);
+    assert!(rt; empty);
     assert!(rt; is_other(&rt, alloc, &c, 1, pre_prepare(1, 1, no_cert(alloc))));
     assert!(rt; is_other(&rt, alloc, &c, 2, pre_prepare(2, 0, no_cert(alloc))));
     assert!(rt; is_other(&rt, alloc, &c, 1, pre_prepare(1, 0, offered(0))));
     let order = told(&rt, alloc, &c, 1, pre_prepare(1, 5, offered(0)));
-    assert!(rt; matches!(&order, Input::PrePrepare { slot: 5, .. }));
+    let is_fifth = matches!(&order, Input::PrePrepare { slot: 5, .. });
     drop(order);
+    assert!(rt; is_fifth);
 }
 
 #[test]
@@ -225,8 +243,8 @@ fn lists_of_a_view_change_go_together(rt: HostRuntime) {
         Input::ViewChange(change) => change.by(),
         _ => 9,
     };
-    assert!(rt; by == 2);
     drop(whole);
+    assert!(rt; by == 2);
     for (signer, lists) in [(3, 0), (3, 2), (4, 1)] {
         let base = Value::Base(History::new(alloc));
         let other = is_other(&rt, alloc, &c, 1, changing(&rt, alloc, base, signer, lists));
@@ -253,6 +271,6 @@ fn a_new_view_rests_on_view_changes(rt: HostRuntime) {
         Input::NewView { by: 1, changes, .. } => changes.len(),
         _ => 0,
     };
-    assert!(rt; count == 1);
     drop(entered);
+    assert!(rt; count == 1);
 }

@@ -30,13 +30,22 @@ const ABORT: [u8; 31] = [
     0x20, 0x31, 9, 0x2c,
 ];
 
-/// Adds an ABORT of a replica.
-fn put_abort(bytes: &mut Vec<u8>, by: u8) -> Result<(), OutOfMemory> {
-    let mut head = ABORT;
-    head[3] = by;
-    bytes.extend_from_slice(&head)?;
-    bytes.extend_from_slice(&[0; 2348])?;
+/// Adds the ABORTs of these replicas.
+fn put_aborts(bytes: &mut Vec<u8>, replicas: &[u8]) -> Result<(), OutOfMemory> {
+    for by in replicas {
+        let mut head = ABORT;
+        head[3] = *by;
+        bytes.extend_from_slice(&head)?;
+        bytes.extend_from_slice(&[0; 2348])?;
+    }
     Ok(())
+}
+
+/// What begins with this, and has the ABORTs of these replicas.
+fn with_aborts(alloc: Global, head: &[u8], replicas: &[u8]) -> Result<Vec<u8>, OutOfMemory> {
+    let mut bytes = Vec::from_slice(alloc, head)?;
+    put_aborts(&mut bytes, replicas)?;
+    Ok(bytes)
 }
 
 /// How much a client sends and observes as a message comes, None where the bytes are none.
@@ -66,19 +75,13 @@ fn aborts(
     client: &mut Client,
     by: u8,
 ) -> Result<Option<(usize, usize)>, OutOfMemory> {
-    let mut bytes = Vec::new(alloc);
-    bytes.push(6)?;
-    put_abort(&mut bytes, by)?;
+    let bytes = with_aborts(alloc, &[6], &[by])?;
     heard(alloc, client, &bytes)
 }
 
 /// How much comes of a certificate by three replicas.
 fn enters(alloc: Global, client: &mut Client) -> Result<Option<(usize, usize)>, OutOfMemory> {
-    let mut bytes = Vec::new(alloc);
-    bytes.extend_from_slice(&[7, 3])?;
-    put_abort(&mut bytes, 0)?;
-    put_abort(&mut bytes, 1)?;
-    put_abort(&mut bytes, 2)?;
+    let bytes = with_aborts(alloc, &[7, 3], &[0, 1, 2])?;
     heard(alloc, client, &bytes)
 }
 

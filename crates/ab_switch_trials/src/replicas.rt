@@ -50,16 +50,19 @@ impl Notary for Blank {
     }
 }
 
-/// An INIT with ABORTs of instance 1 by replicas 0 to 2, whose logs are empty and whose signatures are
-/// of zeros.
-fn init(alloc: Global) -> Result<Vec<u8>, AllocError> {
-    let mut bytes = Vec::new(alloc);
-    bytes.push(7)?;
-    bytes.push(3)?;
+/// Adds ABORTs of instance 1 by replicas 0 to 2, whose logs are empty and whose signatures are of zeros.
+fn put_aborts(bytes: &mut Vec<u8>) -> Result<(), AllocError> {
     for r in 0..3u8 {
         bytes.extend_from_slice(&[6, 0, 0, r, 0, 0, 0, 1, 0, 0, 9, 44])?;
         bytes.extend_from_slice(&[0; 2348])?;
     }
+    Ok(())
+}
+
+/// An INIT with these.
+fn init(alloc: Global) -> Result<Vec<u8>, AllocError> {
+    let mut bytes = Vec::from_slice(alloc, &[7, 3])?;
+    put_aborts(&mut bytes)?;
     Ok(bytes)
 }
 
