@@ -2,6 +2,8 @@
 
 use ab_hist::{History, PushFault, Request};
 use arrayvec::ArrayVec;
+use std::alloc::Global;
+use std::process::Abort;
 
 /// The bytes of client 0, stamp 1, `put a 1`.
 const PUT_BYTES: [u8; 19] = [
@@ -44,10 +46,8 @@ fn request_has_its_bytes_and_digest(rt: HostRuntime) {
     assert!(rt; put.copy() == put);
 }
 
-#[test]
-fn history_has_places_and_digests(rt: HostRuntime) {
-    let alloc = rt.alloc();
-    let mut history = History::new(alloc);
+/// Adds two requests, and asks where they stand.
+fn expect_places(rt: &impl Abort, alloc: Global, history: &mut History) {
     assert!(rt; history.push(alloc, request(0, 1, b"put a 1")) == Ok(()));
     assert!(rt; history.push(alloc, request(0, 1, b"put a 1")) == Err(PushFault::Repeat));
     assert!(rt; history.push(alloc, request(1, 1, b"get a")) == Ok(()));
@@ -59,25 +59,38 @@ fn history_has_places_and_digests(rt: HostRuntime) {
 }
 
 #[test]
-fn cut_forgets_and_push_goes_on(rt: HostRuntime) {
-    let alloc = rt.alloc();
-    let mut history = History::new(alloc);
-    assert!(rt; history.push(alloc, request(0, 1, b"put a 1")) == Ok(()));
-    assert!(rt; history.push(alloc, request(0, 5, b"put a 5")) == Ok(()));
-    let whole = history.copy(alloc).expect(&rt, "memory");
+fn history_has_places_and_digests(rt: HostRuntime) {
+    let mut history = History::new(rt.alloc());
+    expect_places(&rt, rt.alloc(), &mut history);
+}
+
+/// Cuts a history of two requests, of which the other is a copy, and goes on.
+fn expect_cut(rt: &impl Abort, alloc: Global, history: &mut History, whole: &History) {
     assert!(rt; history.len() == 2);
     history.cut(1);
-    assert!(rt; history.is_prefix_of(&whole));
-    assert!(rt; !whole.is_prefix_of(&history));
+    assert!(rt; history.is_prefix_of(whole));
+    assert!(rt; !whole.is_prefix_of(history));
     assert!(rt; !history.can_push(&request(0, 1, b"again")));
     assert!(rt; history.push(alloc, request(0, 2, b"put a 2")) == Ok(()));
-    assert!(rt; !history.is_prefix_of(&whole));
+    assert!(rt; !history.is_prefix_of(whole));
 }
 
 #[test]
-fn full_history_is_quick(rt: HostRuntime) {
+fn cut_forgets_and_push_goes_on(rt: HostRuntime) {
     let alloc = rt.alloc();
     let mut history = History::new(alloc);
+    let first = history.push(alloc, request(0, 1, b"put a 1"));
+    let second = history.push(alloc, request(0, 5, b"put a 5"));
+    let whole = history.copy(alloc).expect(&rt, "memory");
+    expect_cut(&rt, alloc, &mut history, &whole);
+    drop(history);
+    drop(whole);
+    assert!(rt; first == Ok(()));
+    assert!(rt; second == Ok(()));
+}
+
+/// Fills a history, and asks for its digest again and again.
+fn expect_full(rt: &impl Abort, alloc: Global, history: &mut History) {
     for stamp in 1..1025u64 {
         assert!(rt; history.push(alloc, request(0, stamp, b"put a 1")) == Ok(()));
     }
@@ -88,4 +101,10 @@ fn full_history_is_quick(rt: HostRuntime) {
         all_same &= history.digest_at(1024) == DIGEST_OF_FULL;
     }
     assert!(rt; all_same);
+}
+
+#[test]
+fn full_history_is_quick(rt: HostRuntime) {
+    let mut history = History::new(rt.alloc());
+    expect_full(&rt, rt.alloc(), &mut history);
 }
