@@ -6,5 +6,5 @@ use Rattle.ab_num.specs.declared.plan.Height.TheVariants.{Five}
 use Rattle.ab_key_text.specs.Keys.{IsWhole}
 use Rattle.ab_member_trials.proofs.nodes.replica.Goals as goal
 
-pub new-requires-clause-whole : goal.new-requires-clause-whole
-new-requires-clause-whole c = subst IsWhole (sym c.in_ok-keys.ensures) (c.keys_are_whole.ensures.derived 1 1 Quorum Kv Five (replicate 32 0) (Replica c.args.r))
+pub new-made-requires-clause-whole : goal.new-made-requires-clause-whole
+new-made-requires-clause-whole c = subst IsWhole (sym c.in_ok-keys.ensures) (c.keys_are_whole.ensures.derived 1 1 Quorum Kv Five (replicate 32 0) (Replica c.args.r))
