@@ -3,21 +3,33 @@
 use ab_known::Known;
 use ab_lms::Signer;
 use ab_num::Height;
+use std::alloc::Global;
+use std::process::Abort;
+
+/// Learns a signature of `content`, which isn't known before.
+fn expect_learned(
+    rt: &impl Abort,
+    alloc: Global,
+    known: &mut Known,
+    public: &[u8; 56],
+    sig: &[u8],
+) {
+    assert!(rt; !known.has(public, b"content", sig));
+    if known.verifies(public, b"content", sig) {
+        assert!(rt; known.learn(alloc, public, b"content", sig).is_ok());
+    }
+    assert!(rt; known.has(public, b"content", sig));
+    assert!(rt; !known.has(public, b"contents", sig));
+}
 
 #[test]
 fn what_is_learned_is_known(rt: HostRuntime) {
-    let mut signer = Signer::new(rt.alloc(), Height::Five, [7; 16], [9; 32]).expect(&rt, "memory");
+    let alloc = rt.alloc();
+    let mut signer = Signer::new(alloc, Height::Five, [7; 16], [9; 32]).expect(&rt, "memory");
     let public = signer.public();
-    let Ok(sig) = signer.sign(rt.alloc(), b"content") else {
-        panic!(rt; "no signature");
-    };
-    let mut known = Known::new(rt.alloc());
-    assert!(rt; !known.has(&public, b"content", &sig));
-    if known.verifies(&public, b"content", &sig) {
-        known
-            .learn(rt.alloc(), &public, b"content", &sig)
-            .expect(&rt, "memory");
-    }
-    assert!(rt; known.has(&public, b"content", &sig));
-    assert!(rt; !known.has(&public, b"contents", &sig));
+    let signed = signer.sign(alloc, b"content");
+    drop(signer);
+    let sig = signed.expect(&rt, "memory");
+    let mut known = Known::new(alloc);
+    expect_learned(&rt, alloc, &mut known, &public, &sig);
 }

@@ -2,6 +2,7 @@
 
 use ab_lmots::{candidate, key_once, sign_once};
 use ab_mac::hash;
+use std::process::Abort;
 
 const ID: [u8; 16] = [
     0x38, 0xe7, 0xfc, 0xc3, 0xd6, 0xfd, 0xee, 0x3c, 0xf5, 0xf5, 0xdf, 0xd2, 0xe3, 0x65, 0xe3, 0x23,
@@ -18,20 +19,32 @@ const SIGNATURE_DIGEST: [u8; 32] = [
     0xef, 0x44, 0xe3, 0xdf, 0x19, 0x95, 0x97, 0xdf, 0xa6, 0x07, 0xa8, 0x47, 0x1e, 0x70, 0x11, 0x06,
 ];
 
+const MSG: &[u8] = b"The powers not delegated";
+
+/// Leaf 31 made the signature, and no other.
+fn expect_leaf(rt: &impl Abort, sig: &[u8]) {
+    let key = Some(key_once(&ID, 31, &SEED));
+    assert!(rt; hash(sig) == SIGNATURE_DIGEST);
+    assert!(rt; candidate(&ID, 31, MSG, sig) == key);
+    assert!(rt; candidate(&ID, 30, MSG, sig) != key);
+}
+
+fn leads_nowhere(sig: &[u8]) -> bool {
+    candidate(&ID, 31, MSG, sig).is_none()
+}
+
 #[test]
 fn signs_as_others_do(rt: HostRuntime) {
-    let msg = b"The powers not delegated";
-    let mut sig = sign_once(rt.alloc(), &ID, 31, &SEED, msg).expect(&rt, "memory");
-    assert!(rt; hash(&sig) == SIGNATURE_DIGEST);
-    assert!(rt; candidate(&ID, 31, msg, &sig) == Some(key_once(&ID, 31, &SEED)));
-    assert_ne!(rt;
-        candidate(&ID, 30, msg, &sig),
-        Some(key_once(&ID, 31, &SEED))
-    );
-    assert!(rt; candidate(&ID, 31, msg, &sig[1..]) == None);
-    sig.push(0).expect(&rt, "memory");
-    assert!(rt; candidate(&ID, 31, msg, &sig) == None);
+    let mut sig = sign_once(rt.alloc(), &ID, 31, &SEED, MSG).expect(&rt, "memory");
+    expect_leaf(&rt, &sig);
+    let one_less = leads_nowhere(&sig[1..]);
+    let pushed = sig.push(0).is_ok();
+    let one_more = leads_nowhere(&sig);
     sig.pop();
     sig[3] = 4;
-    assert!(rt; candidate(&ID, 31, msg, &sig) == None);
+    let other_type = leads_nowhere(&sig);
+    drop(sig);
+    assert!(rt; one_less);
+    assert!(rt; pushed && one_more);
+    assert!(rt; other_type);
 }

@@ -8,6 +8,8 @@ use ab_msg::{Content, Notary};
 use ab_num::{Cluster, Height, Party, Plan};
 use ab_sign::{Pen, SecretKey, SignKey, Signers, Verifier};
 use ab_write::content_bytes;
+use std::alloc::Global;
+use std::process::Abort;
 
 const SEED: [u8; 32] = [0; 32];
 
@@ -34,48 +36,79 @@ fn prepare(replica: u8) -> Content {
     }
 }
 
-#[test]
-fn signs_as_others_do(rt: HostRuntime) {
-    let cluster = Cluster::new(1, 1, Plan::Backup).expect(&rt, "a cluster");
-    let signers = Signers::derive(rt.alloc(), &cluster, Height::Five, &SEED).expect(&rt, "memory");
-    let mut pen = Pen::new(&signers, 0, 0);
-    let Ok(sig) = pen.sign(rt.alloc(), &prepare(0)) else {
+/// Replica 0 signs with its first leaf.
+fn expect_first(rt: &impl Abort, alloc: Global, signers: &Signers, content: &Content) {
+    let mut pen = Pen::new(signers, 0, 0);
+    let Ok(sig) = pen.sign(alloc, content) else {
         panic!(rt; "no signature");
     };
     assert!(rt; hash(sig.as_slice()) == FIRST);
 }
 
 #[test]
-fn signed_and_checked(rt: HostRuntime) {
+fn signs_as_others_do(rt: HostRuntime) {
     let cluster = Cluster::new(1, 1, Plan::Backup).expect(&rt, "a cluster");
     let signers = Signers::derive(rt.alloc(), &cluster, Height::Five, &SEED).expect(&rt, "memory");
-    let ring = KeyRing::derive(rt.alloc(), &cluster, &SEED, Party::Client(0)).expect(&rt, "memory");
-    let mut pen = Pen::new(&signers, 1, 31);
-    let content = prepare(1);
-    let text = content_bytes(rt.alloc(), &content).expect(&rt, "memory");
-    let Ok(sig) = pen.sign(rt.alloc(), &content) else {
+    expect_first(&rt, rt.alloc(), &signers, &prepare(0));
+}
+
+/// No leaf is left to sign with.
+fn expect_spent(rt: &impl Abort, alloc: Global, pen: &mut Pen<'_>, content: &Content) {
+    assert!(rt; (pen.used(), pen.left()) == (32, 0));
+    assert!(rt; pen.sign(alloc, content).is_err());
+}
+
+/// The signature is replica 1's alone. Without a tag, none is right.
+fn expect_right(
+    rt: &impl Abort,
+    alloc: Global,
+    verifier: &mut Verifier<'_>,
+    text: &[u8],
+    sig: &[u8],
+) {
+    assert!(rt; verifier.sig(alloc, Party::Replica(1), text, sig));
+    assert!(rt; !verifier.sig(alloc, Party::Replica(2), text, sig));
+    assert!(rt; !verifier.sig(alloc, Party::Client(1), text, sig));
+    assert!(rt; !verifier.tag(Party::Replica(1), text, None));
+}
+
+/// Replica 1 signs the content with its last leaf, and the signature is found right.
+fn expect_last(rt: &impl Abort, alloc: Global, signers: &Signers, ring: &KeyRing, c: &Content) {
+    let mut pen = Pen::new(signers, 1, 31);
+    let Ok(sig) = pen.sign(alloc, c) else {
         panic!(rt; "no signature");
     };
-    assert!(rt; (pen.used(), pen.left()) == (32, 0));
-    assert!(rt; pen.sign(rt.alloc(), &content).is_err());
-    let mut verifier = Verifier::new(&ring, &signers);
-    assert!(rt; verifier.sig(rt.alloc(), Party::Replica(1), &text, sig.as_slice()));
-    assert!(rt; !verifier.sig(rt.alloc(), Party::Replica(2), &text, sig.as_slice()));
-    assert!(rt; !verifier.sig(rt.alloc(), Party::Client(1), &text, sig.as_slice()));
-    assert!(rt; !verifier.tag(Party::Replica(1), &text, None));
+    expect_spent(rt, alloc, &mut pen, c);
+    let text = content_bytes(alloc, c).expect(rt, "memory");
+    let mut verifier = Verifier::new(ring, signers);
+    expect_right(rt, alloc, &mut verifier, &text, sig.as_slice());
+}
+
+#[test]
+fn signed_and_checked(rt: HostRuntime) {
+    let alloc = rt.alloc();
+    let cluster = Cluster::new(1, 1, Plan::Backup).expect(&rt, "a cluster");
+    let ring = KeyRing::derive(alloc, &cluster, &SEED, Party::Client(0)).expect(&rt, "memory");
+    let signers = Signers::derive(alloc, &cluster, Height::Five, &SEED).expect(&rt, "memory");
+    expect_last(&rt, alloc, &signers, &ring, &prepare(1));
+}
+
+/// The signature is that of the only key.
+fn expect_only(rt: &impl Abort, alloc: Global, signers: &Signers, sig: &[u8]) {
+    assert!(rt; signers.leaves(0) == 0);
+    assert!(rt; signers.verifies(alloc, 0, b"text", sig));
+    assert!(rt; signers.verifies(alloc, 0, b"text", sig));
+    assert!(rt; !signers.verifies(alloc, 1, b"text", sig));
 }
 
 #[test]
 fn public_keys_do_not_sign(rt: HostRuntime) {
+    let alloc = rt.alloc();
     let secret = SecretKey::new(Height::Five, [1; 16], SEED);
-    let sig = secret.sign_at(rt.alloc(), 3, b"text").expect(&rt, "memory");
+    let sig = secret.sign_at(alloc, 3, b"text").expect(&rt, "memory");
     let public = secret.public();
     assert!(rt; verify(&public, b"text", &sig));
-    let mut keys = Vec::new(rt.alloc());
+    let mut keys = Vec::new(alloc);
     keys.push(SignKey::Public(public)).expect(&rt, "memory");
-    let signers = Signers::of(rt.alloc(), keys);
-    assert!(rt; signers.leaves(0) == 0);
-    assert!(rt; signers.verifies(rt.alloc(), 0, b"text", &sig));
-    assert!(rt; signers.verifies(rt.alloc(), 0, b"text", &sig));
-    assert!(rt; !signers.verifies(rt.alloc(), 1, b"text", &sig));
+    expect_only(&rt, alloc, &Signers::of(alloc, keys), &sig);
 }

@@ -3,6 +3,8 @@
 use ab_lms::{SignFault, Signer, public_key, verify};
 use ab_mac::hash;
 use ab_num::Height;
+use std::alloc::Global;
+use std::process::Abort;
 
 /// A key and one of its signatures, as an independent implementation made them. The signature is
 /// given by its SHA-256 digest.
@@ -106,84 +108,95 @@ const TEN_LAST: Row = Row {
     ],
 };
 
+/// The next leaf signs the message as it should.
+fn expect_signed(rt: &impl Abort, alloc: Global, signer: &mut Signer, msg: &[u8], row: &Row) {
+    assert!(rt; signer.public() == row.public);
+    let sig = signer.sign(alloc, msg).expect(rt, "memory");
+    assert!(rt; hash(&sig) == row.digest);
+    assert!(rt; verify(&row.public, msg, &sig));
+}
+
 #[test]
 fn first_leaf_of_height_five(rt: HostRuntime) {
-    let mut signer = Signer::new(rt.alloc(), Height::Five, FIVE_FIRST.id, FIVE_FIRST.seed).expect(
-        &rt, "memory",
-    );
-    assert!(rt; signer.public() == FIVE_FIRST.public);
-    let mut copied = signer.copy(rt.alloc()).expect(&rt, "memory");
-    let sig = signer.sign(rt.alloc(), b"").expect(&rt, "memory");
-    assert!(rt; hash(&sig) == FIVE_FIRST.digest);
-    let sig = copied.sign(rt.alloc(), b"").expect(&rt, "memory");
-    assert!(rt; hash(&sig) == FIVE_FIRST.digest);
+    let alloc = rt.alloc();
+    let row = FIVE_FIRST;
+    let mut signer = Signer::new(alloc, Height::Five, row.id, row.seed).expect(&rt, "memory");
+    let mut copied = signer.copy(alloc).expect(&rt, "memory");
+    expect_signed(&rt, alloc, &mut signer, b"", &row);
+    expect_signed(&rt, alloc, &mut copied, b"", &row);
+}
+
+/// A signature of the empty message verifies, and none that is altered does.
+fn expect_only(rt: &impl Abort, public: &[u8; 56], sig: &mut Vec<u8>) {
+    assert!(rt; verify(public, b"", sig));
+    assert!(rt; !verify(public, b"0", sig));
+    if let Some(last) = sig.last_mut() {
+        *last ^= 1;
+    }
+    assert!(rt; !verify(public, b"", sig));
+    if let Some(last) = sig.pop() {
+        assert!(rt; !verify(public, b"", sig));
+        assert!(rt; sig.push(last ^ 1).is_ok());
+    }
+    assert!(rt; verify(public, b"", sig));
 }
 
 #[test]
 fn altered_signature(rt: HostRuntime) {
-    let mut signer = Signer::new(rt.alloc(), Height::Five, FIVE_FIRST.id, FIVE_FIRST.seed).expect(
-        &rt, "memory",
-    );
+    let alloc = rt.alloc();
+    let row = FIVE_FIRST;
+    let mut signer = Signer::new(alloc, Height::Five, row.id, row.seed).expect(&rt, "memory");
     let public = signer.public();
-    let mut sig = signer.sign(rt.alloc(), b"").expect(&rt, "memory");
-    assert!(rt; verify(&public, b"", &sig));
-    assert!(rt; !verify(&public, b"0", &sig));
-    if let Some(last) = sig.last_mut() {
-        *last ^= 1;
+    let signed = signer.sign(alloc, b"");
+    drop(signer);
+    let mut sig = signed.expect(&rt, "memory");
+    expect_only(&rt, &public, &mut sig);
+}
+
+/// Signs so often, each time this message.
+fn sign_often(rt: &impl Abort, alloc: Global, signer: &mut Signer, msg: &[u8], times: u32) {
+    for _ in 0..times {
+        assert!(rt; signer.sign(alloc, msg).is_ok());
     }
-    assert!(rt; !verify(&public, b"", &sig));
-    if let Some(last) = sig.pop() {
-        assert!(rt; !verify(&public, b"", &sig));
-        sig.push(last ^ 1).expect(&rt, "memory");
-    }
-    assert!(rt; verify(&public, b"", &sig));
+}
+
+/// All of the leaves have signed.
+fn expect_spent(rt: &impl Abort, alloc: Global, signer: &mut Signer, leaves: u64) {
+    assert!(rt; matches!(signer.sign(alloc, b""), Err(SignFault::Spent)));
+    assert!(rt; (signer.used(), signer.left()) == (leaves, 0));
 }
 
 #[test]
 fn last_leaf_of_height_five(rt: HostRuntime) {
+    let alloc = rt.alloc();
     let msg = b"The powers not delegated";
-    let mut signer = Signer::new(rt.alloc(), Height::Five, FIVE_LAST.id, FIVE_LAST.seed).expect(
-        &rt, "memory",
-    );
-    assert!(rt; signer.public() == FIVE_LAST.public);
-    for _ in 0..31 {
-        signer.sign(rt.alloc(), msg).expect(&rt, "memory");
-    }
-    let sig = signer.sign(rt.alloc(), msg).expect(&rt, "memory");
-    assert!(rt; hash(&sig) == FIVE_LAST.digest);
-    assert!(rt; verify(&FIVE_LAST.public, msg, &sig));
-    assert!(rt; matches!(signer.sign(rt.alloc(), msg), Err(SignFault::Spent)));
-    assert!(rt; (signer.used(), signer.left()) == (32, 0));
+    let row = FIVE_LAST;
+    let mut signer = Signer::new(alloc, Height::Five, row.id, row.seed).expect(&rt, "memory");
+    sign_often(&rt, alloc, &mut signer, msg, 31);
+    expect_signed(&rt, alloc, &mut signer, msg, &row);
+    expect_spent(&rt, alloc, &mut signer, 32);
 }
 
 #[test]
 fn first_leaf_of_height_ten(rt: HostRuntime) {
+    let alloc = rt.alloc();
     let mut msg = [0u8; 256];
     for i in 0..256 {
         msg[i] = i as u8;
     }
-    let mut signer = Signer::new(rt.alloc(), Height::Ten, TEN_FIRST.id, TEN_FIRST.seed).expect(
-        &rt, "memory",
-    );
-    assert!(rt; signer.public() == TEN_FIRST.public);
-    let sig = signer.sign(rt.alloc(), &msg).expect(&rt, "memory");
-    assert!(rt; hash(&sig) == TEN_FIRST.digest);
-    assert!(rt; verify(&TEN_FIRST.public, &msg, &sig));
+    let row = TEN_FIRST;
+    let mut signer = Signer::new(alloc, Height::Ten, row.id, row.seed).expect(&rt, "memory");
+    expect_signed(&rt, alloc, &mut signer, &msg, &row);
 }
 
 #[test]
 fn last_leaf_of_height_ten(rt: HostRuntime) {
-    let mut signer = Signer::new(rt.alloc(), Height::Ten, TEN_LAST.id, TEN_LAST.seed).expect(
-        &rt, "memory",
-    );
-    assert!(rt; signer.public() == TEN_LAST.public);
-    for _ in 0..1023 {
-        signer.sign(rt.alloc(), b"").expect(&rt, "memory");
-    }
-    let sig = signer.sign(rt.alloc(), b"abort").expect(&rt, "memory");
-    assert!(rt; hash(&sig) == TEN_LAST.digest);
-    assert!(rt; verify(&TEN_LAST.public, b"abort", &sig));
-    assert!(rt; signer.left() == 0);
+    let alloc = rt.alloc();
+    let row = TEN_LAST;
+    let mut signer = Signer::new(alloc, Height::Ten, row.id, row.seed).expect(&rt, "memory");
+    sign_often(&rt, alloc, &mut signer, b"", 1023);
+    expect_signed(&rt, alloc, &mut signer, b"abort", &row);
+    expect_spent(&rt, alloc, &mut signer, 1024);
 }
 
 /// RFC 8554, Appendix F, test case 2: the public key of the top tree.
