@@ -3,6 +3,8 @@
 use ab_key_text::{KeyFault, NodeFault, PartyKeys, read_node};
 use ab_keys::{KeyRing, is_party};
 use ab_num::{Cluster, Height, Party, Plan, ServiceName};
+use std::alloc::Global;
+use std::process::Abort;
 
 /// The keys of c0 in a cluster of plan `quorum`, f 1 and 1 client, by the seed of 32 zero bytes.
 const OF_C0: &str = "\
@@ -67,12 +69,12 @@ public r6 0000000500000003e6d30519f62111a299a633c052b69abd1752fb3378923914e9e6d3
 const SEED: [u8; 32] = [0; 32];
 
 /// The text in which one is replaced by another, at its first place.
-fn altered(rt: &HostRuntime, text: &str, old: &str, new: &str) -> Option<String> {
+fn altered(alloc: Global, text: &str, old: &str, new: &str) -> Option<String> {
     match text.find(old) {
         None => None,
         Some(at) => {
             let (front, back) = text.split_at(at);
-            let mut out = String::from_str(rt.alloc(), front).ok()?;
+            let mut out = String::from_str(alloc, front).ok()?;
             out.push_str(new).ok()?;
             out.push_str(back.strip_prefix(old)?).ok()?;
             Some(out)
@@ -80,48 +82,74 @@ fn altered(rt: &HostRuntime, text: &str, old: &str, new: &str) -> Option<String>
     }
 }
 
-fn fault_of(rt: &HostRuntime, text: &str) -> Option<KeyFault> {
-    PartyKeys::read(rt.alloc(), text.as_bytes()).err()
+fn fault_of(alloc: Global, text: &str) -> Option<KeyFault> {
+    PartyKeys::read(alloc, text.as_bytes()).err()
+}
+
+/// Written, the keys are this text.
+fn expect_text(rt: &impl Abort, alloc: Global, keys: &PartyKeys, text: &str) {
+    let written = keys.text(alloc).expect(rt, "memory");
+    assert!(rt; written.as_slice() == text.as_bytes());
+}
+
+/// The keys are those of r6.
+fn expect_r6(rt: &impl Abort, alloc: Global, keys: &PartyKeys, c: &Cluster) {
+    expect_text(rt, alloc, keys, OF_R6);
+    assert!(rt; keys.me() == Party::Replica(6));
+    assert!(rt; *keys.cluster() == *c);
+    assert!(rt; keys.service() == ServiceName::Kv);
+    assert!(rt; keys.height() == Height::Five);
+}
+
+/// The tag of a text for c2 by the ring of these keys.
+fn tag_by(rt: &impl Abort, alloc: Global, keys: &PartyKeys) -> Option<[u8; 32]> {
+    let ring = keys.ring(alloc).expect(rt, "memory");
+    ring.tag_for(Party::Client(2), b"put a 1")
 }
 
 #[test]
 fn derived_text(rt: HostRuntime) {
+    let alloc = rt.alloc();
     let c = Cluster::new(2, 3, Plan::Aliph).expect(&rt, "in bounds");
     let me = Party::Replica(6);
     if !is_party(&c, me) {
         panic!(rt; "a party");
     }
-    let keys = PartyKeys::derive(rt.alloc(), &c, ServiceName::Kv, Height::Five, &SEED, me).expect(
+    let keys = PartyKeys::derive(alloc, &c, ServiceName::Kv, Height::Five, &SEED, me).expect(
         &rt, "memory",
     );
-    let text = keys.text(rt.alloc()).expect(&rt, "memory");
-    assert!(rt; text.as_slice() == OF_R6.as_bytes());
-    assert!(rt; keys.me() == me);
-    assert!(rt; *keys.cluster() == c);
-    assert!(rt; keys.service() == ServiceName::Kv);
-    assert!(rt; keys.height() == Height::Five);
-    let ring = keys.ring(rt.alloc()).expect(&rt, "memory");
-    let derived = KeyRing::derive(rt.alloc(), &c, &SEED, me).expect(&rt, "memory");
-    let to = Party::Client(2);
-    assert!(rt; ring.tag_for(to, b"put a 1") == derived.tag_for(to, b"put a 1"));
+    expect_r6(&rt, alloc, &keys, &c);
+    let tag = tag_by(&rt, alloc, &keys);
+    drop(keys);
+    let ring = KeyRing::derive(alloc, &c, &SEED, me).expect(&rt, "memory");
+    assert!(rt; tag == ring.tag_for(Party::Client(2), b"put a 1"));
+}
+
+/// The text is read, and written as it was.
+fn expect_read(rt: &impl Abort, alloc: Global, text: &str) {
+    match PartyKeys::read(alloc, text.as_bytes()) {
+        Ok(keys) => expect_text(rt, alloc, &keys, text),
+        Err(_) => panic!(rt; "a key text"),
+    }
 }
 
 #[test]
 fn read_text(rt: HostRuntime) {
-    for text in [OF_C0, OF_R6] {
-        match PartyKeys::read(rt.alloc(), text.as_bytes()) {
-            Ok(keys) => assert!(rt;
-                keys.text(rt.alloc()).expect(&rt, "memory").as_slice() == text.as_bytes()
-            ),
-            Err(_) => panic!(rt; "a key text"),
-        }
-    }
+    expect_read(&rt, rt.alloc(), OF_C0);
+    expect_read(&rt, rt.alloc(), OF_R6);
     let open = OF_C0.strip_suffix("\n").expect(&rt, "it ends so");
-    assert!(rt; fault_of(&rt, open) == None);
+    assert!(rt; fault_of(rt.alloc(), open) == None);
+}
+
+/// With one replaced by another, the text of c0 has this fault.
+fn expect_fault(rt: &impl Abort, alloc: Global, old: &str, new: &str, fault: Option<KeyFault>) {
+    let text = altered(alloc, OF_C0, old, new).expect(rt, "memory");
+    assert!(rt; fault_of(alloc, text.as_str()) == fault);
 }
 
 #[test]
 fn bad_lines(rt: HostRuntime) {
+    let alloc = rt.alloc();
     let cases = [
         ("party c0\n", "", 2),
         ("party c0\n", "party c1\n", 2),
@@ -136,50 +164,51 @@ fn bad_lines(rt: HostRuntime) {
         ("public r3 0", "public r4 0", 19),
     ];
     for (old, new, n) in cases {
-        let text = altered(&rt, OF_C0, old, new).expect(&rt, "memory");
-        assert!(rt; fault_of(&rt, text.as_str()) == Some(KeyFault::BadLine(n)));
+        expect_fault(&rt, alloc, old, new, Some(KeyFault::BadLine(n)));
     }
-    let more = altered(&rt, OF_C0, "keys 1\n", "keys 1\n").expect(&rt, "memory");
-    assert!(rt; fault_of(&rt, more.as_str()) == None);
-    assert!(rt; fault_of(&rt, "") == Some(KeyFault::BadLine(1)));
-    assert!(rt; fault_of(&rt, "keys 1\nparty r9\nf 1\nclients x\n") == Some(KeyFault::BadLine(4)));
-    assert!(rt; fault_of(&rt, "keys 1\nparty r9\nf 1\nclients 1\n") == Some(KeyFault::BadLine(2)));
-    assert!(rt; fault_of(&rt, "keys 1\nparty r1\nf 1\nclients 1\n") == Some(KeyFault::BadLine(5)));
+    expect_fault(&rt, alloc, "keys 1\n", "keys 1\n", None);
+    assert!(rt; fault_of(alloc, "") == Some(KeyFault::BadLine(1)));
+    assert!(rt;
+        fault_of(alloc, "keys 1\nparty r9\nf 1\nclients x\n") == Some(KeyFault::BadLine(4))
+    );
+    assert!(rt;
+        fault_of(alloc, "keys 1\nparty r9\nf 1\nclients 1\n") == Some(KeyFault::BadLine(2))
+    );
+    assert!(rt;
+        fault_of(alloc, "keys 1\nparty r1\nf 1\nclients 1\n") == Some(KeyFault::BadLine(5))
+    );
 }
 
 /// What is wrong with a node's text.
-fn node_fault(rt: &HostRuntime, front: &str, back: &str) -> Option<Option<NodeFault>> {
-    let text = format!(in rt.alloc(); "{front}{back}").ok()?;
+fn node_fault(alloc: Global, front: &str, back: &str) -> Option<Option<NodeFault>> {
+    let text = format!(in alloc; "{front}{back}").ok()?;
     if text.len() > 100000 {
         return None;
     }
-    Some(read_node(rt.alloc(), text.as_bytes()).err())
+    Some(read_node(alloc, text.as_bytes()).err())
+}
+
+/// A node's text of these two parts has this fault.
+fn expect_node(rt: &impl Abort, alloc: Global, front: &str, back: &str, fault: Option<NodeFault>) {
+    let found = node_fault(alloc, front, back).expect(rt, "memory");
+    assert!(rt; found == fault);
 }
 
 #[test]
 fn nodes(rt: HostRuntime) {
-    assert!(rt; node_fault(&rt, OF_C0, "end\n").expect(&rt, "memory") == None);
-    assert!(rt; node_fault(&rt, OF_C0, "do put a 1\ndo  x\nend").expect(&rt, "memory") == None);
-    assert!(rt; node_fault(&rt, OF_R6, "end").expect(&rt, "memory") == None);
-    assert!(rt; node_fault(&rt, OF_C0, "").expect(&rt, "memory") == Some(NodeFault::NoEnd(20)));
-    assert!(rt;
-        node_fault(&rt, OF_C0, "do put a 1\n").expect(&rt, "memory") == Some(NodeFault::NoEnd(21))
-    );
-    assert!(rt;
-        node_fault(&rt, OF_C0, "end\nend\n").expect(&rt, "memory") == Some(NodeFault::BadLine(21))
-    );
-    assert!(rt;
-        node_fault(&rt, OF_C0, "do \nend\n").expect(&rt, "memory") == Some(NodeFault::BadLine(20))
-    );
-    assert!(rt;
-        node_fault(&rt, OF_C0, "do a\tb\nend\n").expect(&rt, "memory")
-            == Some(NodeFault::BadLine(20))
-    );
-    assert!(rt;
-        node_fault(&rt, OF_R6, "do put a 1\nend\n").expect(&rt, "memory")
-            == Some(NodeFault::BadLine(34))
-    );
-    assert!(rt;
-        node_fault(&rt, "keys 1\nparty c0\n", "").expect(&rt, "memory") == Some(NodeFault::NoEnd(3))
-    );
+    let cases = [
+        (OF_C0, "end\n", None),
+        (OF_C0, "do put a 1\ndo  x\nend", None),
+        (OF_R6, "end", None),
+        (OF_C0, "", Some(NodeFault::NoEnd(20))),
+        (OF_C0, "do put a 1\n", Some(NodeFault::NoEnd(21))),
+        (OF_C0, "end\nend\n", Some(NodeFault::BadLine(21))),
+        (OF_C0, "do \nend\n", Some(NodeFault::BadLine(20))),
+        (OF_C0, "do a\tb\nend\n", Some(NodeFault::BadLine(20))),
+        (OF_R6, "do put a 1\nend\n", Some(NodeFault::BadLine(34))),
+        ("keys 1\nparty c0\n", "", Some(NodeFault::NoEnd(3))),
+    ];
+    for (front, back, fault) in cases {
+        expect_node(&rt, rt.alloc(), front, back, fault);
+    }
 }

@@ -2,9 +2,9 @@
 
 ghost use Rattle.std.specs.Prelude.{◌<◌};
 
-use ab_num::{Height, Party, Plan, ServiceName};
+use ab_num::{Height, OutOfMemory, Party, Plan, ServiceName};
 use ab_text::{
-    Breach, Cause, Core, Event, Items, Line, Premise, TextFault, fault_is_first, one_reading,
+    Breach, Cause, Core, Event, Head, Items, Line, Premise, TextFault, fault_is_first, one_reading,
     read_is_in_form, read_is_spelled, read_schedule, spelled_is_read, write_end, write_log,
     write_premise, write_seen,
 };
@@ -73,6 +73,18 @@ fn heads(rt: HostRuntime) {
     }
 }
 
+/// The plan of a cluster whose head names it so.
+fn plan_by(alloc: Global, name: &str) -> Option<Plan> {
+    let text = format!(in alloc;
+        "abstract 1\nf 1\nplan {name}\nclients 1\nservice kv\nlms 10\nrun\nend\n"
+    ).ok()?;
+    if text.len() > 1000 {
+        return None;
+    }
+    let schedule = read_schedule(alloc, text.as_bytes()).ok()?;
+    Some(schedule.head.cluster.plan)
+}
+
 #[test]
 fn plans(rt: HostRuntime) {
     let alloc = rt.alloc();
@@ -82,14 +94,7 @@ fn plans(rt: HostRuntime) {
         ("backup", Plan::Backup),
     ];
     for (name, plan) in cases {
-        let text = format!(in alloc;
-            "abstract 1\nf 1\nplan {name}\nclients 1\nservice kv\nlms 10\nrun\nend\n"
-        ).expect(&rt, "memory");
-        assert!(rt; text.len() < 1000);
-        match read_schedule(alloc, text.as_bytes()) {
-            Err(_) => assert!(rt; false),
-            Ok(schedule) => assert!(rt; schedule.head.cluster.plan == plan),
-        }
+        assert!(rt; plan_by(alloc, name) == Some(plan));
     }
 }
 
@@ -149,6 +154,32 @@ fn lines(rt: HostRuntime) {
     assert!(rt; fault_in(alloc, &rt, text.as_bytes()) == None);
 }
 
+/// The head is that of a Quorum with one client, and no party is faulty.
+fn expect_head(rt: &impl Abort, head: &Head) {
+    let cluster = &head.cluster;
+    assert!(rt; (cluster.f, cluster.clients, cluster.plan) == (1, 1, Plan::Quorum));
+    assert!(rt; (head.service, head.lms) == (ServiceName::Echo, Height::Five));
+    assert!(rt; head.faulty.as_slice().len() == 0);
+}
+
+/// A command with blanks comes, and two deliveries.
+fn expect_events(rt: &impl Abort, events: &[Event]) {
+    match events {
+        [
+            Event::Invoke { core, command },
+            Event::Deliver { packet: 1, .. },
+            Event::Deliver {
+                packet: 8,
+                core: None,
+            },
+        ] => {
+            assert!(rt; core.party == Party::Client(0));
+            assert!(rt; command.as_slice() == b" x ".as_slice());
+        }
+        _ => assert!(rt; false),
+    }
+}
+
 #[test]
 fn reads(rt: HostRuntime) {
     let text =
@@ -162,27 +193,8 @@ fn reads(rt: HostRuntime) {
     match read_schedule(rt.alloc(), text) {
         Err(_) => assert!(rt; false),
         Ok(schedule) => {
-            let head = &schedule.head;
-            assert!(rt; (head.cluster.f, head.cluster.clients) == (1, 1));
-            assert!(rt;
-                (head.cluster.plan, head.service, head.lms)
-                    == (Plan::Quorum, ServiceName::Echo, Height::Five)
-            );
-            assert!(rt; head.faulty.as_slice().len() == 0);
-            match schedule.events.as_slice() {
-                [
-                    Event::Invoke { core, command },
-                    Event::Deliver { packet: 1, .. },
-                    Event::Deliver {
-                        packet: 8,
-                        core: None,
-                    },
-                ] => {
-                    assert!(rt; core.party == Party::Client(0));
-                    assert!(rt; command.as_slice() == b" x ".as_slice());
-                }
-                _ => assert!(rt; false),
-            }
+            expect_head(&rt, &schedule.head);
+            expect_events(&rt, schedule.events.as_slice());
         }
     }
 }
@@ -243,18 +255,20 @@ fn reads_twins(rt: HostRuntime) {
     match read_schedule(alloc, text.as_bytes()) {
         Err(_) => assert!(rt; false),
         Ok(schedule) => {
-            assert!(rt;
-                schedule.head.faulty.as_slice()
-                    == [
-                        (Party::Replica(0), 1),
-                        (Party::Replica(3), 4),
-                        (Party::Client(0), 2)
-                    ]
-                    .as_slice()
-            );
+            has_twins(&rt, schedule.head.faulty.as_slice());
             has_twin_events(&rt, schedule.events.as_slice());
         }
     }
+}
+
+/// Checks that these are the faulty parties of the schedule with twins, and how many cores each has.
+fn has_twins(rt: &impl Abort, faulty: &[(Party, u8)]) {
+    let wanted = [
+        (Party::Replica(0), 1),
+        (Party::Replica(3), 4),
+        (Party::Client(0), 2),
+    ];
+    assert!(rt; faulty == wanted.as_slice());
 }
 
 /// Checks that these are the events of the schedule with twins.
@@ -316,84 +330,101 @@ fn reply(text: &[u8]) -> ArrayVec<u8, 72> {
     reply
 }
 
+/// Writes a line, and lets it go.
+fn write(alloc: Global, out: &mut Vec<u8>, line: Line) -> Result<(), OutOfMemory> {
+    let written = write_seen(alloc, out, &line);
+    drop(line);
+    written
+}
+
+fn write_refused(alloc: Global, out: &mut Vec<u8>) -> Result<(), OutOfMemory> {
+    for (event, party, cause) in [
+        (9, Party::Client(0), Cause::Tag),
+        (18, Party::Replica(0), Cause::Bad),
+        (18, Party::Replica(0), Cause::Kind),
+    ] {
+        let line = Line::Refused {
+            event,
+            party,
+            cause,
+        };
+        write(alloc, out, line)?;
+    }
+    Ok(())
+}
+
+fn write_histories(alloc: Global, out: &mut Vec<u8>) -> Option<()> {
+    let cert = Line::Cert {
+        event: 22,
+        party: Party::Client(0),
+        instance: 1,
+        entries: three(alloc)?,
+    };
+    write(alloc, out, cert).ok()?;
+    let init = Line::Init {
+        event: 23,
+        replica: 0,
+        instance: 2,
+        entries: three(alloc)?,
+    };
+    write(alloc, out, init).ok()
+}
+
+fn write_others(alloc: Global, out: &mut Vec<u8>) -> Result<(), OutOfMemory> {
+    let invoked = Line::Invoked {
+        event: 31,
+        client: 0,
+        instance: 1,
+        stamp: 2,
+    };
+    write(alloc, out, invoked)?;
+    let commit = Line::Commit {
+        event: 9,
+        client: 0,
+        instance: 1,
+        stamp: 1,
+        n: 1,
+        reply: reply(b"put a 1"),
+    };
+    write(alloc, out, commit)?;
+    let spent = Line::Spent {
+        event: 33,
+        replica: 1,
+    };
+    write(alloc, out, spent)
+}
+
+fn write_premises(alloc: Global, out: &mut Vec<u8>) -> Result<(), OutOfMemory> {
+    let forged = Premise::Broken {
+        event: 9,
+        breach: Breach::Forged,
+        party: Party::Replica(3),
+    };
+    let faulty = Premise::Broken {
+        event: 0,
+        breach: Breach::Faulty,
+        party: Party::Replica(1),
+    };
+    write_premise(alloc, out, &Premise::Held)?;
+    write_premise(alloc, out, &forged)?;
+    write_premise(alloc, out, &faulty)
+}
+
+/// Writes a report.
+fn write_all(alloc: Global, out: &mut Vec<u8>) -> Option<()> {
+    write_refused(alloc, out).ok()?;
+    write_histories(alloc, out)?;
+    write_others(alloc, out).ok()?;
+    write_log(alloc, out, 1, 1, &[(0, 1)]).ok()?;
+    write_log(alloc, out, 2, 1, &[]).ok()?;
+    write_premises(alloc, out).ok()?;
+    write_end(alloc, out, 35, 62).ok()
+}
+
 #[test]
 fn writes(rt: HostRuntime) {
-    let alloc = rt.alloc();
-    let mut out = Vec::new(alloc);
-    let lines = [
-        Line::Refused {
-            event: 9,
-            party: Party::Client(0),
-            cause: Cause::Tag,
-        },
-        Line::Refused {
-            event: 18,
-            party: Party::Replica(0),
-            cause: Cause::Bad,
-        },
-        Line::Refused {
-            event: 18,
-            party: Party::Replica(0),
-            cause: Cause::Kind,
-        },
-        Line::Cert {
-            event: 22,
-            party: Party::Client(0),
-            instance: 1,
-            entries: three(alloc).expect(&rt, "memory"),
-        },
-        Line::Init {
-            event: 23,
-            replica: 0,
-            instance: 2,
-            entries: three(alloc).expect(&rt, "memory"),
-        },
-        Line::Invoked {
-            event: 31,
-            client: 0,
-            instance: 1,
-            stamp: 2,
-        },
-        Line::Commit {
-            event: 9,
-            client: 0,
-            instance: 1,
-            stamp: 1,
-            n: 1,
-            reply: reply(b"put a 1"),
-        },
-        Line::Spent {
-            event: 33,
-            replica: 1,
-        },
-    ];
-    for line in &lines {
-        write_seen(alloc, &mut out, line).expect(&rt, "memory");
-    }
-    write_log(alloc, &mut out, 1, 1, &[(0, 1)]).expect(&rt, "memory");
-    write_log(alloc, &mut out, 2, 1, &[]).expect(&rt, "memory");
-    write_premise(alloc, &mut out, &Premise::Held).expect(&rt, "memory");
-    write_premise(
-        alloc,
-        &mut out,
-        &Premise::Broken {
-            event: 9,
-            breach: Breach::Forged,
-            party: Party::Replica(3),
-        },
-    )
-    .expect(&rt, "memory");
-    write_premise(
-        alloc,
-        &mut out,
-        &Premise::Broken {
-            event: 0,
-            breach: Breach::Faulty,
-            party: Party::Replica(1),
-        },
-    )
-    .expect(&rt, "memory");
-    write_end(alloc, &mut out, 35, 62).expect(&rt, "memory");
+    let mut out = Vec::new(rt.alloc());
+    write_all(rt.alloc(), &mut out).expect(&rt, "memory");
     let want =
         b"refused 9 c0 tag\nrefused 18 r0 bad\nrefused 18 r0 kind\ncert 22 c0 1 c0.1,c1.1,c2.1\ninit 23 r0 2 c0.1,c1.1,c2.1\ninvoked 31 c0 1 2\ncommit 9 c0 1 1 1 put a 1\nspent 33 r1\nlog r1 1 c0.1\nlog r2 1 -\npremise held\npremise broken 9 forged r3\npremise broken 0 faulty r1\nend 35 62\n";
     assert!(rt; out.as_slice() == want.as_slice());
