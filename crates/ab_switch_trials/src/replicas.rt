@@ -91,9 +91,11 @@ fn brought(e: &Effects) -> Option<usize> {
     }
 }
 
-/// What a replica did: whether it had no signature left, how many messages and marks there are, and what went to client 0 alone.
+/// What a replica did: whether it took the message, whether it had no signature left, how many messages and marks there are, and
+/// what went to client 0 alone.
 #[derive(Drop)]
 struct Done {
+    taken: bool,
     spent: bool,
     outs: usize,
     marks: usize,
@@ -112,6 +114,7 @@ fn heard<P: Protocol<Echo>, N: Notary>(
     ensures { result.spent ≡ false → IsPenOf (N.pen n.new) (N.remains n.new) replica.new }
 {
     let mut done = Done {
+        taken: false,
         spent: true,
         outs: 0,
         marks: 0,
@@ -121,6 +124,7 @@ fn heard<P: Protocol<Echo>, N: Notary>(
     if let Ok(m) = read(bytes) {
         if let Ok(e) = replica.on(alloc, m, n) {
             done = Done {
+                taken: true,
                 spent: e.spent,
                 outs: e.outs.len(),
                 marks: e.marks.len(),
@@ -163,7 +167,7 @@ fn is_spent<P: Protocol<Echo>>(alloc: Global, c: &Cluster) -> Option<bool>
     let done = heard(alloc, &mut replica, &mut pen, &REQUEST);
     let used = replica.used();
     drop(replica);
-    Some(done.spent && done.outs == 0 && used == 0)
+    Some(done.taken && done.spent && done.outs == 0 && used == 0)
 }
 
 /// Whether replica 2 enters instance 2 by an INIT, and then answers the request of instance 1 with the
