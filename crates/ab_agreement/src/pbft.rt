@@ -26,13 +26,24 @@ use std::marker::Model;
 /// of a view prepare a value, and 2f + 1 COMMITs execute it. Replicas that wait too long change to the next view, which
 /// begins with what 2f + 1 of them had prepared (Castro and Liskov, OSDI 1999). How often this replica left a view is
 /// counted in `left`.
-#[derive(Drop)]
 pub struct Pbft {
     cluster: Cluster,
     seat: Seat,
     memory: Memory,
     shelf: Shelf,
     left: u32,
+}
+
+impl Drop for Pbft {
+    fn drop(self) {
+        let Pbft {
+            cluster: _,
+            seat: _,
+            memory: _,
+            shelf: _,
+            left: _,
+        } = self;
+    }
 }
 
 impl Model for Pbft {

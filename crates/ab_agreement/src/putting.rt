@@ -39,7 +39,7 @@ fn put_ballot(shelf: &mut Shelf, prepare: Signed, input: &Input) -> Result<(), O
                 by: *by,
                 slot: *slot,
                 x: *x,
-                sig: prepare.sig,
+                sig: prepare.into_sig(),
             },
         ),
         _ => Ok(()),

@@ -31,7 +31,6 @@ use std::alloc::Global;
 use std::marker::Model;
 
 /// Each party's own core, the further cores of faulty parties, and how many events came to them.
-#[derive(Drop)]
 pub struct Cast<S: Service, P: Protocol<S>> {
     setup: Setup,
     replicas: Vec<Replica<S, P>>,
@@ -39,6 +38,19 @@ pub struct Cast<S: Service, P: Protocol<S>> {
     replica_twins: Vec<Replica<S, P>>,
     client_twins: Vec<Client>,
     events: u32,
+}
+
+impl<S: Service, P: Protocol<S>> Drop for Cast<S, P> {
+    fn drop(self) {
+        let Cast {
+            setup: _,
+            replicas: _,
+            clients: _,
+            replica_twins: _,
+            client_twins: _,
+            events: _,
+        } = self;
+    }
 }
 
 impl<S: Service, P: Protocol<S>> Model for Cast<S, P> {

@@ -30,7 +30,6 @@ use std::marker::Model;
 /// and digest, and those above 2f + 1 to the same reply. The last one passes it to the client, who
 /// commits with the tags of the last f + 1 positions (TOCS 2015, Chain). A stopped replica takes no
 /// request.
-#[derive(Drop)]
 pub struct Chain<S: Service> {
     cluster: Cluster,
     instance: u32,
@@ -39,6 +38,20 @@ pub struct Chain<S: Service> {
     book: Book<S>,
     trial: Trial<S>,
     stopped: bool,
+}
+
+impl<S: Service> Drop for Chain<S> {
+    fn drop(self) {
+        let Chain {
+            cluster: _,
+            instance: _,
+            me: _,
+            base: _,
+            book: _,
+            trial: _,
+            stopped: _,
+        } = self;
+    }
 }
 
 impl<S: Service> Model for Chain<S> {

@@ -10,10 +10,18 @@ use ab_svc::{Reply, Service};
 use std::alloc::Global;
 
 /// The service, as it is after the first so many requests of a log.
-#[derive(Drop)]
 pub(crate) struct Trial<S: Service> {
     pub(crate) state: S,
     pub(crate) served: usize,
+}
+
+impl<S: Service> Drop for Trial<S> {
+    fn drop(self) {
+        let Trial {
+            state: _,
+            served: _,
+        } = self;
+    }
 }
 
 impl<S: Service> Trial<S> {

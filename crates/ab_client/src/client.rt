@@ -51,7 +51,6 @@ impl From<OutOfMemory> for InvokeFault {
 
 /// A client in its present instance: the certificate by which it entered, its last request with the
 /// votes for it, and the ABORTs of the instance by ascending replica.
-#[derive(Drop)]
 pub struct Client {
     cluster: Cluster,
     me: u16,
@@ -62,6 +61,22 @@ pub struct Client {
     last: Option<Request>,
     votes: Votes,
     kept: Vec<Signed>,
+}
+
+impl Drop for Client {
+    fn drop(self) {
+        let Client {
+            cluster: _,
+            me: _,
+            instance: _,
+            cert: _,
+            phase: _,
+            stamp: _,
+            last: _,
+            votes: _,
+            kept: _,
+        } = self;
+    }
 }
 
 impl Model for Client {

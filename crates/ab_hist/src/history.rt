@@ -27,11 +27,20 @@ pub enum PushFault {
 
 /// A list of requests in which the stamps of each client rise. A digest is kept for each place, and
 /// an index of the entries, so that no call but `copy`, `is_prefix_of` and `cut` walks the list.
-#[derive(Drop)]
 pub struct History {
     requests: Vec<Request>,
     digests: Vec<[u8; 32]>,
     index: Index,
+}
+
+impl Drop for History {
+    fn drop(self) {
+        let History {
+            requests: _,
+            digests: _,
+            index: _,
+        } = self;
+    }
 }
 
 impl Model for History {

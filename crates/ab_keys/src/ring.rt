@@ -13,11 +13,20 @@ use std::marker::Model;
 
 /// The keys of one party of a cluster: for each party that it exchanges tags with, the key to it and
 /// the key from it. It makes and checks tags, and gives out no key. It has no text form.
-#[derive(Drop)]
 pub struct KeyRing {
     cluster: Cluster,
     me: Party,
     peers: Vec<Peer>,
+}
+
+impl Drop for KeyRing {
+    fn drop(self) {
+        let KeyRing {
+            cluster: _,
+            me: _,
+            peers: _,
+        } = self;
+    }
 }
 
 impl Model for KeyRing {

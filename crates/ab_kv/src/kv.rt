@@ -32,9 +32,14 @@ type Value = ArrayVec<u8, VALUE_BYTES>;
 /// - `cas KEY OLD NEW` is `none` where KEY has no value, and `no` where its value isn't OLD. Else it
 ///   is `ok`, and KEY has NEW.
 /// - All else is `bad`, and changes nothing.
-#[derive(Drop)]
 pub struct Kv {
     values: BTreeMap<Key, Value>,
+}
+
+impl Drop for Kv {
+    fn drop(self) {
+        let Kv { values: _ } = self;
+    }
 }
 
 /// It is seen as the map from the bytes of each key to those of its value.

@@ -13,12 +13,22 @@ use std::marker::Model;
 
 /// A private key with the nodes of its tree, 64 bytes for each leaf, so that a signature costs one
 /// one-time signature. Which leaf signs is the caller's choice; each must sign one message only.
-#[derive(Drop)]
 pub struct Tree {
     height: Height,
     id: [u8; 16],
     seed: [u8; 32],
     nodes: Vec<[u8; 32]>,
+}
+
+impl Drop for Tree {
+    fn drop(self) {
+        let Tree {
+            height: _,
+            id: _,
+            seed: _,
+            nodes: _,
+        } = self;
+    }
 }
 
 impl Model for Tree {

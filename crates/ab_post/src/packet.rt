@@ -6,10 +6,15 @@ use ab_num::Party;
 use std::marker::Model;
 
 /// To whom bytes were sent, and the bytes.
-#[derive(Drop)]
 pub struct Packet {
     to: Party,
     bytes: Vec<u8>,
+}
+
+impl Drop for Packet {
+    fn drop(self) {
+        let Packet { to: _, bytes: _ } = self;
+    }
 }
 
 /// Its bytes are seen as a list.

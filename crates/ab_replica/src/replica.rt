@@ -32,7 +32,6 @@ use std::mem::{drop, replace};
 
 /// A replica in its present instance, with the certificate by which it entered, and its ABORT there
 /// once it is signed.
-#[derive(Drop)]
 pub struct Replica<S: Service, P: Protocol<S>> {
     cluster: Cluster,
     me: u8,
@@ -44,6 +43,23 @@ pub struct Replica<S: Service, P: Protocol<S>> {
     used: u64,
     entries: u32,
     of: PhantomData<S>,
+}
+
+impl<S: Service, P: Protocol<S>> Drop for Replica<S, P> {
+    fn drop(self) {
+        let Replica {
+            cluster: _,
+            me: _,
+            signatures: _,
+            instance: _,
+            value: _,
+            entry: _,
+            abort: _,
+            used: _,
+            entries: _,
+            of: _,
+        } = self;
+    }
 }
 
 impl<S: Service, P: Protocol<S>> Model for Replica<S, P> {

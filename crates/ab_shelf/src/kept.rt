@@ -8,7 +8,6 @@ use arrayvec::ArrayVec;
 use std::alloc::Global;
 
 /// The signed PREPARE of a replica for a slot of the present view, with the digest of the slot's value.
-#[derive(Drop)]
 pub struct Ballot {
     pub by: u8,
     pub slot: u8,
@@ -16,12 +15,32 @@ pub struct Ballot {
     pub sig: Sig,
 }
 
+impl Drop for Ballot {
+    fn drop(self) {
+        let Ballot {
+            by: _,
+            slot: _,
+            x: _,
+            sig: _,
+        } = self;
+    }
+}
+
 /// A value that is prepared in a view, with 2f + 1 PREPAREs of that, by ascending replica.
-#[derive(Drop)]
 pub struct Sealed {
     pub at: u32,
     pub value: Value,
     pub prepares: SlotPrepares,
+}
+
+impl Drop for Sealed {
+    fn drop(self) {
+        let Sealed {
+            at: _,
+            value: _,
+            prepares: _,
+        } = self;
+    }
 }
 
 /// The tags of a client's last request.

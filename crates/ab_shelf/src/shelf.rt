@@ -15,7 +15,6 @@ use std::marker::Model;
 /// What a replica of PBFT keeps in one instance beside what its rules speak of: the certificate by which it
 /// entered, the signed PREPAREs of its present view, each slot's last certificate, the VIEW-CHANGEs of the replicas,
 /// and the tags of each client's last request.
-#[derive(Drop)]
 pub struct Shelf {
     pub(crate) entry: AbortCert,
     pub(crate) view: u32,
@@ -23,6 +22,19 @@ pub struct Shelf {
     pub(crate) sealed: Vec<Option<Sealed>>,
     pub(crate) proofs: Vec<Proof>,
     pub(crate) tagged: Vec<Tagged>,
+}
+
+impl Drop for Shelf {
+    fn drop(self) {
+        let Shelf {
+            entry: _,
+            view: _,
+            ballots: _,
+            sealed: _,
+            proofs: _,
+            tagged: _,
+        } = self;
+    }
 }
 
 impl Model for Shelf {

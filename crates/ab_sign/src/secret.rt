@@ -14,13 +14,24 @@ use std::marker::Model;
 /// The secret of a replica: the height and the name of its tree, and the seed of its private values.
 /// Its public key and its tree are made when they are first needed, and then kept. No proof knows what a
 /// cell holds, so what was kept is used only where it is of this secret.
-#[derive(Drop)]
 pub struct SecretKey {
     height: Height,
     id: [u8; 16],
     seed: [u8; 32],
     public: OnceCell<Published>,
     tree: OnceCell<Tree>,
+}
+
+impl Drop for SecretKey {
+    fn drop(self) {
+        let SecretKey {
+            height: _,
+            id: _,
+            seed: _,
+            public: _,
+            tree: _,
+        } = self;
+    }
 }
 
 impl Model for SecretKey {

@@ -9,10 +9,15 @@ use std::alloc::Global;
 use std::marker::Model;
 
 /// A value of a slot that 2f + 1 PREPAREs of a view back.
-#[derive(Drop)]
 pub struct Cert {
     at: u32,
     value: Value,
+}
+
+impl Drop for Cert {
+    fn drop(self) {
+        let Cert { at: _, value: _ } = self;
+    }
 }
 
 impl Model for Cert {
@@ -25,10 +30,15 @@ impl Model for Cert {
 }
 
 /// A VIEW-CHANGE of a replica, with the certificates of the slots from 0 on.
-#[derive(Drop)]
 pub struct Change {
     by: u8,
     certs: Vec<Cert>,
+}
+
+impl Drop for Change {
+    fn drop(self) {
+        let Change { by: _, certs: _ } = self;
+    }
 }
 
 impl Model for Change {

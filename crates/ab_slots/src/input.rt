@@ -14,12 +14,22 @@ use std::marker::Model;
 
 /// A slot of a VIEW-CHANGE: the view and the digest that are signed, the value, and the replicas whose PREPAREs stand
 /// beside it.
-#[derive(Drop)]
 pub struct ProvedSlot {
     at: u32,
     x: [u8; 32],
     value: Value,
     by: Vec<u8>,
+}
+
+impl Drop for ProvedSlot {
+    fn drop(self) {
+        let ProvedSlot {
+            at: _,
+            x: _,
+            value: _,
+            by: _,
+        } = self;
+    }
 }
 
 impl Model for ProvedSlot {
@@ -31,11 +41,20 @@ impl Model for ProvedSlot {
 }
 
 /// A VIEW-CHANGE of a replica for a view.
-#[derive(Drop)]
 pub struct ChangeInput {
     by: u8,
     view: u32,
     slots: Vec<ProvedSlot>,
+}
+
+impl Drop for ChangeInput {
+    fn drop(self) {
+        let ChangeInput {
+            by: _,
+            view: _,
+            slots: _,
+        } = self;
+    }
 }
 
 impl Model for ChangeInput {
@@ -130,7 +149,13 @@ impl ProvedSlot {
     fn into_cert(self) -> Cert
         ensures { result ≡ cert_of self }
     {
-        Cert::new(self.at, self.value)
+        let ProvedSlot {
+            at,
+            x: _,
+            value,
+            by: _,
+        } = self;
+        Cert::new(at, value)
     }
 }
 
@@ -167,12 +192,8 @@ impl ChangeInput {
     pub fn into_change(self, alloc: Global) -> Result<Change, OutOfMemory>
         ensures { IfOk result (λ c. c ≡ change_of self) }
     {
-        let by = self.by;
-        let certs = self
-            .slots
-            .into_iter()
-            .map(|s| s.into_cert())
-            .collect(alloc)?;
+        let ChangeInput { by, view: _, slots } = self;
+        let certs = slots.into_iter().map(|s| s.into_cert()).collect(alloc)?;
         Ok(Change::new(by, certs))
     }
 }

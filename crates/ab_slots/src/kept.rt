@@ -14,10 +14,15 @@ use std::alloc::Global;
 use std::marker::Model;
 
 /// A VIEW-CHANGE with its view.
-#[derive(Drop)]
 pub struct Kept {
     view: u32,
     change: Change,
+}
+
+impl Drop for Kept {
+    fn drop(self) {
+        let Kept { view: _, change: _ } = self;
+    }
 }
 
 impl Model for Kept {

@@ -17,10 +17,15 @@ use std::alloc::Global;
 use std::marker::Model;
 
 /// The values of the slots from 0 on, at most 256: a base, and then requests that may follow it.
-#[derive(Drop)]
 pub struct Slots {
     values: Vec<Value>,
     list: History,
+}
+
+impl Drop for Slots {
+    fn drop(self) {
+        let Slots { values: _, list: _ } = self;
+    }
 }
 
 impl Model for Slots {

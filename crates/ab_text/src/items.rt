@@ -7,9 +7,15 @@ use std::alloc::Global;
 use std::marker::Model;
 
 /// A list of values, which contracts see as a list.
-#[derive(Debug, Drop)]
+#[derive(Debug)]
 pub struct Items<T> {
     values: Vec<T>,
+}
+
+impl<T: Drop> Drop for Items<T> {
+    fn drop(self) {
+        let Items { values: _ } = self;
+    }
 }
 
 impl<T> Model for Items<T> {

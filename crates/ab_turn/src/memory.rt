@@ -23,7 +23,6 @@ use std::alloc::Global;
 /// Its view, the values that it accepted there, how many slots of these are signed and prepared, each slot's certificate
 /// of the highest view, the executed values, the votes of the view, the last VIEW-CHANGE of each replica, and the last
 /// request of each client.
-#[derive(Drop)]
 pub struct Memory {
     pub(crate) view: u32,
     pub(crate) changing: bool,
@@ -36,6 +35,24 @@ pub struct Memory {
     pub(crate) commits: Vec<Vote>,
     pub(crate) changes: Vec<Kept>,
     pub(crate) requests: Vec<Request>,
+}
+
+impl Drop for Memory {
+    fn drop(self) {
+        let Memory {
+            view: _,
+            changing: _,
+            accepted: _,
+            signed: _,
+            prepared: _,
+            certs: _,
+            executed: _,
+            votes: _,
+            commits: _,
+            changes: _,
+            requests: _,
+        } = self;
+    }
 }
 
 impl Memory {

@@ -10,13 +10,24 @@ use ab_num::OutOfMemory;
 use std::alloc::Global;
 
 /// Replica `me` of a cluster with f, in an instance of which it orders k requests, with the base that it entered with.
-#[derive(Drop)]
 pub struct Seat {
     pub k: u8,
     pub f: u8,
     pub instance: u32,
     pub me: u8,
     pub base: History,
+}
+
+impl Drop for Seat {
+    fn drop(self) {
+        let Seat {
+            k: _,
+            f: _,
+            instance: _,
+            me: _,
+            base: _,
+        } = self;
+    }
 }
 
 impl Seat {

@@ -18,11 +18,11 @@ checked-requires-in-Some-clause-aborts c =
 
 pub returns-in-Some : goal.returns-in-Some
 returns-in-Some c =
-    subst (λ (h : Option (List Request)). IfOk c.checked-in-Some-2.result (λ o. o ≡ h))
+    subst (λ (h : Option (List Request)). IfOk c.checked-in-Some.result (λ o. o ≡ h))
     (renamed_history c.args.c.now c.args.j c.args.cert.now c.of.result
     (ap Some c.of.ensures ∙ asked (3 * c.args.c.now.f + 1) c.replicas-replicas.result c.as_slice-2.result.now c.args.cert.now (Some c.in-Some.own.items)
     (sym (ap (option_map (λ v. v.items)) c.in-Some.is) ∙ c.in_ok-own.ensures) c.replicas-replicas.ensures c.as_slice-2.ensures))
-    c.checked-in-Some-2.ensures
+    c.checked-in-Some.ensures
 
 pub returns-in-None : goal.returns-in-None
 returns-in-None c =
