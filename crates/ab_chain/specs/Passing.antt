@@ -28,9 +28,6 @@ firsts-all P passes kept (t ∷ tags) all came = firsts-all P passes (if passes 
 lt_of : (a b : ℕ) → nat_lt a b ≡ true → a < b
 lt_of a b is = grind (arith, is)
 
-le_of : (a b : ℕ) → nat_le a b ≡ true → a ≤ b
-le_of a b is = grind (arith, is)
-
 module _ (f i client p : ℕ) where
   -- a place that is no position
   abbrev IsOutside : ℕ → Type 0

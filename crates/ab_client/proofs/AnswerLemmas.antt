@@ -33,15 +33,6 @@ use Rattle.ab_client.proofs.MovedLemmas.{moved_nothing, moved_so}
 
 -- ---- answers that are awaited
 
--- one that isn't awaited moves nothing
-pub heard_not : (p : Phase) (last : Option Request) (x y : Bool) (moves : Request → List Move) → ((is_waiting p && x) && y) ≡ false
-    → if_open p last (λ waits m. if (waits && x) && y then moves m else []) ≡ []
-heard_not Idle last x y moves e = refl
-heard_not Waiting None x y moves e = refl
-heard_not Waiting (Some m) x y moves e = ap (λ b. if b then moves m else []) e
-heard_not Panicking None x y moves e = refl
-heard_not Panicking (Some m) x y moves e = refl
-
 pub heard_so : (p : Phase) (last : Option Request) (x y : Bool) (moves : Request → List Move) (m : Request) → ((is_waiting p && x) && y) ≡ true → last ≡ Some m
     → if_open p last (λ waits m. if (waits && x) && y then moves m else []) ≡ moves m
 heard_so Idle last x y moves m e is = absurd (cc (e))
@@ -119,14 +110,8 @@ unanimous_kind k f (inr is) = (ap (λ k. rule_of k f) is, ap counts_responses is
 module _ (s : Seat) (m : Request) (b : Ballot) (kinds : (kind_of s.cluster.plan s.cli.at ≡ kind.Quorum) ⊎ (kind_of s.cluster.plan s.cli.at ≡ kind.ZLight))
     (waits : s.cli.phase ≡ Waiting) (asked : s.cli.last ≡ Some m) (replica : b.by < 3 * s.cluster.f + 1) (new : has_voted s.cli.votes b.by ≡ false)
     (equal : (r : ℕ) → r < 3 * s.cluster.f + 1 → r ≢ b.by → IsTrue (voted s.cli.votes b r)) where
-  last_claims : List Content
-  last_claims = map (vote_claim s.cli.at s.me m.stamp) (b ∷ s.cli.votes)
-
   full : is_full_by (rule_of (kind_of s.cluster.plan s.cli.at) s.cluster.f) (3 * s.cluster.f + 1) (b ∷ s.cli.votes) b ≡ true
   full = ap (λ r. is_full_by r (3 * s.cluster.f + 1) (b ∷ s.cli.votes) b) (unanimous_kind _ s.cluster.f kinds).0 ∙ all_so s.cli.votes b (3 * s.cluster.f + 1) equal (3 * s.cluster.f + 1) (omega arith)
-
-  commits : List Move
-  commits = move_vote b ∷ move_commit m b.n b.d b.reply (map (vote_claim s.cli.at s.me m.stamp) (b ∷ s.cli.votes)) ∷ []
 
   counted : counting (alone s.cluster) s.me s.cli m b ≡ move_vote b ∷ move_commit m b.n b.d b.reply (map (vote_claim s.cli.at s.me m.stamp) (b ∷ s.cli.votes)) ∷ []
   counted =

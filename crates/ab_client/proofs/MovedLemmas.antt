@@ -39,13 +39,6 @@ use Rattle.ab_client.proofs.Targets.{requests_are_drafts, certs_are_drafts, pani
 
 -- ---- the open request
 
-pub if_open-none : (p : Phase) (last : Option Request) (moves : Bool → Request → List Move) → open_request p last ≡ None → if_open p last moves ≡ []
-if_open-none Idle last moves e = refl
-if_open-none Waiting None moves e = refl
-if_open-none Waiting (Some m) moves e = absurd (cc (e))
-if_open-none Panicking None moves e = refl
-if_open-none Panicking (Some m) moves e = absurd (cc (e))
-
 pub if_open-some : (p : Phase) (last : Option Request) (moves : Bool → Request → List Move) (m : Request) → open_request p last ≡ Some m → if_open p last moves ≡ moves (is_waiting p) m
 if_open-some Idle last moves m e = absurd (cc (e))
 if_open-some Waiting None moves m e = absurd (cc (e))
@@ -59,12 +52,6 @@ if_open-still Waiting None moves each = refl
 if_open-still Waiting (Some m) moves each = each true m
 if_open-still Panicking None moves each = refl
 if_open-still Panicking (Some m) moves each = each false m
-
--- the last request is the one that is open
-pub open_last : (p : Phase) (last : Option Request) (m : Request) → open_request p last ≡ Some m → last ≡ Some m
-open_last Idle last m e = absurd (cc (e))
-open_last Waiting last m e = e
-open_last Panicking last m e = e
 
 -- ---- no move, and other ones
 
@@ -100,9 +87,6 @@ module _ (s : Seat) (placed : IsPlaced s.me s.cli) (m : Request) (last : s.cli.l
       (is : now ≡ record s { cli = after_move s.cli (move_take j cert h m) })
       (sends : sent ≡ cert_out (alone s.cluster) (Some cert) ++ request_out (alone s.cluster) (j + 1) m.client m)
       (shows : shown ≡ Cert j (Client s.me) h ∷ Invoked (j + 1) s.me m ∷ []) where
-    taken : List Out
-    taken = cert_out (alone s.cluster) (Some cert) ++ request_out (alone s.cluster) (j + 1) s.me m
-
     sent_is : sent ≡ cert_out (alone s.cluster) (Some cert) ++ request_out (alone s.cluster) (j + 1) s.me m
     sent_is = sends ∙ ap (λ c. cert_out (alone s.cluster) (Some cert) ++ request_out (alone s.cluster) (j + 1) c m) open_fits.0
 
@@ -158,9 +142,6 @@ moved_keep s now v is = record { client = is; stamp = ap (λ (t : Seat). t.cli.s
 -- ---- certificates
 
 module _ (c : Cluster) (s : Cli) (m : Request) (j : ℕ) (cert : List Signed) where
-  in_time : Bool
-  in_time = nat_le s.at j && nat_lt j 4294967295
-
   pub taking-some : (h : List Request) → history_of c j cert ≡ Some h → s.at ≤ j → j < 4294967295 → taking (alone c) s m j cert ≡ move_take j cert h m ∷ []
   taking-some h is late below =
       ap (taking_with (alone c) s m j cert) is ∙ ap (λ b. if b then move_take j cert h m ∷ [] else []) (both s.at late below)
@@ -190,15 +171,6 @@ module _ (c : Cluster) (s : Cli) (m : Request) (j : ℕ) (cert : List Signed) wh
 -- ---- ABORTs that come
 
 module _ (s : Seat) (v : Signed) (is : IsSigned IsAbort v) where
-  on_abort : Bool → Request → List Move
-  on_abort waits m = if is_abort_of s.cli.at v.content then keeping (alone s.cluster) s.cli m v else []
-
-  pub abort_elsewhere : (instance_of v.content ≡ s.cli.at → ⊥) → moves_on s (cue_message (msg.Abort v)) ≡ []
-  abort_elsewhere out = if_open-still s.cli.phase s.cli.last _ (λ waits m. ap (λ b. if b then keeping (alone s.cluster) s.cli m v else []) (is_abort_of-instance s.cli.at v is ∙ differs (instance_of v.content) s.cli.at out))
-    where
-      differs : (a b : ℕ) → (a ≡ b → ⊥) → (a == b) ≡ false
-      differs a b no_same = grind (arith, nat_tests, no_same)
-
   again : (a b : Bool) (moves : List Move) → b ≡ true → (if a then (if b then [] else moves) else []) ≡ []
   again true b moves e = ap (λ t. if t then [] else moves) e
   again false b moves e = refl
@@ -218,25 +190,6 @@ module _ (s : Seat) (v : Signed) (is : IsSigned IsAbort v) where
       same : (a b : ℕ) → a ≡ b → (a == b) ≡ true
       same a b e = grind (arith, nat_tests)
 
--- ---- certificates that come
-
-pub init_taken : (s : Seat) (cert : List Signed) (m : Request) → open_request s.cli.phase s.cli.last ≡ Some m
-    → moves_on s (cue_message (msg.Init cert)) ≡ taking (alone s.cluster) s.cli m (cert_instance cert) cert
-init_taken s cert m asked = if_open-some s.cli.phase s.cli.last _ m asked
-
--- ---- time
-
-pub time_spent : (s : Seat) (m : Request) → open_request s.cli.phase s.cli.last ≡ Some m
-    → moves_on s cue_time ≡ panics_in (kind_of s.cluster.plan s.cli.at) (is_waiting s.cli.phase) m
-time_spent s m asked = if_open-some s.cli.phase s.cli.last _ m asked
-
--- without an open request nothing moves it
-pub idle_moves : (s : Seat) (m : Msg) → open_request s.cli.phase s.cli.last ≡ None → moves_on s (cue_message m) ≡ []
-idle_moves s m none = if_open-none s.cli.phase s.cli.last _ none
-
-pub idle_time : (s : Seat) → open_request s.cli.phase s.cli.last ≡ None → moves_on s cue_time ≡ []
-idle_time s none = if_open-none s.cli.phase s.cli.last _ none
-
 -- ---- results
 
 -- what holds of one list of moves holds of another
@@ -245,42 +198,6 @@ pub moved_ok : (s : Seat) (moves other : List Move) (now : Seat) (r : Result (Li
     → IfOk r (λ x. IsMoved s moves now x.0 x.1.items) → IfOk r (λ x. IsMoved s other now x.0 x.1.items)
 moved_ok s moves other now (Ok x) same is = same x.0 x.1.items is
 moved_ok s moves other now (Err e) same is = is
-
-module _ (s : Seat) (cue : Cue) (now : Seat) (r : Result (List Out × ArrayVec Seen) OutOfMemory) (is : IfOk r (λ x. IsMoved s (moves_on s cue) now x.0 x.1.items)) where
-  pub moved_client : OnOk r (now ≡ after s cue)
-  moved_client = on r is
-    where
-      on : (q : Result (List Out × ArrayVec Seen) OutOfMemory) → IfOk q (λ x. IsMoved s (moves_on s cue) now x.0 x.1.items) → OnOk q (now ≡ after s cue)
-      on (Ok x) of = of.client
-      on (Err e) of = of
-
-  pub moved_stamp : OnOk r (now.cli.stamp ≡ s.cli.stamp)
-  moved_stamp = on r is
-    where
-      on : (q : Result (List Out × ArrayVec Seen) OutOfMemory) → IfOk q (λ x. IsMoved s (moves_on s cue) now x.0 x.1.items) → OnOk q (now.cli.stamp ≡ s.cli.stamp)
-      on (Ok x) of = of.stamp
-      on (Err e) of = of
-
-  pub moved_outs : IfOk r (λ x. x.0 ≡ sends s cue)
-  moved_outs = on r is
-    where
-      on : (q : Result (List Out × ArrayVec Seen) OutOfMemory) → IfOk q (λ x. IsMoved s (moves_on s cue) now x.0 x.1.items) → IfOk q (λ x. x.0 ≡ sends s cue)
-      on (Ok x) of = of.outs
-      on (Err e) of = of
-
-  pub moved_marks : IfOk r (λ x. x.1.items ≡ marks s cue)
-  moved_marks = on r is
-    where
-      on : (q : Result (List Out × ArrayVec Seen) OutOfMemory) → IfOk q (λ x. IsMoved s (moves_on s cue) now x.0 x.1.items) → IfOk q (λ x. x.1.items ≡ marks s cue)
-      on (Ok x) of = of.marks
-      on (Err e) of = of
-
-  pub moved_drafts : s.me ≤ 15 → IfOk r (λ x. All (IsDraftOf s.cluster.f (Client s.me)) x.0)
-  moved_drafts few = on r is
-    where
-      on : (q : Result (List Out × ArrayVec Seen) OutOfMemory) → IfOk q (λ x. IsMoved s (moves_on s cue) now x.0 x.1.items) → IfOk q (λ x. All (IsDraftOf s.cluster.f (Client s.me)) x.0)
-      on (Ok x) of = of.drafts few
-      on (Err e) of = of
 
 -- ---- an ABORT that completes a certificate, and one that does not
 

@@ -268,14 +268,6 @@ pub replay_settled : (c : Call) (r : Status) (fault : ReplayFault) → Settles r
     → ReplayCause fault c.left c.read_before c.read_now → IsKept c.out → StatusCause r c
 replay_settled c r fault how replay cause kept = settled c r (fault_status fault) how (fault_said c fault replay cause kept) (inl kept)
 
--- a storm that passes the limit of bytes
-pub limit_settled : (c : Call) (k : StormCommand) (r : Status) → Settles r (Limit Packets) c.err → AsksStorm c.words k → Passes k → IsKept c.out → StatusCause r c
-limit_settled c k r how asks passes kept = settled c r (Limit Packets) how (λ said. (inr (k, asks, passes), kept, said)) (inl kept)
-
--- a failed allocation that was to be said
-pub memory_settled : (c : Call) (r : Status) → Settles r OutOfMemory c.err → HasFront c → StatusCause r c
-memory_settled c r how front = settled c r OutOfMemory how (λ said. (front, inl said)) front
-
 -- an allocation failed before the command began
 pub refused_memory : (r : Status) (err : Output) → Settles r OutOfMemory err → ((code_of r ≡ 9) × SaysNoMemory err) ⊎ ((code_of r ≡ 5) × HasFailed err)
 refused_memory r err (inl (e, said)) = inl (ap code_of e, inl said)

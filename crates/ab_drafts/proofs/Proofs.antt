@@ -98,9 +98,6 @@ proof_in : (p : Proof) (proofs : List Proof) (x : Proof) → Contains (put_proof
 proof_in p [] x has = Contains-cons_cases p [] x has
 proof_in p (q ∷ proofs) x has = at (nat_lt (maker_of p) (maker_of q)) (maker_of p == maker_of q) (nat_lt (view_of q) (view_of p)) (λ more. proof_in p proofs x more) has
   where
-    older : Contains (q ∷ proofs) x → (p ≡ x) ⊎ Contains (q ∷ proofs) x
-    older there = inr there
-
     at : (below same new : Bool) → (Contains (put_proof p proofs) x → (p ≡ x) ⊎ Contains proofs x)
         → Contains (if below then (p ∷ q ∷ proofs) else (if same then ((if new then p else q) ∷ proofs) else (q ∷ put_proof p proofs))) x → (p ≡ x) ⊎ Contains (q ∷ proofs) x
     at true same new rest is = Contains-cons_cases p (q ∷ proofs) x is

@@ -161,57 +161,6 @@ module _ {P : Type 0} (proto : Proto P) (serves : Kind → Bool) (m : ReplicaMem
         (subst (λ f. All (IsDraftOf f r) (rep_sends (own_setup m) proto m.site.me m.site.rep call)) (sym is.f)
         (all_of (IsDraftOf m.site.cluster.f r) (rep_sends (own_setup m) proto m.site.me m.site.rep call) goes.drafts)))
 
--- ---- a client
-
-few_clients : (ring : Ring) (n : ℕ) → IsPartyRing ring → ring.me ≡ Client n → n ≤ 15
-few_clients ring n is own =
-    let lt : n < ring.clients = ltb-true n ring.clients (subst (λ p. IsTrue (is_party ring.f ring.clients p)) own is.party) in
-    omega (arith, lt, is.bounds.few_clients)
-
--- it stays the client of its ring
-pub client_stays : (m : ClientMember) (cue : Cue) (now : Seat) → IsClientMember m → now ≡ after m.seat cue → IsClientMember (record m { seat = now })
-client_stays m cue now is goes =
-    subst (λ (s : Seat). IsClientMember (record m { seat = s })) (sym goes) (record { ring = is.ring; own = is.own; f = is.f })
-
-pub client_does : (m : ClientMember) (cue : Cue) (now : Seat) (outs : List Out) (seen : List Seen) → IsClientMember m → Heard m.seat cue now outs seen → Does m cue (record m { seat = now }) outs seen
-client_does m cue now outs seen is heard = record {
-  after = ap (λ (s : Seat). let n : ClientMember = record m { seat = s } in n) heard.after;
-  sends = heard.sends;
-  shows = heard.shows;
-  drafts =
-      subst (λ p. All (IsDraftOf m.credentials.ring.f p) outs) (sym is.own)
-      (subst (λ f. All (IsDraftOf f (Client m.seat.me)) outs) (sym is.f) (heard.drafts (few_clients m.credentials.ring m.seat.me is.ring is.own)));
-  ring = is.ring;
-}
-
-pub heard_ok : {E : Type 0} (s : Seat) (cue : Cue) (now : Seat) (r : Result (List Out × ArrayVec Seen) E) → OnOk r (now ≡ after s cue) → IfOk r (λ x. x.0 ≡ sends s cue) → IfOk r (λ x. x.1.items ≡ marks s cue)
-    → (s.me ≤ 15 → IfOk r (λ x. All (IsDraftOf s.cluster.f (Client s.me)) x.0)) → IfOk r (λ x. Heard s cue now x.0 x.1.items)
-heard_ok s cue now (Ok x) goes sends shows drafts = record { after = goes; sends = sends; shows = shows; drafts = drafts }
-heard_ok s cue now (Err e) goes sends shows drafts = tt
-
-asks_not : (c : ℕ) (s : Cli) (p : Phase) (command : ArrayVec ℕ) → p ≢ Idle → asking c s p command ≡ []
-asks_not c s Idle command busy = absurd (busy refl)
-asks_not c s Waiting command busy = refl
-asks_not c s Panicking command busy = refl
-
--- while a request is open nothing comes of a command
-pub busy_hears : (s : Seat) (command : List ℕ) (now : Seat) (outs : List Out) (seen : List Seen) → s.cli.phase ≢ Idle → now ≡ s → outs ≡ [] → seen ≡ [] → Heard s (told command) now outs seen
-busy_hears s command now outs seen busy stays silent unseen =
-    let none : asking s.me s.cli s.cli.phase (record { items = command }) ≡ [] = asks_not s.me s.cli s.cli.phase (record { items = command }) busy in
-    record {
-      after = stays ∙ ap (λ (ms : List Move). let t : Seat = record s { cli = after_moves s.cli ms } in t) (sym none);
-      sends = silent ∙ ap (λ (ms : List Move). sent_in_moves (alone s.cluster) s.me s.cli ms) (sym none);
-      shows = unseen ∙ ap (λ (ms : List Move). marks_in_moves s.me s.cli ms) (sym none);
-      drafts = λ few. subst (All (IsDraftOf s.cluster.f (Client s.me))) (sym silent) (All-nil (IsDraftOf s.cluster.f (Client s.me)));
-    }
-
--- a command that is taken is in form, and leaves room for its stamp
-pub command_fits : (s : Cli) (command : List ℕ) → is_command s command ≡ true → (s.stamp < 2 ^ 63) × (1 ≤ length command) × (length command ≤ 128)
-command_fits s command is =
-    let a = and_parts (nat_lt s.stamp (2 ^ 63)) (nat_le 1 (length command) && nat_le (length command) 128) is in
-    let b = and_parts (nat_le 1 (length command)) (nat_le (length command) 128) a.1 in
-    (ltb-true s.stamp (2 ^ 63) a.0, leb-true 1 (length command) b.0, leb-true (length command) 128 b.1)
-
 -- ---- before the first event
 
 ring_of_party : (k : PartyKeys) (c : Cluster) → IsClusterOf c k → IsTrue (is_party k.f k.clients k.me) → IsPartyRing (credentials_in k).ring

@@ -48,11 +48,3 @@ can_send ring o is few to =
       some = omega (arith, length-append (u8_bytes (code_of m)) (spell_body m), length-u8_bytes (code_of m));
       few = few;
     }
-
--- one more of these
-pub sealed_more : (ring : Ring) (outs : List Out) (i : ℕ) (o : Out) → i < length outs → o ≡ get_or outs i o
-    → sealed_all ring (take (i + 1) outs) ≡ sealed_all ring (take i outs) ++ sealed_for ring o
-sealed_more ring outs i o lt is =
-    ap (sealed_all ring) (take_more outs i o lt ∙ ap (λ (x : Out). take i outs ++ x ∷ []) (sym is))
-    ∙ flat_map-append (sealed_for ring) (take i outs) (o ∷ [])
-    ∙ ap (λ l. sealed_all ring (take i outs) ++ l) (append-nil (sealed_for ring o))

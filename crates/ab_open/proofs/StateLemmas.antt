@@ -35,15 +35,6 @@ passed-some says n p left false e m =
 pub passed-first : (says : ℕ → Content) (n p left : ℕ) → left ≡ min (p - 1) n → each_before left says p ≡ each_before n says p
 passed-first says n p left m = sym (passed-some says n p left (leb (p - 1) n) refl m)
 
-here : (says : ℕ → Content) (left k p : ℕ) → left ≡ suc k → k + 2 ≤ p → each_before left says p ≡ says (p - (k + 1)) ∷ each_before k says p
-here says left k p is le = rw (is, le-leb (k + 2) p le) refl
-
-pub passed-next : (says : ℕ → Content) (left k p : ℕ) → left ≡ suc k → left < p → each_before left says p ≡ says (p - left) ∷ each_before k says p
-passed-next says left k p is lt =
-    let there : k + 2 ≤ p = omega arith in
-    let same : p - (k + 1) ≡ p - left = omega arith in
-    here says left k p is there ∙ ap (λ (q : ℕ). says q ∷ each_before k says p) same
-
 maker_said : (l : LinkRef) (o : Option (Bor (List ℕ))) (r : ℕ) → maker_of (said_by l o r) ≡ Replica r
 maker_said l None r = refl
 maker_said l (Some reply) r = refl
@@ -57,11 +48,6 @@ placed f clients (Replica r) h = ltb-true r (3 * f + 1) h
 placed f clients (Client c) h = tt
 
 -- ---- behind a view change
-
-pub prepared-next : (i slot next v s : ℕ) (x : List ℕ) (none by : List (ℕ × List ℕ)) (e : ℕ × List ℕ) (es es' : List (ℕ × List ℕ)) (ps ps' : List (List (ℕ × List ℕ)))
-    → none ≡ [] → es ≡ e ∷ es' → ps ≡ by ∷ ps' → next ≡ suc slot
-    → slot_left i e.0 slot e.1 by ++ slot_claims i next es' ps' ≡ slot_left i v s x none ++ slot_claims i slot es ps
-prepared-next i slot next v s x none by e es es' ps ps' n p q k = rw (n, p, q, k) refl
 
 pub prepared-none : (i slot v s : ℕ) (x : List ℕ) (none : List (ℕ × List ℕ)) (es : List (ℕ × List ℕ)) (ps : List (List (ℕ × List ℕ)))
     → none ≡ [] → ps ≡ [] → slot_left i v s x none ++ slot_claims i slot es ps ≡ []

@@ -1,6 +1,6 @@
 //! A request on its way along a chain is carried once.
 
-use ab_carried::{Carried, carried};
+use ab_carried::carried;
 use ab_check::Checker;
 use ab_keys::is_party;
 use ab_msg::Tag;

@@ -16,9 +16,6 @@ use Rattle.ab_premise.specs.declared.breach.Collision.{Collision}
 use Rattle.ab_premise.specs.Collisions.{taker_of, IsFree, IsCollidedAt, Watch, first_watch, first_collision, looked, looked_in, items_of, watched}
 use Rattle.ab_premise.proofs.Looks.{Looks, HasOwn, event_seen, start_own}
 
-mk : ℕ → Party → Collision
-mk n p = record { event = n; party = p }
-
 pub not_found : (o : Option Collision) (n : ℕ) (p : Party) → first_collision o n p false ≡ o
 not_found None n p = refl
 not_found (Some c) n p = refl

@@ -7,10 +7,6 @@ abbrev pub before : {B : Type 0} → List B → Option (List B) → Option (List
 before made None = None
 before made (Some rest) = Some (made ++ rest)
 
-pub before-nil : {B : Type 0} (o : Option (List B)) → before [] o ≡ o
-before-nil None = refl
-before-nil (Some rest) = refl
-
 abbrev pub with_next : {B : Type 0} → Option B → Option (List B) → Option (List B)
 with_next None rest = None
 with_next (Some x) None = None
@@ -35,9 +31,6 @@ module _ {A B : Type 0} (each : A → Option B) (whole : List A → Option (List
   pub goes_on : (x : A) (y : B) → i < length xs → x ≡ get_or xs i x → Some y ≡ each x → before (made ++ y ∷ []) (whole (drop (i + 1) xs)) ≡ whole xs
   goes_on x y within is gives =
       sym (before-next made y (whole (drop (i + 1) xs))) ∙ ap (λ o. before made (with_next o (whole (drop (i + 1) xs)))) gives ∙ here x within is
-
-  pub stops : (x : A) → i < length xs → x ≡ get_or xs i x → None ≡ each x → None ≡ whole xs
-  stops x within is gives = ap (λ o. before made (with_next o (whole (drop (i + 1) xs)))) gives ∙ here x within is
 
   pub ends : length xs ≤ i → Some made ≡ whole xs
   ends past = ap Some (sym (append-nil made)) ∙ sym (ap (before made) laws.nil) ∙ sym (at_drop_all (λ l. before made (whole l)) xs i past) ∙ so

@@ -38,19 +38,6 @@ abort_is : (n : ℕ) (content : Content) (r : ℕ) → aborter_in n content ≡ 
 abort_is n (Abort maker i h) r is = let m = member_is n maker r is in (ap (λ p. Abort p i h) m.0, m.1)
 abort_is n _ r is = absurd (cc (is))
 
-own_by : (n : ℕ) (s : Signed) (o : Option ℕ) → aborter_in n s.content ≡ o → is_by s.maker o ≡ true → IsAbort n s
-own_by n s None at is = absurd (cc (is))
-own_by n s (Some r) at is =
-    let same : r ≡ s.maker = eqb-true r s.maker is in
-    let a = abort_is n s.content s.maker (at ∙ ap Some same) in
-    record { content_is = a.0; within = a.1 }
-
-pub own_are : (n : ℕ) (cert : List Signed) → list_all (λ s. is_own n s) cert ≡ true → AreAborts n cert
-own_are n [] all = All-nil (λ s. IsAbort n s)
-own_are n (s ∷ cert) all =
-    let both = and_parts (is_own n s) (list_all (λ t. is_own n t) cert) all in
-    All-cons (λ t. IsAbort n t) s cert (own_by n s (aborter_in n s.content) refl both.0) (own_are n cert both.1)
-
 -- ---- ABORTs that were put under the names of their makers
 
 as_next : (o : Option Signed) (rest : Option (List Signed)) → with_renamed o rest ≡ with_next o rest

@@ -84,14 +84,6 @@ module _ (f : ℕ) (entries : List (ℕ × List ℕ)) (values : List Value) (sig
           let rest : Option (List ProvedSlot) = slots_of f (t + 1) (drop (t + 1) entries) (drop (t + 1) values) (drop (t + 1) signed) in
           ap (λ o. before made (with_next o rest)) gives ∙ here
 
-    pub slots_end : length entries ≤ t → length values ≡ length entries → length signed ≡ length entries → Some made ≡ slots_of f 0 entries values signed
-    slots_end past even_values even_prepares =
-        ap Some (sym (append-nil made))
-        ∙ ap (λ l. before made (slots_of f t l [] [])) (sym (drop_all t entries past))
-        ∙ ap (λ l. before made (slots_of f t (drop t entries) l [])) (sym (drop_all t values (omega (arith, even_values))))
-        ∙ ap (λ l. before made (slots_of f t (drop t entries) (drop t values) l)) (sym (drop_all t signed (omega (arith, even_prepares))))
-        ∙ so
-
 -- ---- VIEW-CHANGEs
 
 change_next : (o : Option ChangeInput) (rest : Option (List ChangeInput)) → with_change o rest ≡ with_next o rest

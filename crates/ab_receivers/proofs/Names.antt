@@ -52,12 +52,6 @@ party_below f clients (Replica r) some is = omega (arith, some)
 party_below f clients (Client c) some is = lt_of c clients is
 
 module _ (f clients : ℕ) (p : Party) (m : Msg) (all : list_all (is_party f clients) (parties_of f p m) ≡ true) where
-  by_requests : List Party
-  by_requests = map (λ r. Client r.client) (requests_in m)
-
-  by_histories : List Party
-  by_histories = flat_map (λ h. map (λ r. Client r.client) h) (histories_in m)
-
   request_below : (q : Request) → Contains (requests_in m) q → q.client < clients
   request_below q has =
       let named = Contains-map (λ (r : Request). Client r.client) (requests_in m) q has in

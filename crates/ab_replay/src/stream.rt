@@ -5,7 +5,7 @@ ghost use Rattle.std.specs.Io.KnownBytes.{Appends};
 ghost use Rattle.ab_replay.specs.Streams.{IsAllOf, ReadCause, WriteCause, AppendsFront, AppendsPart};
 
 use ab_io::{Failed, Refused, Sink, Source};
-use std::alloc::{AllocError, Global};
+use std::alloc::Global;
 
 /// The most bytes that an input may have.
 const MOST: usize = 67_108_864;

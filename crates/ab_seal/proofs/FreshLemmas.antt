@@ -20,7 +20,7 @@ use Rattle.ab_msg.specs.Claims.{fresh, passed_at}
 use Rattle.ab_msg.specs.Fields.{IsInstance, IsReply, IsRequest}
 use Rattle.ab_msg.specs.Contents.{IsAbort, IsChange, IsCommit, IsContent, IsNewView, IsOrder, IsPanic, IsPrePrepare, IsPrepare, IsReq, IsResp}
 use Rattle.ab_msg.specs.Messages.{IsDraft}
-use Rattle.ab_seal.specs.Sealing.{is_for_all, tagged}
+use Rattle.ab_seal.specs.Sealing.{tagged}
 use Rattle.ab_seal.proofs.DraftLemmas.{party-fits}
 
 of-req : (c : Content) → IsReq c → IsContent c
@@ -98,19 +98,3 @@ fresh-fits f clients p (msg.Prepare prepare) bounds party h = alone prepare.cont
 fresh-fits f clients p (msg.Commit content tag) bounds party h = alone content (of-commit content h)
 fresh-fits f clients p (msg.ViewChange change) bounds party h = alone change.change.content (of-change change.change.content h.0.1.0)
 fresh-fits f clients p (msg.NewView content tag changes) bounds party h = alone content (of-new_view content h.0)
-
--- ---- the same for all
-
-pub same-tags : (ring : Ring) (a b : Party) (m : Msg) → is_for_all m ≡ true → tagged ring a m ≡ tagged ring b m
-same-tags ring a b (msg.Req content tags) e = refl
-same-tags ring a b (msg.Order content client_tag tag) e = absurd (false≢true e)
-same-tags ring a b (msg.Resp content tag) e = absurd (false≢true e)
-same-tags ring a b (msg.Chain i m n d reply tags) e = refl
-same-tags ring a b (msg.Panic content tag) e = absurd (false≢true e)
-same-tags ring a b (msg.Abort abort) e = refl
-same-tags ring a b (msg.Init cert) e = refl
-same-tags ring a b (msg.PrePrepare content tag offer) e = absurd (false≢true e)
-same-tags ring a b (msg.Prepare prepare) e = refl
-same-tags ring a b (msg.Commit content tag) e = absurd (false≢true e)
-same-tags ring a b (msg.ViewChange change) e = refl
-same-tags ring a b (msg.NewView content tag changes) e = absurd (false≢true e)

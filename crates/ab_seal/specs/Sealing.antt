@@ -75,16 +75,6 @@ tagged ring to (msg.Init cert) = msg.Init cert
 tagged ring to (msg.Prepare prepare) = msg.Prepare prepare
 tagged ring to (msg.ViewChange change) = msg.ViewChange change
 
--- whether its tags are the same whoever it goes to: each of them names the one for whom it is, or there are only signatures
-abbrev pub is_for_all : Msg → Bool
-is_for_all (msg.Req content tags) = true
-is_for_all (msg.Chain i m n d reply tags) = true
-is_for_all (msg.Abort abort) = true
-is_for_all (msg.Init cert) = true
-is_for_all (msg.Prepare prepare) = true
-is_for_all (msg.ViewChange change) = true
-is_for_all _ = false
-
 -- whether a text asks for a command
 abbrev pub asks : Content → Bool
 asks (Req maker i m) = true

@@ -9,7 +9,5 @@ mod sealing;
 mod tags;
 
 pub use repeats::is_sealed_alike;
-pub use sealed::{
-    drafts_are_sealed_as_messages, is_for_all, one_seal_for_all, sealed_messages_are_right,
-};
+pub use sealed::{drafts_are_sealed_as_messages, sealed_messages_are_right};
 pub use sealing::seal;

@@ -5,7 +5,6 @@ ghost use Rattle.ab_num.specs.Places.{kind_of};
 ghost use Rattle.ab_seal.specs.Receivers.{is_in_front, is_receiver};
 
 use ab_num::{Cluster, Kind};
-use arrayvec::ArrayVec;
 
 /// Whether a replica is at one of the first f + 1 positions of the chain of an instance.
 fn is_in_front(c: &Cluster, instance: u32, r: u8) -> bool

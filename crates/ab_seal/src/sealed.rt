@@ -15,9 +15,7 @@ ghost use Rattle.ab_msg.specs.Contents.{IsContent};
 ghost use Rattle.ab_msg.specs.Messages.{IsDraft, IsMessage};
 ghost use Rattle.ab_check.specs.Checks.{Judge, by_tag, checks_of, is_right};
 ghost use Rattle.ab_seal.specs.Carried.{IsFor, carried_checks};
-ghost use Rattle.ab_seal.specs.Sealing.{IsOwn, is_for_all, sealed, tagged};
-
-use ab_msg::Msg;
+ghost use Rattle.ab_seal.specs.Sealing.{IsOwn, sealed, tagged};
 
 /// With its tags a draft is a message of the grammar, of at most 4,194,304 bytes, and what its sender
 /// states anew is of the grammar.
@@ -25,26 +23,6 @@ pub fn drafts_are_sealed_as_messages()
     ensures grammar { (ring : Ring) (to : Party) (m : Message) → IsInBounds ring.f ring.clients → IsTrue (is_party ring.f ring.clients ring.me) → IsDraft m → IsMessage (tagged ring to m) }
     ensures size { (ring : Ring) (o : Sent) → IsInBounds ring.f ring.clients → IsTrue (is_party ring.f ring.clients ring.me) → IsDraft o.msg → length (sealed ring o) ≤ 4194304 }
     ensures contents { (f clients : ℕ) (p : Party) (m : Message) → IsInBounds f clients → IsTrue (is_party f clients p) → IsDraft m → All IsContent (fresh f p m) }
-{}
-
-/// Whether a message has the same bytes whoever it goes to, so that it is sealed once for all.
-pub fn is_for_all(m: &Msg) -> bool
-    ensures { result ≡ is_for_all m.now }
-{
-    match m {
-        Msg::Req { .. } => true,
-        Msg::Chain { .. } => true,
-        Msg::Abort { .. } => true,
-        Msg::Init { .. } => true,
-        Msg::Prepare { .. } => true,
-        Msg::ViewChange { .. } => true,
-        _ => false,
-    }
-}
-
-/// A message for all has the same bytes for each.
-pub fn one_seal_for_all()
-    ensures { (ring : Ring) (a b : Party) (m : Message) → IsTrue (is_for_all m) → sealed ring (record { to = a; msg = m }) ≡ sealed ring (record { to = b; msg = m }) }
 {}
 
 /// What `a` seals for `b` passes each check of `b`, if what it carries of others and its signatures do:

@@ -95,18 +95,6 @@ impl Copied for Tagged {
     }
 }
 
-/// A copy of each, in their order.
-pub(crate) fn copy_all<T: Copied>(alloc: Global, all: &[T]) -> Result<Vec<T>, OutOfMemory>
-    ensures { IfOk result (λ v. v.items ≡ all.now) }
-{
-    let mut copies = Vec::with_capacity(alloc, all.len())?;
-    'all: for x in all {
-        let copy = x.copy(alloc)?;
-        copies.push(copy)?;
-    }
-    Ok(copies)
-}
-
 /// The same certificate, if there is one.
 fn copy_sealed(alloc: Global, sealed: &Option<Sealed>) -> Result<Option<Sealed>, OutOfMemory>
     ensures { IfOk result (λ c. c ≡ sealed.now) }

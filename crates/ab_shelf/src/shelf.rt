@@ -6,9 +6,10 @@ ghost use Rattle.ab_shelf.specs.Shelves.{empty_shelf, with_ballot, with_ballot_o
 
 use crate::ballots::{put_ballot, sealed_by};
 use crate::changes::{drop_maker, put_proof};
-use crate::kept::{Ballot, Sealed, Tagged, copy_all, copy_slots};
+use crate::kept::{Ballot, Sealed, Tagged, copy_slots};
 use ab_msg::{AbortCert, Proof, Tags, Value};
 use ab_num::{Cluster, OutOfMemory};
+use ab_slots::copy_each;
 use std::alloc::Global;
 use std::marker::Model;
 
@@ -193,10 +194,10 @@ impl Shelf {
         ensures { IfOk result (λ s. s ≡ self.now) }
     {
         let entry = self.entry.copy(alloc)?;
-        let ballots = copy_all(alloc, self.ballots.as_slice())?;
+        let ballots = copy_each(alloc, self.ballots.as_slice())?;
         let sealed = copy_slots(alloc, self.sealed.as_slice())?;
-        let proofs = copy_all(alloc, self.proofs.as_slice())?;
-        let tagged = copy_all(alloc, self.tagged.as_slice())?;
+        let proofs = copy_each(alloc, self.proofs.as_slice())?;
+        let tagged = copy_each(alloc, self.tagged.as_slice())?;
         Ok(Shelf {
             entry,
             view: self.view,

@@ -19,15 +19,6 @@ module _ (vcs : List (Change Value)) where
   abbrev from : ℕ → List Value → List Value
   from n chosen = chosen_from goes vcs n chosen
 
-  pub next_none : (n : ℕ) (chosen : List Value) → best_in vcs (length chosen) ≡ None → from (suc n) chosen ≡ chosen
-  next_none n chosen is = ap (goes_on goes (from n) chosen) is
-
-  pub next_unfit : (n : ℕ) (chosen : List Value) (o : Offer Value) → best_in vcs (length chosen) ≡ Some o → goes chosen o.cert.value ≡ false → from (suc n) chosen ≡ chosen
-  next_unfit n chosen o is unfit = ap (goes_on goes (from n) chosen) is ∙ rw unfit refl
-
-  pub next_more : (n : ℕ) (chosen : List Value) (o : Offer Value) → best_in vcs (length chosen) ≡ Some o → goes chosen o.cert.value ≡ true → from (suc n) chosen ≡ from n (chosen ++ o.cert.value ∷ [])
-  next_more n chosen o is may = ap (goes_on goes (from n) chosen) is ∙ rw may refl
-
   -- from the first slot on
   pub chosen_begins : (k : ℕ) (chosen : List Value) → chosen ≡ [] → chosen_of goes k vcs ≡ from (suc k - 0) chosen
   chosen_begins k chosen none =
@@ -43,8 +34,3 @@ module _ (vcs : List (Change Value)) where
   chosen_stops k n old new lt next so_far =
       let e : suc k - n ≡ suc (suc k - (n + 1)) = omega arith in
       sym (so_far ∙ (ap (λ m. from m old) e ∙ next (suc k - (n + 1))))
-
-  pub chosen_ends : (k n : ℕ) (chosen : List Value) → k + 1 ≤ n → chosen_of goes k vcs ≡ from (suc k - n) chosen → chosen ≡ chosen_of goes k vcs
-  chosen_ends k n chosen le so_far =
-      let e : suc k - n ≡ 0 = omega arith in
-      sym (so_far ∙ ap (λ m. from m chosen) e)

@@ -1,6 +1,6 @@
 -- What a storm draws happens, where packets go to parties of the cluster.
-use Rattle.std.proofs.Common.{◌≡◌, ℕ, zero, suc, ◌+◌, ◌-◌, ◌*◌, ◌≤◌, ◌<◌, ◌==◌, Bool, true, false, Option, None, Some, List, [], ◌∷◌, ◌++◌, Result, Ok, Err, get_or, length, refl, sym, ap, ◌∙◌, subst, arith}
-use Rattle.std.specs.Prelude.{◌&&◌, Contains, nat_lt, nat_le, if◌then◌else◌, map, slice_get}
+use Rattle.std.proofs.Common.{◌≡◌, ℕ, zero, suc, ◌+◌, ◌-◌, ◌*◌, ◌≤◌, ◌<◌, ◌==◌, Bool, true, false, Option, None, Some, List, [], ◌∷◌, ◌++◌, Result, Ok, Err, length, refl, sym, ap, ◌∙◌, subst, arith}
+use Rattle.std.specs.Prelude.{◌&&◌, Contains, nat_lt, nat_le, if◌then◌else◌, slice_get}
 use Rattle.std.specs.List.{range_with_len}
 use Rattle.std.specs.Option.{option_map}
 use Rattle.std.proofs.lemmas.Bool.{lt-ltb, le-leb}
@@ -25,7 +25,7 @@ use Rattle.ab_post.specs.Packets.{Packet, nth}
 use Rattle.ab_cast.specs.declared.fault.CommandFault.TheVariants as command_fault
 use Rattle.ab_cast.specs.Setups.{Setup, own_place, numbered_place, place_of}
 use Rattle.ab_cast.specs.Cores.{client}
-use Rattle.ab_cast.specs.Casts.{is_free, first_seats}
+use Rattle.ab_cast.specs.Casts.{is_free}
 use Rattle.ab_world.specs.declared.fault.WorldFault.{WorldFault}
 use Rattle.ab_world.specs.declared.fault.WorldFault.TheVariants.{EventLimit, PacketLimit, BadCommand}
 use Rattle.ab_world.specs.Steps.{Happening, Given, ask, hand, ring, refuse_command, asked_at, asked, handed, rung, delivered, happening, ready_in, ready, after, within_limit, stepped_by, stepped}

@@ -22,16 +22,6 @@ top_next xs r top instance (Some s) at is =
     ∙ ap (λ n. max top (max n (highest (drop (r + 1) xs)))) same
     ∙ ap (λ xs. max top (highest xs)) (sym next)
 
-drop_past : {A : Type 0} (xs : List A) (n : ℕ) → length xs ≤ n → drop n xs ≡ []
-drop_past [] zero far = refl
-drop_past [] (suc n) far = refl
-drop_past (x ∷ xs) zero far = absurd (omega (arith, far))
-drop_past (x ∷ xs) (suc n) far = drop_past xs n (omega (arith, far))
-
--- behind the last replica nothing is higher
-pub top_ends : {P : Type 0} (xs : List (Site P)) (r top : ℕ) → length xs ≤ r → max top (highest (drop r xs)) ≡ highest xs → top ≡ highest xs
-top_ends xs r top far is = sym (ap (λ l. max top (highest l)) (drop_past xs r far) ∙ omega arith) ∙ is
-
 -- each replica is there
 pub there : {A : Type 0} (f : A → ℕ) (xs : List A) (r : ℕ) → r < length xs → None ≡ option_map f (slice_get xs r) → ⊥
 there f [] r lt e = omega (arith, lt)

@@ -38,10 +38,6 @@ module _ (old new : Turn) (rule : Work → Work) (f : Memory → Memory) (g : Me
         ∙ ap told_in (sym (does w)))));
   }
 
--- one rule after the other
-pub then_does : (a b c : Turn) (first second : Work → Work) → Does a b first → Does b c second → Does a c (λ w. second (first w))
-then_does a b c first second one other w shows = other (first w) (one w shows)
-
 module _ (old new : Turn) where
   abbrev base : Memory
   base = memory_of old.memory

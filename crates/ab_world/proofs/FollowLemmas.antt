@@ -196,9 +196,6 @@ module _ {P : Type 0} (proto : Proto P) (w : World P) where
 
 -- ---- a world and the run over what came, the newest first
 
-opened_so : (o : Result Msg OpenFault) (m : Msg) → o ≡ Ok m → opened o ≡ Some m
-opened_so o m is = ap opened is
-
 module _ {P : Type 0} (proto : Proto P) (x : Setup) where
   abbrev K : RunSetup
   K = run_setup x

@@ -42,10 +42,6 @@ is_observed (line.Refused e p cause) = false
 is_observed (line.Spent e r) = false
 is_observed _ = true
 
-abbrev pub is_spent_line : Line → Bool
-is_spent_line (line.Spent e r) = true
-is_spent_line _ = false
-
 abbrev pub line_of_noted : Noted → Line
 line_of_noted n = line_of n.event n.what
 

@@ -18,7 +18,7 @@ use crate::handing::{Handed, hand};
 use crate::looking::{look, standing};
 use crate::posting::{post, state};
 use crate::recording::{add_lines, add_seen, lines_of};
-use ab_abs::{Marks, Protocol};
+use ab_abs::Protocol;
 use ab_carried::Carried;
 use ab_cast::{Cast, CommandFault, Place, Setup, places_have_cores};
 use ab_hist::History;
