@@ -1,6 +1,6 @@
 -- What is opened and sealed.
-use Rattle.std.proofs.Common.{◌≡◌, ℕ, suc, ◌+◌, ◌*◌, ◌<◌, ◌≤◌, true, IsTrue, List, [], ◌∷◌, ◌++◌, length, take, get_or, refl, ap, sym, ◌∙◌, arith, append-nil, length-append}
-use Rattle.std.specs.Prelude.{nat_lt, ◌&&◌, None, if◌then◌else◌}
+use Rattle.std.proofs.Common.{◌≡◌, ℕ, suc, ◌+◌, ◌*◌, ◌<◌, ◌≤◌, true, false, IsTrue, List, [], ◌∷◌, ◌++◌, length, take, get_or, refl, ap, sym, ◌∙◌, arith, append-nil, length-append}
+use Rattle.std.specs.Prelude.{nat_lt, ◌&&◌, ◌-◌, None, Some, if◌then◌else◌, slice_get}
 use Rattle.std.specs.List.{list_all}
 use Rattle.std.specs.Result.{result_ok}
 use Rattle.std.proofs.lemmas.List.{take_more}
@@ -18,8 +18,8 @@ use Rattle.ab_msg.specs.Messages.{code_of, spell_body}
 use Rattle.ab_open.specs.Opening.{opening}
 use Rattle.ab_sign.specs.Judges.{judge_of}
 use Rattle.ab_seal.specs.Sealing.{sealed, tagged}
-use Rattle.ab_loop.specs.Cores.{IsSendable}
-use Rattle.ab_member.specs.Credentials.{Credentials, IsPartyRing, opened, sealed_all, sealed_by, sealed_for}
+use Rattle.ab_loop.specs.Cores.{IsSendable, Sealed}
+use Rattle.ab_member.specs.Credentials.{Credentials, IsLast, IsPartyRing, opened, sealed_all, sealed_by, sealed_for}
 
 -- ---- opening
 
@@ -48,3 +48,30 @@ can_send ring o is few to =
       some = omega (arith, length-append (u8_bytes (code_of m)) (spell_body m), length-u8_bytes (code_of m));
       few = few;
     }
+
+-- one message more, to a party and to nobody
+more : (ring : Ring) (outs : List Out) (i : ℕ) (o : Out) → i < length outs → o ≡ get_or outs i o
+    → sealed_all ring (take (i + 1) outs) ≡ sealed_all ring (take i outs) ++ sealed_for ring o
+more ring outs i o lt is =
+    ap (sealed_all ring) (take_more outs i o lt ∙ ap (λ (x : Out). take i outs ++ x ∷ []) (sym is))
+    ∙ flat_map-append (sealed_for ring) (take i outs) (o ∷ [])
+    ∙ ap (λ l. sealed_all ring (take i outs) ++ l) (append-nil (sealed_for ring o))
+
+pub sent_more : (ring : Ring) (outs : List Out) (i : ℕ) (o : Out) → i < length outs → o ≡ get_or outs i o → is_party ring.f ring.clients o.to ≡ true
+    → sealed_all ring (take (i + 1) outs) ≡ sealed_all ring (take i outs) ++ sealed_by ring o ∷ []
+sent_more ring outs i o lt is to = more ring outs i o lt is ∙ ap (λ b. sealed_all ring (take i outs) ++ (if b then sealed_by ring o ∷ [] else [])) to
+
+pub unsent_more : (ring : Ring) (outs : List Out) (i : ℕ) (o : Out) → i < length outs → o ≡ get_or outs i o → is_party ring.f ring.clients o.to ≡ false
+    → sealed_all ring (take (i + 1) outs) ≡ sealed_all ring (take i outs)
+unsent_more ring outs i o lt is to =
+    more ring outs i o lt is ∙ ap (λ b. sealed_all ring (take i outs) ++ (if b then sealed_by ring o ∷ [] else [])) to ∙ append-nil (sealed_all ring (take i outs))
+
+at_end : (m : Sealed) (all : List Sealed) → slice_get (all ++ m ∷ []) (length all) ≡ Some m
+at_end m [] = refl
+at_end m (x ∷ all) = at_end m all
+
+-- the last of a list with one more
+pub is_last : (m : Sealed) (all : List Sealed) → IsLast m (all ++ m ∷ [])
+is_last m all =
+    let end : length (all ++ m ∷ []) - 1 ≡ length all = omega (arith, length-append all (m ∷ [])) in
+    ap (slice_get (all ++ m ∷ [])) end ∙ at_end m all

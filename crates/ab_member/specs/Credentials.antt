@@ -1,5 +1,5 @@
 -- What a party of a cluster opens and seals by.
-use Rattle.std.specs.Prelude.{◌≡◌, ℕ, nat_lt, if◌then◌else◌, List, [], ◌∷◌, map, Option, None, Some, slice_set, IsTrue}
+use Rattle.std.specs.Prelude.{◌≡◌, ◌-◌, ℕ, nat_lt, if◌then◌else◌, List, [], ◌∷◌, length, map, Option, None, Some, slice_get, slice_set, IsTrue}
 use Rattle.std.specs.List.{flat_map, list_all}
 use Rattle.std.specs.Option.{option_map}
 use Rattle.std.specs.Result.{result_ok}
@@ -66,3 +66,7 @@ sealed_for ring o = if is_party ring.f ring.clients o.to then sealed_by ring o �
 
 abbrev pub sealed_all : Ring → List Out → List Sealed
 sealed_all ring outs = flat_map (sealed_for ring) outs
+
+-- it is the last of these
+abbrev pub IsLast : Sealed → List Sealed → Type 0
+IsLast m all = slice_get all (length all - 1) ≡ Some m

@@ -1,6 +1,6 @@
 //! What a party of a cluster opens and seals by.
 
-ghost use Rattle.std.specs.Prelude.{◌≡◌, ◌<◌, ◌+◌, ◌*◌, ◌++◌, All, IfOk, OnOk, IsTrue, MatchOption, None, Some, map};
+ghost use Rattle.std.specs.Prelude.{◌≡◌, ◌++◌, ◌∷◌, [], All, IfOk, IfSome, OnOk, IsTrue, MatchOption, None, Some, map};
 ghost use Rattle.std.specs.Option.{option_map};
 ghost use Rattle.ab_keys.specs.Keys.{is_party};
 ghost use Rattle.ab_key_text.specs.Keys.{IsWhole};
@@ -9,7 +9,8 @@ ghost use Rattle.ab_sign.specs.declared.key.SignKey.TheVariants.{Public};
 ghost use Rattle.ab_wire.specs.Views.{IsReceived, message};
 ghost use Rattle.ab_run.specs.Forms.{IsDraftOf};
 ghost use Rattle.ab_loop.specs.Cores.{IsSendable};
-ghost use Rattle.ab_member.specs.Credentials.{IsPartyRing, credentials_in, opened, own_key, sealed_all, sealed_by, sealed_for, with_own};
+ghost use Rattle.ab_seal.specs.Sealing.{sealed};
+ghost use Rattle.ab_member.specs.Credentials.{IsLast, IsPartyRing, credentials_in, opened, own_key, sealed_all, sealed_by, with_own};
 
 use ab_key_text::{PartyKeys, Secret};
 use ab_keys::{KeyRing, is_party};
@@ -17,7 +18,7 @@ use ab_loop::Sealed;
 use ab_msg::Out;
 use ab_num::{Height, OutOfMemory, Party};
 use ab_open::open;
-use ab_seal::{drafts_are_sealed_as_messages, seal};
+use ab_seal::{drafts_are_sealed_as_messages, is_sealed_alike, seal};
 use ab_sign::{Pen, SecretKey, SignKey, Signers, Verifier};
 use ab_wire::MsgRef;
 use std::alloc::Global;
@@ -117,31 +118,50 @@ impl Credentials {
         }
     }
 
-    /// A message to a party of the cluster, with the tags of its maker.
-    fn seal(&self, alloc: Global, out: &Out) -> Result<Sealed, OutOfMemory>
+    /// The bytes of a message with the tags of its maker, where the message before it is the last of these, if there is one. A
+    /// request that goes to several replicas is sealed once.
+    fn bytes_of(
+        &self,
+        alloc: Global,
+        messages: &[Sealed],
+        before: Option<&Out>,
+        out: &Out,
+    ) -> Result<Vec<u8>, OutOfMemory>
+        requires ring { IsPartyRing self.now.ring }
+        requires draft { IsDraftOf self.now.ring.f self.now.ring.me out.now }
+        requires before { IfSome before (λ o. IsLast (sealed_by self.now.ring o.now) messages.now) }
+        ensures { IfOk result (λ v. v.items ≡ sealed self.now.ring out.now) }
+    {
+        if let Some(before) = before {
+            if is_sealed_alike(&before.msg, &out.msg) {
+                if let Some(last) = messages.last() {
+                    let bytes = Vec::from_slice(alloc, last.bytes())?;
+                    return Ok(bytes);
+                }
+            }
+        }
+        seal(alloc, &self.ring, out)
+    }
+
+    /// Adds a message to a party of the cluster, with the tags of its maker.
+    fn add(
+        &self,
+        alloc: Global,
+        messages: &mut Vec<Sealed>,
+        before: Option<&Out>,
+        out: &Out,
+    ) -> Result<(), OutOfMemory>
         requires ring { IsPartyRing self.now.ring }
         requires draft { IsDraftOf self.now.ring.f self.now.ring.me out.now }
         requires to { IsTrue (is_party self.now.ring.f self.now.ring.clients out.now.to) }
-        ensures sealed { IfOk result (λ m. m ≡ sealed_by self.now.ring out.now) }
-        ensures sendable { IfOk result IsSendable }
-    {
-        drafts_are_sealed_as_messages();
-        let bytes = seal(alloc, &self.ring, out)?;
-        Ok(Sealed::new(out.to, bytes))
-    }
-
-    /// Adds a message, with the tags of its maker, if it goes to a party of the cluster.
-    fn add(&self, alloc: Global, messages: &mut Vec<Sealed>, out: &Out) -> Result<(), OutOfMemory>
-        requires ring { IsPartyRing self.now.ring }
-        requires draft { IsDraftOf self.now.ring.f self.now.ring.me out.now }
+        requires before { IfSome before (λ o. IsLast (sealed_by self.now.ring o.now) messages.old.items) }
         requires sendable { All IsSendable messages.old.items }
-        ensures sealed { OnOk result (messages.new.items ≡ messages.old.items ++ sealed_for self.now.ring out.now) }
+        ensures sealed { OnOk result (messages.new.items ≡ messages.old.items ++ sealed_by self.now.ring out.now ∷ []) }
         ensures sendable { OnOk result (All IsSendable messages.new.items) }
     {
-        if is_party(self.ring.cluster(), out.to) {
-            let message = self.seal(alloc, out)?;
-            messages.push(message)?;
-        }
+        drafts_are_sealed_as_messages();
+        let bytes = self.bytes_of(alloc, messages.as_slice(), before, out)?;
+        messages.push(Sealed::new(out.to, bytes))?;
         Ok(())
     }
 
@@ -153,8 +173,12 @@ impl Credentials {
         ensures sendable { IfOk result (λ v. All IsSendable v.items) }
     {
         let mut messages = Vec::with_capacity(alloc, outs.len())?;
+        let mut before = None;
         for out in outs {
-            self.add(alloc, &mut messages, out)?;
+            if is_party(self.ring.cluster(), out.to) {
+                self.add(alloc, &mut messages, before, out)?;
+                before = Some(out);
+            }
         }
         Ok(messages)
     }
