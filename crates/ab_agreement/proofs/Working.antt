@@ -10,7 +10,7 @@ use Rattle.ab_turn.specs.declared.turn.Turn.{Turn}
 use Rattle.ab_turn.specs.Turns.{memory_of, Shows, Does}
 use Rattle.ab_shelf.specs.Shelves.{Shelf}
 use Rattle.ab_shelf.specs.Posts.{Post, posts_all, signings}
-use Rattle.ab_shelf.specs.Signing.{Signing, signer_of, leavings}
+use Rattle.ab_shelf.specs.Signing.{Signing, author_of, leavings}
 use Rattle.ab_shelf.proofs.PenLemmas.{pen_all}
 use Rattle.ab_agreement.specs.Events.{heard_of, post_of, signs_of, next_of}
 use Rattle.ab_agreement.proofs.ViewLemmas.{views_rise}
@@ -44,21 +44,21 @@ module _ (q : Signing) (e : Input) where
         omega (arith, views_rise q.order e, deeds_are, view_is)
 
     -- so often it signs, whether or not the pen can
-    pub signs_as : (deeds : List Deed) → deeds ≡ turn.deeds.items → signings (signer_of q) deeds ≡ signs_of q e
-    signs_as deeds deeds_is = ap (λ (ds : List Deed). signings (signer_of q) ds) (deeds_is ∙ shows.told)
+    pub signs_as : (deeds : List Deed) → deeds ≡ turn.deeds.items → signings (author_of q) deeds ≡ signs_of q e
+    signs_as deeds deeds_is = ap (λ (ds : List Deed). signings (author_of q) ds) (deeds_is ∙ shows.told)
 
   pub worked : (pen : Pen) (shelf : Shelf) (turn : Turn) (left : Signing) (deeds : List Deed) (after : Post) → Shows turn (done_by q.order e)
       → left.cluster ≡ q.cluster → left.order.seat ≡ q.order.seat → left.order.memory ≡ memory_of turn.memory → left.shelf ≡ after.shelf → left.left ≡ q.left + leavings turn.deeds.items
-      → deeds ≡ turn.deeds.items → posts_all (signer_of q) deeds (record { pen = pen; shelf = shelf; sent = [] }) ≡ after → Worked q e pen shelf left after (signings (signer_of q) deeds)
+      → deeds ≡ turn.deeds.items → posts_all (author_of q) deeds (record { pen = pen; shelf = shelf; sent = [] }) ≡ after → Worked q e pen shelf left after (signings (author_of q) deeds)
   worked pen shelf turn left deeds after shows cluster_is seat_is memory_is shelf_is count_is deeds_is all =
       let told : deeds ≡ heard_of q e = deeds_is ∙ shows.told in
-      let post : post_of pen q shelf e ≡ after = ap (λ (ds : List Deed). posts_all (signer_of q) ds (record { pen = pen; shelf = shelf; sent = [] })) (sym told) ∙ all in
+      let post : post_of pen q shelf e ≡ after = ap (λ (ds : List Deed). posts_all (author_of q) ds (record { pen = pen; shelf = shelf; sent = [] })) (sym told) ∙ all in
       let memory_as = memory_is ∙ shows.at in
       let shelf_as = shelf_is ∙ ap (λ (p : Post). p.shelf) (sym post) in
       let count_as = count_is ∙ ap (λ (ds : List Deed). q.left + leavings ds) shows.told in
       record {
         next = λ j. record { cluster = cluster_is j; order = record { seat = seat_is j; memory = memory_as j }; shelf = shelf_as j; left = count_as j };
         sends = ap (λ (p : Post). p.sent) (sym post);
-        moves = ap (λ (p : Post). p.pen) (sym post) ∙ pen_all (signer_of q) (heard_of q e) (record { pen = pen; shelf = shelf; sent = [] });
+        moves = ap (λ (p : Post). p.pen) (sym post) ∙ pen_all (author_of q) (heard_of q e) (record { pen = pen; shelf = shelf; sent = [] });
         signs = signs_as turn shows deeds deeds_is;
       }

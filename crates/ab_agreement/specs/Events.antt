@@ -8,18 +8,18 @@ use Rattle.ab_slots.specs.Deeds.{told_in}
 use Rattle.ab_slots.specs.Waits.{waits}
 use Rattle.ab_shelf.specs.Shelves.{Shelf}
 use Rattle.ab_shelf.specs.Posts.{Post, posts_all, signings}
-use Rattle.ab_shelf.specs.Signing.{Signing, signer_of, leavings}
+use Rattle.ab_shelf.specs.Signing.{Signing, author_of, leavings}
 
 -- what others hear of
 abbrev pub heard_of : Signing → Input → List Deed
 heard_of q e = told_in (done_by q.order e).doings
 
 abbrev pub post_of : Pen → Signing → Shelf → Input → Post
-post_of pen q shelf e = posts_all (signer_of q) (heard_of q e) (record { pen = pen; shelf = shelf; sent = [] })
+post_of pen q shelf e = posts_all (author_of q) (heard_of q e) (record { pen = pen; shelf = shelf; sent = [] })
 
 -- how often it signs
 abbrev pub signs_of : Signing → Input → ℕ
-signs_of q e = signings (signer_of q) (heard_of q e)
+signs_of q e = signings (author_of q) (heard_of q e)
 
 abbrev pub next_of : Pen → Signing → Shelf → Input → Signing
 next_of pen q shelf e = record { cluster = q.cluster; order = pbft.after q.order e; shelf = (post_of pen q shelf e).shelf; left = q.left + leavings (heard_of q e) }

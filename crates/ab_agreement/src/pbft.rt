@@ -6,7 +6,7 @@ ghost use Rattle.ab_pbft.specs.Rules.{done_by};
 ghost use Rattle.ab_slots.specs.Inputs.{input_of};
 ghost use Rattle.ab_turn.specs.Turns.{memory_of, Shows};
 ghost use Rattle.ab_shelf.specs.Posts.{posts_all, signings};
-ghost use Rattle.ab_shelf.specs.Signing.{signer_of, is_leaving, leavings};
+ghost use Rattle.ab_shelf.specs.Signing.{author_of, is_leaving, leavings};
 ghost use Rattle.ab_agreement.specs.Events.{next_of, post_of, signs_of};
 
 use crate::putting::{receive, shelve};
@@ -15,7 +15,7 @@ use ab_backup::Orderer;
 use ab_hist::History;
 use ab_msg::{Notary, Outs};
 use ab_num::{Cluster, OutOfMemory};
-use ab_shelf::{Shelf, Signer};
+use ab_shelf::{Author, Shelf};
 use ab_slots::{Deed, Input};
 use ab_turn::{Memory, Seat, Turn};
 use ab_wire::MsgRef;
@@ -77,10 +77,10 @@ fn leavings(deeds: &[Deed]) -> usize
 
 impl Pbft {
     /// Who signs.
-    fn signer(&self) -> Signer
-        ensures { result ≡ signer_of self.now }
+    fn author(&self) -> Author
+        ensures { result ≡ author_of self.now }
     {
-        Signer {
+        Author {
             cluster: self.cluster,
             instance: self.seat.instance,
             me: self.seat.me,
@@ -118,12 +118,12 @@ impl Pbft {
         deeds: &[Deed],
         n: &mut N,
     ) -> Result<(Shelf, Outs), StepFault>
-        ensures ok { IfOk result (λ made. posts_all (signer_of self.now) deeds.now (record { pen = N.pen n.old; shelf = shelf; sent = [] }) ≡ record { pen = N.pen n.new; shelf = made.0; sent = made.1 }) }
-        ensures left { IfOk result (λ _. N.remains n.new + signings (signer_of self.now) deeds.now ≡ N.remains n.old) }
-        ensures spent { IsErrOf result StepFault.Spent → N.remains n.old < signings (signer_of self.now) deeds.now }
+        ensures ok { IfOk result (λ made. posts_all (author_of self.now) deeds.now (record { pen = N.pen n.old; shelf = shelf; sent = [] }) ≡ record { pen = N.pen n.new; shelf = made.0; sent = made.1 }) }
+        ensures left { IfOk result (λ _. N.remains n.new + signings (author_of self.now) deeds.now ≡ N.remains n.old) }
+        ensures spent { IsErrOf result StepFault.Spent → N.remains n.old < signings (author_of self.now) deeds.now }
     {
         let mut outs = Vec::new(alloc);
-        shelf.post_all(alloc, &self.signer(), deeds, n, &mut outs)?;
+        shelf.post_all(alloc, &self.author(), deeds, n, &mut outs)?;
         Ok((shelf, Outs::of(outs)))
     }
 

@@ -3,7 +3,7 @@
 ghost use Rattle.std.specs.Prelude.{IsTrue, ◌≤◌};
 ghost use Rattle.ab_extract.specs.Certs.{AreAborts, IsAbort};
 
-use ab_extract::{CertFault, certificates_with_histories_are_sound, check, extract, is_same};
+use ab_extract::{CertFault, certificates_with_histories_are_sound, check, extract};
 use ab_hist::{History, Request};
 use ab_msg::{AbortCert, Content, Sig, Signed};
 use ab_num::{Cluster, OutOfMemory, Party, Plan};

@@ -1,6 +1,6 @@
 -- What a client comes to, move by move.
 use Rattle.std.proofs.Common.{◌≡◌, ℕ, ◌+◌, ◌*◌, ◌<◌, ◌≤◌, Bool, true, false, Option, Some, None, List, [], ◌∷◌, ◌++◌, arith, refl, sym, ap, ◌∙◌, subst}
-use Rattle.std.specs.Prelude.{◌==◌, ◌&&◌, nat_lt, nat_le, if◌then◌else◌, All, ◌⊎◌, Result, Ok, Err, IfOk, OnOk}
+use Rattle.std.specs.Prelude.{◌==◌, ◌&&◌, nat_lt, nat_le, if◌then◌else◌, All, ◌⊎◌, Result, Ok, Err, IfOk}
 use Rattle.std.proofs.Common.{inl, inr}
 use Rattle.std.specs.List.{list_any}
 use Rattle.std.proofs.lemmas.Bool.Decides.{nat_tests}
@@ -29,8 +29,8 @@ use Rattle.ab_abs.specs.Certificates.{history_of}
 use Rattle.ab_run.specs.declared.phase.Phase.{Phase}
 use Rattle.ab_run.specs.declared.phase.Phase.TheVariants.{Idle, Waiting, Panicking}
 use Rattle.ab_run.specs.Replicas.{cert_instance}
-use Rattle.ab_run.specs.Clients.{Cli, Move, move_again, move_keep, move_panic, move_take, after_move, if_open, cert_out, request_out, to_all, own_cert, taking, taking_with, keeping, is_abort_of, panics_in}
-use Rattle.ab_run.specs.Local.{Cue, cue_message, cue_time}
+use Rattle.ab_run.specs.Clients.{Cli, Move, move_again, move_keep, move_panic, move_take, after_move, if_open, cert_out, request_out, to_all, own_cert, taking, taking_with, is_abort_of}
+use Rattle.ab_run.specs.Local.{cue_message}
 use Rattle.ab_client.specs.Clients.{Seat, after, alone, is_waiting, marks, moves_on, request_msg, panic_msg, sends}
 use Rattle.ab_run.specs.Forms.{IsDraftOf}
 use Rattle.ab_client.specs.Moved.{IsMoved, IsPlaced, IsRequestOf, open_request}

@@ -39,9 +39,9 @@ use Rattle.ab_pbft.specs.Traces.{OrderStep, pair_of}
 use Rattle.ab_pbft.specs.Rules.{Seat, Doing, takes_step, Work, core_of, with_peer, does, oldest_first, take_value, change_of, settle, keep_request, leave_to, without}
 use Rattle.ab_pbft.proofs.RuleInduction.{WhyTaken, own_base, waiting, base_brought, request_brought, WhyEntered, from_kept, from_new_view, WhySaid, offered, led, WhyLeft, followed, timed_out, IsKept}
 use Rattle.ab_slots.specs.Deeds.{told_in}
-use Rattle.ab_shelf.specs.declared.signer.Signer.{Signer}
+use Rattle.ab_shelf.specs.declared.author.Author.{Author}
 use Rattle.ab_shelf.specs.declared.kept.Tagged.{Tagged}
-use Rattle.ab_shelf.specs.Shelves.{Shelf, view_of, proofs_for, sealed_front, own_proof, entered, tags_of, without_maker}
+use Rattle.ab_shelf.specs.Shelves.{Shelf, view_of, proofs_for, certified_front, own_proof, entered, tags_of, without_maker}
 use Rattle.ab_shelf.specs.Posts.{Post, no_tag, offer_to, offer_message, lead_message, posts_all, sig_of}
 use Rattle.ab_drafts.specs.Bounds.{IsValueAt, AreCertsAt, AreBallots, HasTags, seat_of}
 use Rattle.ab_drafts.proofs.Lists.{some_taken, few_taken}
@@ -51,7 +51,7 @@ use Rattle.ab_drafts.proofs.Certificates.{own_certs, own_formed}
 use Rattle.ab_drafts.proofs.Values.{order_at, values_grown, no_values}
 use Rattle.ab_drafts.proofs.Reading.{IsInputWritten, certs_told}
 use Rattle.ab_drafts.proofs.Putting.{IsPlain}
-use Rattle.ab_drafts.proofs.Sending.{told-append, sent_more, limit_small, own_signer, IsPosted, told_by, of_slot, settled_on}
+use Rattle.ab_drafts.proofs.Sending.{told-append, sent_more, limit_small, own_author, IsPosted, told_by, of_slot, settled_on}
 
 -- ---- tags
 
@@ -81,8 +81,8 @@ offer_formed s (suc slot) (Order m) r entry tagged at_slot = (λ e. omega (arith
 -- ---- what an event does
 
 module _ (c : Cluster) (i me : ℕ) (placed : IsInstance i) (owned : me < 3 * c.f + 1) (base : List Request) (written : IsWritten base) where
-  abbrev pub by : Signer
-  by = own_signer c i me
+  abbrev pub by : Author
+  by = own_author c i me
 
   abbrev pub seat : Seat
   seat = seat_of c i me base
@@ -134,7 +134,7 @@ module _ (c : Cluster) (i me : ℕ) (placed : IsInstance i) (owned : me < 3 * c.
               asked = h.asked;
               view = h.view;
               ballots = h.ballots;
-              sealed = h.sealed;
+              certified = h.certified;
               proofs = h.proofs;
               entry = h.entry;
               tags = h.tags;
@@ -233,7 +233,7 @@ module _ (c : Cluster) (i me : ℕ) (placed : IsInstance i) (owned : me < 3 * c.
               asked = h.asked;
               view = refl;
               ballots = entered_ballots v (core_of w).view w.at.peer.votes (post_of w).shelf h.view h.ballots;
-              sealed = h.sealed;
+              certified = h.certified;
               proofs = h.proofs;
               entry = h.entry;
               tags = h.tags;
@@ -257,8 +257,8 @@ module _ (c : Cluster) (i me : ℕ) (placed : IsInstance i) (owned : me < 3 * c.
           let stated = certs_from (cert_at certs) (suc seat.k) 0 in
           let content : Content = ViewChange (Replica me) i v (map pair_of (map (entry_of slot_digest) stated)) in
           let signs = was.pen content p.pen.used in
-          let own = own_proof me content (sealed_front p.shelf.sealed) (sig_of by p content) in
-          let formed = own_formed seat.k me i v certs p.shelf.sealed (sig_of by p content) (limit_small c i) (few_replicas c me owned) placed seen signs core.certs h.sealed in
+          let own = own_proof me content (certified_front p.shelf.certified) (sig_of by p content) in
+          let formed = own_formed seat.k me i v certs p.shelf.certified (sig_of by p content) (limit_small c i) (few_replicas c me owned) placed seen signs core.certs h.certified in
           let kept : Kept Value = record { view = v; change = own_change seat.k me (core_of w) } in
           subst (λ (q : Post). IsPosted c i (left_peer slot_digest seat.k v w.at.peer).core [] (put kept (without me w.at.changes)) w.at.requests q) (sym (told-append by w.doings (takes_step (leave slot_digest seat.k (core_of w) v) ∷ []) first)) (record {
             held = record {
@@ -266,7 +266,7 @@ module _ (c : Cluster) (i me : ℕ) (placed : IsInstance i) (owned : me < 3 * c.
               asked = h.asked;
               view = refl;
               ballots = no_ballots c.f;
-              sealed = h.sealed;
+              certified = h.certified;
               proofs = proofs_put (without me w.at.changes) (without_maker me p.shelf.proofs) kept own (proofs_left me w.at.changes p.shelf.proofs h.proofs) refl seen (own_certs seat.k certs core.certs) formed;
               entry = h.entry;
               tags = h.tags;
@@ -287,7 +287,7 @@ module _ (c : Cluster) (i me : ℕ) (placed : IsInstance i) (owned : me < 3 * c.
               ];
               view = h.view;
               ballots = h.ballots;
-              sealed = h.sealed;
+              certified = h.certified;
               proofs = h.proofs;
               entry = h.entry;
               tags = h.tags;

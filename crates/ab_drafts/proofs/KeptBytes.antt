@@ -33,7 +33,7 @@ use Rattle.ab_shelf.specs.Signing.{Signing, puts, signing}
 use Rattle.ab_drafts.specs.Bounds.{IsBounded, IsInForm, HasTags, seat_of}
 use Rattle.ab_drafts.proofs.Ballots.{ballots_put, no_ballots}
 use Rattle.ab_drafts.proofs.Proofs.{proofs_put, no_proofs}
-use Rattle.ab_drafts.proofs.Certificates.{none_sealed}
+use Rattle.ab_drafts.proofs.Certificates.{none_certified}
 use Rattle.ab_drafts.proofs.Values.{nothing_written, no_values}
 use Rattle.ab_drafts.proofs.Reading.{IsInputWritten, IsChangeWritten, certs_told, told_written}
 use Rattle.ab_drafts.proofs.Putting.{IsPlain, IsPut, nothing, tags, ballot, proof, tagged_in, puts_are}
@@ -67,7 +67,7 @@ module _ (c : Cluster) (i me : ℕ) (placed : IsInstance i) (owned : me < 3 * c.
     asked = was.asked;
     view = was.view;
     ballots = was.ballots;
-    sealed = was.sealed;
+    certified = was.certified;
     proofs = was.proofs;
     entry = was.entry;
     tags = λ x has. elim (tagged_in t s.tagged x has) [ inl e ↦ subst (λ (z : Tagged). HasTags z) e long | inr old ↦ was.tags x old ];
@@ -88,7 +88,7 @@ module _ (c : Cluster) (i me : ℕ) (placed : IsInstance i) (owned : me < 3 * c.
               asked = was.asked;
               view = was.view;
               ballots = ballots_put c.f memory.peer.votes s.ballots b was.ballots within formed;
-              sealed = was.sealed;
+              certified = was.certified;
               proofs = was.proofs;
               entry = was.entry;
               tags = was.tags;
@@ -109,7 +109,7 @@ module _ (c : Cluster) (i me : ℕ) (placed : IsInstance i) (owned : me < 3 * c.
           asked = was.asked;
           view = was.view;
           ballots = was.ballots;
-          sealed = was.sealed;
+          certified = was.certified;
           proofs = proofs_put memory.changes s.proofs _ p was.proofs (ap (λ n. (n, change.view)) (sym maker) ∙ ap (λ n. (maker_of p, n)) (sym view)) told.view (certs_told change told) formed;
           entry = was.entry;
           tags = was.tags;
@@ -153,7 +153,7 @@ begun_in_form c i r e is = record {
     asked = λ m has. absurd (none_of m has);
     view = refl;
     ballots = no_ballots c.f;
-    sealed = none_sealed (limit_of c.plan i);
+    certified = none_certified (limit_of c.plan i);
     proofs = no_proofs;
     entry = entry_formed e.cert is.cert;
     tags = λ t has. absurd (none_of t has);

@@ -39,21 +39,21 @@ use Rattle.ab_pbft.specs.Rules.{Doing, takes_step, oldest_first}
 use Rattle.ab_slots.specs.declared.deed.Deed.{Deed}
 use Rattle.ab_slots.specs.declared.deed.Deed.TheVariants.{Signs, Prepares}
 use Rattle.ab_slots.specs.Deeds.{deeds_of, prepared_in, told_in}
-use Rattle.ab_shelf.specs.declared.signer.Signer.{Signer}
-use Rattle.ab_shelf.specs.Shelves.{sealed_by}
+use Rattle.ab_shelf.specs.declared.author.Author.{Author}
+use Rattle.ab_shelf.specs.Shelves.{certified_by}
 use Rattle.ab_shelf.specs.Posts.{Post, to_others, commit_message, ballot_by, sig_of, posts, posts_all}
 use Rattle.ab_drafts.specs.Bounds.{IsValueAt, IsCertAt, IsCore, IsBounded}
 use Rattle.ab_drafts.proofs.Ballots.{ballots_put, enough_signed}
-use Rattle.ab_drafts.proofs.Certificates.{length-slot_digest, sealed_set}
+use Rattle.ab_drafts.proofs.Certificates.{length-slot_digest, certified_set}
 use Rattle.ab_drafts.proofs.Values.{written_executed}
 
 -- ---- deeds in a row
 
-pub posts_all-append : (by : Signer) (deeds more : List Deed) (p : Post) → posts_all by (deeds ++ more) p ≡ posts_all by more (posts_all by deeds p)
+pub posts_all-append : (by : Author) (deeds more : List Deed) (p : Post) → posts_all by (deeds ++ more) p ≡ posts_all by more (posts_all by deeds p)
 posts_all-append by [] more p = refl
 posts_all-append by (d ∷ deeds) more p = posts_all-append by deeds more (posts by d p)
 
-pub told-append : (by : Signer) (doings more : List Doing) (p : Post) → posts_all by (told_in (doings ++ more)) p ≡ posts_all by (told_in more) (posts_all by (told_in doings) p)
+pub told-append : (by : Author) (doings more : List Doing) (p : Post) → posts_all by (told_in (doings ++ more)) p ≡ posts_all by (told_in more) (posts_all by (told_in doings) p)
 told-append by doings more p = ap (λ deeds. posts_all by deeds p) (flat_map-append deeds_of doings more) ∙ posts_all-append by (told_in doings) (told_in more) p
 
 oldest-last : {A : Type 0} (xs : List A) (x : A) → oldest_first (xs ++ x ∷ []) ≡ x ∷ oldest_first xs
@@ -102,8 +102,8 @@ certs_on k s front value core len last at_slot t d is =
 
 -- ---- replica me of instance i
 
-abbrev pub own_signer : Cluster → ℕ → ℕ → Signer
-own_signer c i me = record { cluster = c; instance = i; me = me }
+abbrev pub own_author : Cluster → ℕ → ℕ → Author
+own_author c i me = record { cluster = c; instance = i; me = me }
 
 -- what it keeps is within bounds, it signs in form, and what it sent is of the grammar
 pub record IsPosted (c : Cluster) (i : ℕ) (s : State Value) (votes : List (Vote (List ℕ))) (changes : List (Kept Value)) (requests : List Request) (p : Post) : Type 0 where
@@ -112,12 +112,12 @@ pub record IsPosted (c : Cluster) (i : ℕ) (s : State Value) (votes : List (Vot
   pub sent : (o : Out) → Contains p.sent o → IsDraft o.msg
 
 -- what it has told by these steps, the newest first
-abbrev pub told_by : Signer → List OrderStep → Post → Post
+abbrev pub told_by : Author → List OrderStep → Post → Post
 told_by by steps p = posts_all by (told_in (map takes_step (oldest_first steps))) p
 
 module _ (c : Cluster) (i me : ℕ) (placed : IsInstance i) (owned : me < 3 * c.f + 1) where
-  abbrev by : Signer
-  by = own_signer c i me
+  abbrev by : Author
+  by = own_author c i me
 
   pub of_slot : (view slot : ℕ) (value : Value) → IsView view → slot ≤ limit_of c.plan i → IsOfSlot (Replica me) i view slot (slot_digest value)
   of_slot view slot value seen within = ((omega arith, few_replicas c me owned), (placed, (seen, ((omega arith, omega (arith, within, limit_small c i)), length-slot_digest value))))
@@ -142,7 +142,7 @@ module _ (c : Cluster) (i me : ℕ) (placed : IsInstance i) (owned : me < 3 * c.
             asked = h.asked;
             view = h.view;
             ballots = ballots_put c.f votes p.shelf.ballots (ballot_by by s.signed x sig) h.ballots owned (was.pen content p.pen.used);
-            sealed = h.sealed;
+            certified = h.certified;
             proofs = h.proofs;
             entry = h.entry;
             tags = h.tags;
@@ -163,16 +163,16 @@ module _ (c : Cluster) (i me : ℕ) (placed : IsInstance i) (owned : me < 3 * c.
         let last : slice_get front s.prepared ≡ Some value = slice_get-take (suc s.prepared) s.accepted s.prepared (omega arith) ∙ there in
         let deeds : deeds_of (takes_step (prepares s.view front)) ≡ Prepares s.view s.prepared value ∷ [] =
         ap (λ n. prepared_in s.view n (slice_get front n)) (let e : pred (length front) ≡ s.prepared = ap pred len in e) ∙ ap (λ o. prepared_in s.view s.prepared o) last in
-        let z = sealed_by c.f s.view s.prepared value p.shelf.ballots in
+        let z = certified_by c.f s.view s.prepared value p.shelf.ballots in
         let at_slot = core.accepted s.prepared value there in
-        let seals = sealed_set (limit_of c.plan i) s.view s.prepared front value s.certs p.shelf.sealed z h.sealed (sym len) last at_slot (enough_signed c.f s.prepared (slot_digest value) votes p.shelf.ballots c.in_bounds.few_faulty h.ballots many) in
+        let certificates = certified_set (limit_of c.plan i) s.view s.prepared front value s.certs p.shelf.certified z h.certified (sym len) last at_slot (enough_signed c.f s.prepared (slot_digest value) votes p.shelf.ballots c.in_bounds.few_faulty h.ballots many) in
         subst (λ (ds : List Deed). Posted (after {V = Value} {X = List ℕ} s (prepares s.view front)) votes (posts_all by ds p)) (sym deeds) (record {
           held = record {
             core = record { view = core.view; few = core.few; accepted = core.accepted; certs = certs_on (limit_of c.plan i) s front value core len last at_slot; executed = core.executed };
             asked = h.asked;
             view = h.view;
             ballots = h.ballots;
-            sealed = seals;
+            certified = certificates;
             proofs = h.proofs;
             entry = h.entry;
             tags = h.tags;
@@ -193,7 +193,7 @@ module _ (c : Cluster) (i me : ℕ) (placed : IsInstance i) (owned : me < 3 * c.
             asked = h.asked;
             view = h.view;
             ballots = h.ballots;
-            sealed = h.sealed;
+            certified = h.certified;
             proofs = h.proofs;
             entry = h.entry;
             tags = h.tags;

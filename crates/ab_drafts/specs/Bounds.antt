@@ -14,7 +14,7 @@ use Rattle.ab_lock.specs.Votes.{Vote}
 use Rattle.ab_lock.specs.ViewChanges.{Kept}
 use Rattle.ab_pbft.specs.Rules.{Seat}
 use Rattle.ab_shelf.specs.declared.kept.Ballot.{Ballot}
-use Rattle.ab_shelf.specs.declared.kept.Sealed.{Sealed}
+use Rattle.ab_shelf.specs.declared.kept.Certified.{Certified}
 use Rattle.ab_shelf.specs.declared.kept.Tagged.{Tagged}
 use Rattle.ab_shelf.specs.Shelves.{Shelf, maker_of, view_of}
 use Rattle.ab_shelf.specs.Signing.{Signing}
@@ -58,15 +58,15 @@ pub record AreBallots (f : ℕ) (votes : List (Vote (List ℕ))) (ballots : List
   pub signed : (b : Ballot) → Contains ballots b → IsSig b.sig
 
 -- a slot has signatures where the rules have a certificate
-abbrev pub AreBoth : ℕ → Option (Cert Value) → Option Sealed → Type 0
+abbrev pub AreBoth : ℕ → Option (Cert Value) → Option Certified → Type 0
 AreBoth t None None = Unit {0}
 AreBoth t None (Some z) = ⊥
 AreBoth t (Some c) None = ⊥
 AreBoth t (Some c) (Some z) = IsValueAt t z.value × ArePrepares z.prepares
 
-pub record AreSealed (k : ℕ) (certs : List (Option (Cert Value))) (sealed : List (Option Sealed)) : Type 0 where
-  pub many : length sealed ≡ suc k
-  pub each : (t : ℕ) (o : Option Sealed) → slice_get sealed t ≡ Some o → AreBoth t (cert_at certs t) o
+pub record AreCertified (k : ℕ) (certs : List (Option (Cert Value))) (certified : List (Option Certified)) : Type 0 where
+  pub many : length certified ≡ suc k
+  pub each : (t : ℕ) (o : Option Certified) → slice_get certified t ≡ Some o → AreBoth t (cert_at certs t) o
 
 -- the VIEW-CHANGEs that the rules keep are those that are kept as messages: of the same replicas, for the same views
 abbrev pub change_key : Kept Value → ℕ × ℕ
@@ -92,7 +92,7 @@ pub record IsBounded (f k : ℕ) (s : State Value) (votes : List (Vote (List ℕ
   pub asked : (m : Request) → Contains requests m → IsRequest 0 15 m
   pub view : shelf.view ≡ s.view
   pub ballots : AreBallots f votes shelf.ballots
-  pub sealed : AreSealed k s.certs shelf.sealed
+  pub certified : AreCertified k s.certs shelf.certified
   pub proofs : AreProofs changes shelf.proofs
   pub entry : AreAborts 0 7 shelf.entry
   pub tags : (t : Tagged) → Contains shelf.tagged t → HasTags t

@@ -7,7 +7,8 @@ ghost use Rattle.ab_io.specs.Datagrams.{FitsIn, Gives, left_after, with_sent};
 
 use crate::fault::{Failed, Refused};
 
-/// How many bytes of a datagram are given at most: a piece of a message with its header.
+/// How many bytes of a datagram are given at most: one more than the longest piece of a message has with its header,
+/// so that a longer datagram is none.
 pub const LONGEST_DATAGRAM: usize = 8209;
 
 /// What came.

@@ -2,7 +2,7 @@
 
 use ab_num::Party;
 use ab_piece::{
-    Cause, Joiner, Pieces, Taken, cut, cut_messages_come_whole, cut_pieces_are_read,
+    DropCause, Joiner, Pieces, Taken, cut, cut_messages_come_whole, cut_pieces_are_read,
     open_messages_are_bounded, pieces_are_read, whole_messages_came,
 };
 use std::alloc::Global;
@@ -27,7 +27,7 @@ fn one_piece_is_its_message(rt: HostRuntime) {
     assert!(rt; piece(&pieces, 0) == want.as_slice());
     let mut joiner = Joiner::new(alloc);
     assert!(rt;
-        joiner.take(alloc, &want[..15]).expect(&rt, "memory") == Taken::Dropped(Cause::Header)
+        joiner.take(alloc, &want[..15]).expect(&rt, "memory") == Taken::Dropped(DropCause::Header)
     );
     let whole = vec![in alloc; 0x0au8, 0x0b, 0x0c].expect(&rt, "memory");
     assert!(rt; joiner.take(alloc, piece(&pieces, 0)).expect(&rt, "memory") == Taken::Whole(whole));
@@ -63,11 +63,11 @@ fn pieces_come_in_any_order(rt: HostRuntime) {
     assert!(rt; joiner.take(alloc, piece(&b, 1)).expect(&rt, "memory") == Taken::More);
     assert!(rt; joiner.take(alloc, piece(&a, 1)).expect(&rt, "memory") == Taken::More);
     assert!(rt;
-        joiner.take(alloc, piece(&a, 1)).expect(&rt, "memory") == Taken::Dropped(Cause::Again)
+        joiner.take(alloc, piece(&a, 1)).expect(&rt, "memory") == Taken::Dropped(DropCause::Again)
     );
     let of_three = [1u8, 1, 0, 3, 0, 0, 0, 0, 0, 0, 0, 1, 0, 2, 0, 3, 9];
     assert!(rt;
-        joiner.take(alloc, &of_three).expect(&rt, "memory") == Taken::Dropped(Cause::Differs)
+        joiner.take(alloc, &of_three).expect(&rt, "memory") == Taken::Dropped(DropCause::Differs)
     );
     assert!(rt; joiner.take(alloc, piece(&b, 0)).expect(&rt, "memory") == Taken::Whole(second));
     assert!(rt; joiner.take(alloc, piece(&a, 0)).expect(&rt, "memory") == Taken::Whole(first));

@@ -1,10 +1,8 @@
 -- What holds of members in every event.
 use Rattle.std.proofs.Common.{◌≡◌, ℕ, ◌+◌, ◌-◌, ◌*◌, ◌^◌, ◌<◌, ◌≤◌, Bool, true, false, Result, Ok, Err, List, [], map, length, Option, Some, IsTrue, All, refl, sym, ap, ◌∙◌, subst, arith, slice_get, slice_set}
-use Rattle.std.specs.Prelude.{IfOk, OnOk, ◌≢◌, ◌&&◌, nat_le, nat_lt, if◌then◌else◌}
+use Rattle.std.specs.Prelude.{IfOk, OnOk, ◌≢◌, ◌&&◌, if◌then◌else◌}
 use Rattle.std.specs.Option.{option_map}
-use Rattle.std.proofs.lemmas.Bool.{and_parts, leb-true, ltb-true}
-use Rattle.std.proofs.lemmas.List.Elements.{All-nil}
-use Rattle.arrayvec.specs.ArrayVec.{ArrayVec}
+use Rattle.std.proofs.lemmas.Bool.{ltb-true}
 use Rattle.std.proofs.lemmas.List.{get_or-set_same, length-map, length-set}
 use Rattle.std.proofs.lemmas.Option.{slice_get-get_or}
 use Rattle.ab_num.specs.declared.cluster.Cluster.{Cluster}
@@ -46,12 +44,9 @@ use Rattle.ab_member.specs.declared.given.Given.TheVariants as given
 use Rattle.ab_member.specs.Credentials.{Credentials, IsClusterOf, IsPartyRing, credentials_in, own_key, with_own}
 use Rattle.ab_member.specs.Given.{IsGiven, given_call}
 use Rattle.ab_member.specs.Replicas.{IsReplicaMember, ReplicaMember, first_replica, own_setup, replica_after}
-use Rattle.ab_run.specs.declared.phase.Phase.{Phase}
-use Rattle.ab_run.specs.declared.phase.Phase.TheVariants.{Idle, Waiting, Panicking}
-use Rattle.ab_run.specs.Clients.{Cli, Move, asking}
-use Rattle.ab_run.specs.Local.{Cue, after_moves, marks_in_moves, sent_in_moves}
-use Rattle.ab_client.specs.Clients.{Seat, after, alone, marks, sends, told}
-use Rattle.ab_member.specs.Clients.{ClientMember, Does, Heard, IsClientMember, first_client, is_command}
+use Rattle.ab_run.specs.Clients.{Cli}
+use Rattle.ab_client.specs.Clients.{Seat, after, marks, sends}
+use Rattle.ab_member.specs.Clients.{ClientMember, first_client}
 
 -- ---- keys
 

@@ -20,7 +20,7 @@ use Rattle.ab_loop.specs.Outside.{Counts, Outside}
 use Rattle.ab_loop.specs.Runs.{HasFaultOf, HasServed, Start, start_of}
 use Rattle.ab_member.specs.Replicas.{IsFirstReplica, ReplicaMember, replica_rules}
 use Rattle.ab_member.specs.Clients.{ClientMember, IsFirstClient, client_rules}
-use Rattle.ab_replay.specs.declared.refusal.Cause.TheVariants.{BadLine, NoEnd}
+use Rattle.ab_replay.specs.declared.refusal.RefusalCause.TheVariants.{BadLine, NoEnd}
 use Rattle.ab_replay.specs.declared.refusal.Refusal.{Refusal}
 use Rattle.ab_replay.specs.Protocols.{Any}
 use Rattle.ab_replay.specs.Replays.{proto_of}

@@ -17,7 +17,7 @@ use ab_kv::Kv;
 use ab_loop::{Job, PartyCore, ServeFault, Served, Setting, serve};
 use ab_member::{ClientMember, ReplicaMember};
 use ab_num::{Party, ServiceName};
-use ab_replay::{AnyProtocol, Cause, ReadFault, Refusal, read_all};
+use ab_replay::{AnyProtocol, ReadFault, Refusal, RefusalCause, read_all};
 use ab_svc::{Echo, Service};
 use ab_words::NodeCommand;
 use std::alloc::Global;
@@ -42,11 +42,11 @@ fn refusal_of(fault: NodeFault) -> Option<Refusal>
     match fault {
         NodeFault::BadLine(line) => Some(Refusal {
             line,
-            cause: Cause::BadLine,
+            cause: RefusalCause::BadLine,
         }),
         NodeFault::NoEnd(line) => Some(Refusal {
             line,
-            cause: Cause::NoEnd,
+            cause: RefusalCause::NoEnd,
         }),
         NodeFault::OutOfMemory => None,
     }

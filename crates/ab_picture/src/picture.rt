@@ -1,7 +1,7 @@
 //! The parts of a picture.
 
 use ab_num::{Cluster, Party};
-use ab_text::{Cause, Core, Event, Line, Premise};
+use ab_text::{Core, Event, Line, OpenCause, Premise};
 use arrayvec::ArrayVec;
 
 /// A packet: to whom it was sent, and the code of its message, which is its first byte.
@@ -82,7 +82,7 @@ pub enum Sign {
     Entered {
         instance: u32,
     },
-    Refused(Cause),
+    Refused(OpenCause),
     Spent,
 }
 

@@ -7,8 +7,8 @@ use Rattle.std.proofs.lemmas.List.Quantifiers.{position-Some}
 use Rattle.ab_num.specs.Parties.{party_eq}
 use Rattle.ab_num.proofs.PartyLemmas.{same_party}
 use Rattle.ab_form.specs.declared.bad.Bad.{Bad}
-use Rattle.ab_piece.specs.declared.taken.Cause.{Cause}
-use Rattle.ab_piece.specs.declared.taken.Cause.TheVariants as cause
+use Rattle.ab_piece.specs.declared.taken.DropCause.{DropCause}
+use Rattle.ab_piece.specs.declared.taken.DropCause.TheVariants as cause
 use Rattle.ab_piece.specs.Pieces.{Piece, piece_of}
 use Rattle.ab_piece.specs.Joining.{Opened, Step, further_step, is_of, message_of, missing, dropped, more, opened, opening_step, piece_step, step, step_of, whole, with_body, with_room}
 use Rattle.ab_piece.proofs.CountLemmas.{nowhere}
@@ -23,7 +23,7 @@ pub record Fills (p : Piece) (os : List Opened) (at : ℕ) : Type 0 where
 
 -- the five ways in which a datagram may be taken
 pub data Change (bytes : List ℕ) (os : List Opened) (s : Step) : Type 0 where
-  drops : (c : Cause) → s ≡ step (dropped c) os → Change bytes os s
+  drops : (c : DropCause) → s ≡ step (dropped c) os → Change bytes os s
   alone : (p : Piece) → piece_of bytes ≡ Ok p → p.count ≡ 1 → s ≡ step (whole p.body) os → Change bytes os s
   opens : (p : Piece) → piece_of bytes ≡ Ok p → count_by (is_of p.sender p.number) os ≡ 0 → s ≡ step more (with_room p.sender os ++ opened p ∷ []) → Change bytes os s
   extends : (p : Piece) → piece_of bytes ≡ Ok p → (at : ℕ) → Fills p os at → s ≡ step more (set os at (with_body (get_or os at (opened p)) p.index p.body)) → Change bytes os s

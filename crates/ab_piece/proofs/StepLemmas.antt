@@ -7,7 +7,7 @@ use Rattle.ab_num.specs.declared.party.Party.{Party}
 use Rattle.ab_num.specs.Parties.{party_eq}
 use Rattle.ab_num.proofs.PartyLemmas.{same_party}
 use Rattle.ab_form.specs.declared.bad.Bad.{Bad}
-use Rattle.ab_piece.specs.declared.taken.Cause.TheVariants as cause
+use Rattle.ab_piece.specs.declared.taken.DropCause.TheVariants as cause
 use Rattle.ab_piece.specs.Pieces.{Piece, piece_of}
 use Rattle.ab_piece.specs.Joining.{Opened, dropped, further_step, is_from, is_of, message_of, missing, more, opened, opening_step, piece_step, step, step_of, whole, with_body}
 use Rattle.ab_piece.proofs.CountLemmas.{count-no, count-yes}

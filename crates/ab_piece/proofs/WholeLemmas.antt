@@ -7,7 +7,7 @@ use Rattle.std.proofs.lemmas.List.Elements.{All-append, All-drop, All-nil, All-p
 use Rattle.std.proofs.lemmas.List.Sums.{sum_by-cons, sum_by-set}
 use Rattle.std.proofs.lemmas.List.Folds.{flat_map-map}
 use Rattle.std.proofs.lemmas.List.{get_or-map, length-map, length-replicate}
-use Rattle.ab_piece.specs.declared.taken.Cause.{Cause}
+use Rattle.ab_piece.specs.declared.taken.DropCause.{DropCause}
 use Rattle.ab_piece.specs.Pieces.{Piece, piece_of}
 use Rattle.ab_piece.specs.Joining.{Opened, Step, crowded_out, dropped, message_of, missing, more, open_after, opened, step_of, whole, with_body, with_room, without}
 use Rattle.ab_piece.specs.Wholes.{Came, IsWholeOf}
@@ -133,7 +133,7 @@ same_whole a b e = cc
 not_more : (m : List ℕ) → more ≡ whole m → ⊥
 not_more m e = cc
 
-not_dropped : (m : List ℕ) (c : Cause) → dropped c ≡ whole m → ⊥
+not_dropped : (m : List ℕ) (c : DropCause) → dropped c ≡ whole m → ⊥
 not_dropped m c e = cc
 
 removed : (ds : List (List ℕ)) (os : List Opened) (at : ℕ) → All (Holds ds) os → All (Holds ds) (remove os at)

@@ -3,8 +3,8 @@ use Rattle.std.specs.Prelude.{ℕ, List, [], ◌∷◌, ◌++◌, length, set, r
 use Rattle.std.specs.List.{count_by, position, remove, flat_map}
 use Rattle.ab_num.specs.declared.party.Party.{Party}
 use Rattle.ab_num.specs.Parties.{party_eq}
-use Rattle.ab_piece.specs.declared.taken.Cause.{Cause}
-use Rattle.ab_piece.specs.declared.taken.Cause.TheVariants as cause
+use Rattle.ab_piece.specs.declared.taken.DropCause.{DropCause}
+use Rattle.ab_piece.specs.declared.taken.DropCause.TheVariants as cause
 use Rattle.ab_piece.specs.declared.taken.Taken.{Taken}
 use Rattle.ab_piece.specs.declared.taken.Taken.TheVariants as taken
 use Rattle.ab_piece.specs.Pieces.{Piece, piece_of}
@@ -63,7 +63,7 @@ with_room sender messages = without (crowded_out sender messages) messages
 pub data Answer : Type 0 where
   whole : List ℕ → Answer
   more : Answer
-  dropped : Cause → Answer
+  dropped : DropCause → Answer
 
 -- the answer, and the open messages after it
 pub record Step : Type 0 where

@@ -7,7 +7,7 @@ ghost use Rattle.ab_piece.specs.Joining.{answer_of, crowded_out, further_step, i
 
 use crate::opened::OpenMessage;
 use crate::reading::{PieceRef, read_piece};
-use crate::taken::{Cause, Taken};
+use crate::taken::{DropCause, Taken};
 use ab_num::{OutOfMemory, Party};
 use std::alloc::Global;
 use std::marker::Model;
@@ -92,7 +92,7 @@ impl Joiner {
         ensures err { OnErr result (self.new ≡ self.old) }
     {
         let Ok(piece) = read_piece(datagram) else {
-            return Ok(Taken::Dropped(Cause::Header));
+            return Ok(Taken::Dropped(DropCause::Header));
         };
         match place_of(self.open.as_slice(), piece.sender, piece.number) {
             Some(at) => self.go_on(alloc, at, &piece),
@@ -112,10 +112,10 @@ impl Joiner {
         let index = usize::from(p.index);
         let message = &mut self.open[at];
         if message.count() != usize::from(p.count) {
-            return Ok(Taken::Dropped(Cause::Differs));
+            return Ok(Taken::Dropped(DropCause::Differs));
         }
         if message.has(index) {
-            return Ok(Taken::Dropped(Cause::Again));
+            return Ok(Taken::Dropped(DropCause::Again));
         }
         if message.missing() == 1 {
             let whole = message.whole(alloc, index, p.body)?;

@@ -15,4 +15,4 @@ pub use laws::{
     cut_messages_come_whole, cut_pieces_are_read, open_messages_are_bounded, pieces_are_read,
     whole_messages_came,
 };
-pub use taken::{Cause, Taken};
+pub use taken::{DropCause, Taken};

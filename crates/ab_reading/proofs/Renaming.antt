@@ -1,8 +1,7 @@
 -- ABORTs under the names of their makers, and their histories.
 use Rattle.std.proofs.Common.{◌≡◌, ℕ, ◌+◌, ◌*◌, ◌<◌, Bool, true, false, Option, None, Some, List, [], ◌∷◌, map, refl, sym, ap, subst, ◌∙◌}
 use Rattle.std.specs.Prelude.{◌&&◌, ◌==◌, nat_lt, if◌then◌else◌}
-use Rattle.std.specs.List.{list_all}
-use Rattle.std.proofs.lemmas.Bool.{and_parts, ltb-true, eqb-true}
+use Rattle.std.proofs.lemmas.Bool.{ltb-true}
 use Rattle.std.proofs.lemmas.List.Elements.{All-cons, All-nil}
 use Rattle.ab_num.specs.declared.cluster.Cluster.{Cluster}
 use Rattle.ab_num.specs.declared.party.Party.{Party}
@@ -19,7 +18,7 @@ use Rattle.ab_extract.specs.declared.cert.CertFault.{CertFault}
 use Rattle.ab_extract.specs.declared.cert.CertFault.TheVariants.{Count, SameSigner, WrongInstance, Unequal, OutOfMemory}
 use Rattle.ab_extract.specs.Certs.{IsAbort, AreAborts, IsFull, IsApart, IsSound, first_repeat, first_foreign, log_in}
 use Rattle.ab_extract.proofs.CertLemmas.{history_sound}
-use Rattle.ab_reading.specs.Aborts.{member_of, aborter_in, is_by, is_own, renamed_to, renamed_of, with_renamed, renamed}
+use Rattle.ab_reading.specs.Aborts.{member_of, aborter_in, renamed_to, renamed_of, with_renamed, renamed}
 use Rattle.ab_reading.proofs.Gathering.{with_next, Gathers}
 
 -- ---- ABORTs of makers in the cluster

@@ -1,8 +1,7 @@
 -- The slots of a VIEW-CHANGE, as a loop reads them.
-use Rattle.std.proofs.Common.{◌≡◌, ℕ, suc, ◌+◌, ◌*◌, ◌≤◌, Bool, true, false, Option, None, Some, List, [], ◌∷◌, ◌++◌, refl, sym, ap, ◌∙◌, drop, length, map, append-nil, add-one, arith}
+use Rattle.std.proofs.Common.{◌≡◌, ℕ, suc, ◌+◌, ◌*◌, ◌≤◌, Bool, true, false, Option, None, Some, List, [], ◌∷◌, ◌++◌, refl, sym, ap, ◌∙◌, drop, length, map, add-one}
 use Rattle.std.specs.Prelude.{◌&&◌, nat_lt, if◌then◌else◌}
 use Rattle.std.specs.List.{list_all}
-use Rattle.std.proofs.lemmas.List.{drop_all}
 use Rattle.ab_msg.specs.declared.value.Value.{Value}
 use Rattle.ab_order.specs.Inputs.{ProvedSlot, ChangeInput}
 use Rattle.ab_order.specs.Readings.{is_of_slot, with_slot, proved_slot, slots_of, change_of, with_change, changes_of}

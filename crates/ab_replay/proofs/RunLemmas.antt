@@ -30,7 +30,7 @@ use Rattle.ab_cast.specs.Casts.{Cast, with_core, core_at, command_refusal, first
 use Rattle.ab_world.specs.declared.fault.WorldFault.{WorldFault}
 use Rattle.ab_world.specs.declared.fault.WorldFault.TheVariants.{BadCommand, NoPacket, BadParty, Busy, EventLimit, PacketLimit, OutOfMemory as NoMemory}
 use Rattle.ab_world.specs.Runs.{outcome, refused_or}
-use Rattle.ab_world.specs.Steps.{Cause, Happening, ready, ready_in, happening, asked, asked_at, handed, addressed, delivered, rung, refuse_command, after, after_taking, moved_at, stepped, stepped_by, cue_from}
+use Rattle.ab_world.specs.Steps.{WorldCause, Happening, ready, ready_in, happening, asked, asked_at, handed, addressed, delivered, rung, refuse_command, after, after_taking, moved_at, stepped, stepped_by, cue_from}
 use Rattle.ab_world.specs.Worlds.{World, start}
 use Rattle.ab_replay.specs.declared.refusal.Refusal.{Refusal}
 use Rattle.ab_replay.specs.declared.running.ReplayFault.{ReplayFault}
@@ -273,7 +273,7 @@ module _ {P : Type 0} (proto : Proto P) where
 
   -- the first event that is refused is the cause
   pub refused_at : (w : World P) (e : Event) (line i at : ℕ) (fault : WorldFault) (r : Option Refusal) (f : ReplayFault) (o : Result (World P) (ℕ × WorldFault))
-      → f ≡ fault_from r → r ≡ step_refusal at fault → at ≡ line + (i + 1) → Cause proto fault w e
+      → f ≡ fault_from r → r ≡ step_refusal at fault → at ≡ line + (i + 1) → WorldCause proto fault w e
       → (stepped proto w e ≡ Err fault → o ≡ Err (i + 1, fault)) → EventsCause f line o
   refused_at w e line i at BadCommand r f o is refuses place cause next =
       subst (λ (x : ReplayFault). EventsCause x line o) (sym (is ∙ ap fault_from refuses)) (i + 1, BadCommand, next cause, ap (λ k. step_refusal k BadCommand) (sym place))

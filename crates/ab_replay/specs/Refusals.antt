@@ -1,11 +1,11 @@
 -- What is said of a refused line.
 use Rattle.std.specs.Prelude.{ℕ, List, codes, decimal}
 use Rattle.ab_text.specs.Reports.{◌then◌}
-use Rattle.ab_replay.specs.declared.refusal.Cause.{Cause}
-use Rattle.ab_replay.specs.declared.refusal.Cause.TheVariants.{BadLine, NoEnd, NoPacket, BadParty, Busy}
+use Rattle.ab_replay.specs.declared.refusal.RefusalCause.{RefusalCause}
+use Rattle.ab_replay.specs.declared.refusal.RefusalCause.TheVariants.{BadLine, NoEnd, NoPacket, BadParty, Busy}
 use Rattle.ab_replay.specs.declared.refusal.Refusal.{Refusal}
 
-abbrev pub cause_text : Cause → List ℕ
+abbrev pub cause_text : RefusalCause → List ℕ
 cause_text BadLine = codes "bad line"
 cause_text NoEnd = codes "no end"
 cause_text NoPacket = codes "no packet"

@@ -27,7 +27,7 @@ use Rattle.ab_world.specs.declared.fault.WorldFault.TheVariants as world_fault
 use Rattle.ab_world.specs.Lines.{entries_of}
 use Rattle.ab_world.specs.Runs.{outcome, inputs_of, came_to}
 use Rattle.ab_world.specs.Worlds.{World, start, opener, premise_of}
-use Rattle.ab_replay.specs.declared.refusal.Cause.TheVariants.{BadLine, NoEnd, NoPacket, BadParty, Busy}
+use Rattle.ab_replay.specs.declared.refusal.RefusalCause.TheVariants.{BadLine, NoEnd, NoPacket, BadParty, Busy}
 use Rattle.ab_replay.specs.declared.refusal.Refusal.{Refusal}
 use Rattle.ab_replay.specs.declared.running.ReplayFault.{ReplayFault}
 use Rattle.ab_replay.specs.declared.running.ReplayFault.TheVariants as replaying

@@ -6,7 +6,7 @@ mod report;
 mod running;
 mod stream;
 
-pub use refusal::{Cause, Refusal, refusal_line};
+pub use refusal::{Refusal, RefusalCause, refusal_line};
 pub use running::{
     AnyProtocol, AnyWorld, MOST_EVENTS, ReplayFault, Replayed, fault_of, refusal_of_step,
     refusal_of_text, replay, run_events,

@@ -7,7 +7,7 @@ use std::alloc::{AllocError, Global};
 
 /// What is wrong with a line of the input.
 #[derive(Clone, Copy, Debug, PartialEq, Eq)]
-pub enum Cause {
+pub enum RefusalCause {
     /// It is out of form.
     BadLine,
     /// The text ends before it.
@@ -24,19 +24,19 @@ pub enum Cause {
 #[derive(Clone, Copy, Debug, PartialEq, Eq)]
 pub struct Refusal {
     pub line: u32,
-    pub cause: Cause,
+    pub cause: RefusalCause,
 }
 
-impl Cause {
+impl RefusalCause {
     fn text(self) -> &'static str
         ensures { result.now ≡ cause_text self }
     {
         match self {
-            Cause::BadLine => "bad line",
-            Cause::NoEnd => "no end",
-            Cause::NoPacket => "no packet",
-            Cause::BadParty => "bad party",
-            Cause::Busy => "busy",
+            RefusalCause::BadLine => "bad line",
+            RefusalCause::NoEnd => "no end",
+            RefusalCause::NoPacket => "no packet",
+            RefusalCause::BadParty => "bad party",
+            RefusalCause::Busy => "busy",
         }
     }
 }

@@ -9,7 +9,7 @@ ghost use Rattle.ab_world.specs.Worlds.{start};
 ghost use Rattle.ab_replay.specs.Replays.{run_in, setup_in, Performs, Replays, EventsCause, TextCause, ReplayCause, fault_from, text_refusal, step_refusal};
 ghost use Rattle.ab_replay.specs.Streams.{IsInput};
 
-use crate::refusal::{Cause, Refusal};
+use crate::refusal::{Refusal, RefusalCause};
 use crate::report::report;
 use crate::stream::{ReadFault, read_all};
 use ab_abs::Protocol;
@@ -67,11 +67,11 @@ pub fn refusal_of_text(fault: TextFault) -> Option<Refusal>
     match fault {
         TextFault::BadLine(line) => Some(Refusal {
             line,
-            cause: Cause::BadLine,
+            cause: RefusalCause::BadLine,
         }),
         TextFault::NoEnd(line) => Some(Refusal {
             line,
-            cause: Cause::NoEnd,
+            cause: RefusalCause::NoEnd,
         }),
         TextFault::OutOfMemory => None,
     }
@@ -82,10 +82,10 @@ pub fn refusal_of_step(line: u32, fault: WorldFault) -> Option<Refusal>
     ensures { result ≡ step_refusal line fault }
 {
     let cause = match fault {
-        WorldFault::BadCommand => Cause::BadLine,
-        WorldFault::NoPacket => Cause::NoPacket,
-        WorldFault::BadParty => Cause::BadParty,
-        WorldFault::Busy => Cause::Busy,
+        WorldFault::BadCommand => RefusalCause::BadLine,
+        WorldFault::NoPacket => RefusalCause::NoPacket,
+        WorldFault::BadParty => RefusalCause::BadParty,
+        WorldFault::Busy => RefusalCause::Busy,
         WorldFault::EventLimit => return None,
         WorldFault::PacketLimit => return None,
         WorldFault::OutOfMemory => return None,

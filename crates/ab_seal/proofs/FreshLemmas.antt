@@ -1,6 +1,5 @@
 -- What a draft states anew is of the grammar, and for whom its bytes are the same.
-use Rattle.std.proofs.Common.{◌≡◌, ℕ, ◌+◌, ◌*◌, leb, ltb, cond, Bool, true, false, IsTrue, List, [], ◌∷◌, length, All, Option, None, Some, refl, arith}
-use Rattle.std.proofs.lemmas.Bool.{false≢true}
+use Rattle.std.proofs.Common.{◌≡◌, ℕ, ◌+◌, ◌*◌, leb, ltb, cond, Bool, true, false, IsTrue, List, [], ◌∷◌, length, All, Option, None, Some, arith}
 use Rattle.std.proofs.lemmas.List.Elements.{All-cons}
 use Rattle.arrayvec.specs.ArrayVec.{ArrayVec}
 use Rattle.ab_num.specs.declared.party.Party.{Party}
@@ -11,7 +10,6 @@ use Rattle.ab_hist.specs.declared.request.Request.{Request}
 use Rattle.ab_form.specs.Formats.{IsWithin}
 use Rattle.ab_form.specs.Lists.{FitsInside}
 use Rattle.ab_keys.specs.Keys.{is_party}
-use Rattle.ab_keys.specs.Rings.{Ring}
 use Rattle.ab_msg.specs.declared.content.Content.{Content}
 use Rattle.ab_msg.specs.declared.content.Content.TheVariants.{Req, Order, Resp, ChainTag, Panic, Abort, PrePrepare, Prepare, Commit, ViewChange, NewView}
 use Rattle.ab_msg.specs.declared.message.Msg.{Msg}
@@ -20,7 +18,6 @@ use Rattle.ab_msg.specs.Claims.{fresh, passed_at}
 use Rattle.ab_msg.specs.Fields.{IsInstance, IsReply, IsRequest}
 use Rattle.ab_msg.specs.Contents.{IsAbort, IsChange, IsCommit, IsContent, IsNewView, IsOrder, IsPanic, IsPrePrepare, IsPrepare, IsReq, IsResp}
 use Rattle.ab_msg.specs.Messages.{IsDraft}
-use Rattle.ab_seal.specs.Sealing.{tagged}
 use Rattle.ab_seal.proofs.DraftLemmas.{party-fits}
 
 of-req : (c : Content) → IsReq c → IsContent c

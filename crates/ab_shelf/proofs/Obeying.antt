@@ -27,9 +27,9 @@ use Rattle.ab_pbft.specs.Rules.{Doing, takes_step, offers, leads, done_by, sayin
 use Rattle.ab_slots.specs.declared.deed.Deed.{Deed}
 use Rattle.ab_slots.specs.declared.deed.Deed.TheVariants.{Signs, Prepares, Changes, Enters, Offers, Leads}
 use Rattle.ab_slots.specs.Deeds.{deeds_of, prepared_in, told_in}
-use Rattle.ab_shelf.specs.declared.signer.Signer.{Signer}
+use Rattle.ab_shelf.specs.declared.author.Author.{Author}
 use Rattle.ab_shelf.specs.Posts.{Post, to_others, own_change_of, offer_message, commit_message, lead_message, posts, posts_all, signed_by, signed_in_all}
-use Rattle.ab_shelf.specs.Signing.{signing, signer_of, input_of, deeds_by, first_post}
+use Rattle.ab_shelf.specs.Signing.{signing, author_of, input_of, deeds_by, first_post}
 use Rattle.ab_shelf.proofs.PenLemmas.{pen_by}
 
 -- ---- to the others
@@ -72,7 +72,7 @@ others_some (suc (suc n)) me says two =
 
 -- ---- what others hear of is what the rules make
 
-module _ (by : Signer) where
+module _ (by : Author) where
   abbrev f : ℕ
   f = by.cluster.f
 
@@ -263,17 +263,17 @@ signing_obeys = record {
   goes_on = λ pen q call. refl;
   stays = λ pen q call. (refl, refl);
   stated = λ pen q call s has.
-      all_stated (signer_of q) (deeds_by q call) (first_post pen q call) s q.cluster.in_bounds.some_faulty
-      (subst (λ (l : List Content). Contains l s) (sym (told_says (signer_of q) (done_by q.order (input_of q call)).doings)) has);
+      all_stated (author_of q) (deeds_by q call) (first_post pen q call) s q.cluster.in_bounds.some_faulty
+      (subst (λ (l : List Content). Contains l s) (sym (told_says (author_of q) (done_by q.order (input_of q call)).doings)) has);
   only = λ pen q call o s g r has is.
-      elim (all_only (signer_of q) (deeds_by q call) (first_post pen q call) o s g r has is) [
+      elim (all_only (author_of q) (deeds_by q call) (first_post pen q call) o s g r has is) [
         | inl none ↦ absurd (none_of o none)
-        | inr its ↦ subst (λ (l : List Content). Contains l s) (told_says (signer_of q) (done_by q.order (input_of q call)).doings) its
+        | inr its ↦ subst (λ (l : List Content). Contains l s) (told_says (author_of q) (done_by q.order (input_of q call)).doings) its
       ];
   signed = λ pen q call o w has in_it.
-      elim (all_signed (signer_of q) (deeds_by q call) (first_post pen q call) o w has in_it) [
+      elim (all_signed (author_of q) (deeds_by q call) (first_post pen q call) o w has in_it) [
         | inl none ↦ absurd (none_of o none)
         | inr is ↦ (is.0, is.1, is.2)
       ];
-  sent = λ pen q call s has. all_sent (signer_of q) (deeds_by q call) (first_post pen q call) s q.cluster.in_bounds.some_faulty has;
+  sent = λ pen q call s has. all_sent (author_of q) (deeds_by q call) (first_post pen q call) s q.cluster.in_bounds.some_faulty has;
 }

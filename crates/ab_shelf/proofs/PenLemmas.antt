@@ -3,7 +3,7 @@ use Rattle.std.proofs.Common.{◌≡◌, ℕ, ◌+◌, List, [], ◌∷◌, refl
 use Rattle.ab_msg.specs.Pens.{Pen, moved}
 use Rattle.ab_slots.specs.declared.deed.Deed.{Deed}
 use Rattle.ab_slots.specs.declared.deed.Deed.TheVariants.{Signs, Prepares, Changes, Enters, Offers, Leads}
-use Rattle.ab_shelf.specs.declared.signer.Signer.{Signer}
+use Rattle.ab_shelf.specs.declared.author.Author.{Author}
 use Rattle.ab_shelf.specs.Posts.{Post, posts, posts_all, signed_by, signed_in_all, signings}
 
 used_as : (pen : Pen) (n m : ℕ) → n ≡ m → ◌≡◌ {A = Pen} (record { used = n; sig = pen.sig }) (record { used = m; sig = pen.sig })
@@ -15,7 +15,7 @@ moved_none pen = used_as pen pen.used (pen.used + 0) (omega arith)
 moved_both : (pen : Pen) (a b n : ℕ) → n ≡ a + b → moved (moved pen a) b ≡ moved pen n
 moved_both pen a b n is = used_as pen ((pen.used + a) + b) (pen.used + n) (omega (arith, is))
 
-module _ (by : Signer) where
+module _ (by : Author) where
   pub pen_by : (d : Deed) (p : Post) → (posts by d p).pen ≡ moved p.pen (length (signed_by by d))
   pen_by (Signs view slot x) p = refl
   pen_by (Prepares view slot value) p = moved_none p.pen

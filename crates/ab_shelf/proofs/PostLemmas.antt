@@ -4,10 +4,10 @@ use Rattle.std.proofs.lemmas.Grind.{flat_map-append}
 use Rattle.std.proofs.lemmas.List.{append-nil, length-append, take_more}
 use Rattle.std.proofs.lemmas.List.Folds.{length-flat_map-take}
 use Rattle.ab_slots.specs.declared.deed.Deed.{Deed}
-use Rattle.ab_shelf.specs.declared.signer.Signer.{Signer}
+use Rattle.ab_shelf.specs.declared.author.Author.{Author}
 use Rattle.ab_shelf.specs.Posts.{Post, posts, posts_all, signed_by, signed_in_all, signings}
 
-module _ (by : Signer) where
+module _ (by : Author) where
   posts_both : (xs ys : List Deed) (p : Post) → posts_all by (xs ++ ys) p ≡ posts_all by ys (posts_all by xs p)
   posts_both [] ys p = refl
   posts_both (d ∷ xs) ys p = posts_both xs ys (posts by d p)

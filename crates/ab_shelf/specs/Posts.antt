@@ -18,8 +18,8 @@ use Rattle.ab_slots.specs.declared.deed.Deed.{Deed}
 use Rattle.ab_slots.specs.declared.deed.Deed.TheVariants.{Signs, Prepares, Changes, Enters, Offers, Leads}
 use Rattle.ab_shelf.specs.declared.kept.Ballot.{Ballot}
 use Rattle.ab_shelf.specs.declared.kept.Tagged.{Tagged}
-use Rattle.ab_shelf.specs.declared.signer.Signer.{Signer}
-use Rattle.ab_shelf.specs.Shelves.{Shelf, with_ballot, with_sealed, sealed_front, own_proof, left_for, entered, proofs_for, tags_of}
+use Rattle.ab_shelf.specs.declared.author.Author.{Author}
+use Rattle.ab_shelf.specs.Shelves.{Shelf, with_ballot, with_certified, certified_front, own_proof, left_for, entered, proofs_for, tags_of}
 
 -- ---- what is sent
 
@@ -41,20 +41,20 @@ offer_to s (Base h) r = offer.Base s.entry
 offer_to s (Order m) r = offer.Request m (tag_for m.client s.tagged r)
 
 -- the PRE-PREPARE, and the COMMIT, of a value for a slot of a view
-abbrev pub offer_message : Signer → Shelf → ℕ → ℕ → Value → ℕ → Msg
+abbrev pub offer_message : Author → Shelf → ℕ → ℕ → Value → ℕ → Msg
 offer_message by s view slot value r = msg.PrePrepare (PrePrepare (Replica by.me) by.instance view slot (slot_digest value)) no_tag (offer_to s value r)
 
-abbrev pub commit_message : Signer → ℕ → ℕ → Value → Msg
+abbrev pub commit_message : Author → ℕ → ℕ → Value → Msg
 commit_message by view slot value = msg.Commit (Commit (Replica by.me) by.instance view slot (slot_digest value)) no_tag
 
-abbrev pub lead_message : Signer → Shelf → ℕ → Msg
+abbrev pub lead_message : Author → Shelf → ℕ → Msg
 lead_message by s view = msg.NewView (NewView (Replica by.me) by.instance view) no_tag (proofs_for by.cluster.f view s.proofs)
 
 -- the own VIEW-CHANGE for a view, with the next signature
-abbrev pub own_change_of : Signer → Shelf → Pen → ℕ → List (ℕ × List ℕ) → Proof
+abbrev pub own_change_of : Author → Shelf → Pen → ℕ → List (ℕ × List ℕ) → Proof
 own_change_of by s pen view entries =
     let content = ViewChange (Replica by.me) by.instance view entries in
-    own_proof by.me content (sealed_front s.sealed) (pen.sig content pen.used)
+    own_proof by.me content (certified_front s.certified) (pen.sig content pen.used)
 
 -- ---- along what it does
 
@@ -64,7 +64,7 @@ pub record Post : Type 0 where
   pub shelf : Shelf
   pub sent : List Out
 
-module _ (by : Signer) where
+module _ (by : Author) where
   abbrev pub tells : (ℕ → Msg) → Post → Post
   tells says p = record p { sent = p.sent ++ to_others (3 * by.cluster.f + 1) by.me says }
 
@@ -82,7 +82,7 @@ module _ (by : Signer) where
       tells (λ r. msg.Prepare (record { maker = by.me; content = s; sig = sig })) (record { pen = moved p.pen 1; shelf = with_ballot (ballot_by slot x sig) p.shelf; sent = p.sent })
 
   abbrev pub posts_commit : ℕ → ℕ → Value → Post → Post
-  posts_commit view slot value p = tells (λ r. commit_message by view slot value) (record p { shelf = with_sealed by.cluster.f view slot value p.shelf })
+  posts_commit view slot value p = tells (λ r. commit_message by view slot value) (record p { shelf = with_certified by.cluster.f view slot value p.shelf })
 
   abbrev pub posts_change : ℕ → List (ℕ × List ℕ) → Post → Post
   posts_change view entries p =

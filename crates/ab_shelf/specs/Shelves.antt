@@ -11,23 +11,23 @@ use Rattle.ab_msg.specs.declared.change.Proof.{Proof}
 use Rattle.ab_msg.specs.Slots.{slot_digest}
 use Rattle.ab_lock.specs.Quorums.{quorum}
 use Rattle.ab_shelf.specs.declared.kept.Ballot.{Ballot}
-use Rattle.ab_shelf.specs.declared.kept.Sealed.{Sealed}
+use Rattle.ab_shelf.specs.declared.kept.Certified.{Certified}
 use Rattle.ab_shelf.specs.declared.kept.Tagged.{Tagged}
 
 -- entry is the certificate that the replica entered with, and view its present view. ballots are the PREPAREs of that view, the newest
--- first; sealed has each slot's last certificate, from slot 0 on; proofs are the kept VIEW-CHANGEs, by ascending replica; tagged has the
+-- first; certified has each slot's last certificate, from slot 0 on; proofs are the kept VIEW-CHANGEs, by ascending replica; tagged has the
 -- tags of each client's last request
 pub record Shelf : Type 0 where
   pub entry : List Signed
   pub view : ℕ
   pub ballots : List Ballot
-  pub sealed : List (Option Sealed)
+  pub certified : List (Option Certified)
   pub proofs : List Proof
   pub tagged : List Tagged
 
 -- before the first view of an instance that orders k requests
 abbrev pub empty_shelf : ℕ → List Signed → Shelf
-empty_shelf k entry = record { entry = entry; view = 0; ballots = []; sealed = replicate (k + 1) None; proofs = []; tagged = [] }
+empty_shelf k entry = record { entry = entry; view = 0; ballots = []; certified = replicate (k + 1) None; proofs = []; tagged = [] }
 
 -- ---- PREPAREs
 
@@ -64,18 +64,18 @@ signers_below zero slot x ballots = []
 signers_below (suc n) slot x ballots = signers_below n slot x ballots ++ signer_in n slot x ballots
 
 -- the PREPAREs of the lowest 2f + 1 replicas
-abbrev pub sealed_by : ℕ → ℕ → ℕ → Value → List Ballot → Sealed
-sealed_by f view slot value ballots =
+abbrev pub certified_by : ℕ → ℕ → ℕ → Value → List Ballot → Certified
+certified_by f view slot value ballots =
     record { at = view; value = value; prepares = take (quorum f) (signers_below (3 * f + 1) slot (slot_digest value) ballots) }
 
-abbrev pub with_sealed : ℕ → ℕ → ℕ → Value → Shelf → Shelf
-with_sealed f view slot value s = record s { sealed = set s.sealed slot (Some (sealed_by f view slot value s.ballots)) }
+abbrev pub with_certified : ℕ → ℕ → ℕ → Value → Shelf → Shelf
+with_certified f view slot value s = record s { certified = set s.certified slot (Some (certified_by f view slot value s.ballots)) }
 
 -- the certificates from slot 0 on, up to the first slot that has none
-abbrev pub sealed_front : List (Option Sealed) → List Sealed
-sealed_front [] = []
-sealed_front (None ∷ rest) = []
-sealed_front (Some c ∷ rest) = c ∷ sealed_front rest
+abbrev pub certified_front : List (Option Certified) → List Certified
+certified_front [] = []
+certified_front (None ∷ rest) = []
+certified_front (Some c ∷ rest) = c ∷ certified_front rest
 
 -- ---- VIEW-CHANGEs
 
@@ -115,7 +115,7 @@ abbrev pub proofs_for : ℕ → ℕ → List Proof → List Proof
 proofs_for f view proofs = take (quorum f) (filter (λ p. view_of p == view) proofs)
 
 -- the own VIEW-CHANGE with its signature, and the values and PREPAREs of the slots that it states
-abbrev pub own_proof : ℕ → Content → List Sealed → List ℕ → Proof
+abbrev pub own_proof : ℕ → Content → List Certified → List ℕ → Proof
 own_proof me content certs sig = record {
   change = record { maker = me; content = content; sig = sig };
   values = map (λ c. c.value) certs;

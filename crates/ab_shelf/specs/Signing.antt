@@ -12,7 +12,7 @@ use Rattle.ab_pbft.specs.Rules.{Pbft, done_by, fits, pbft}
 use Rattle.ab_slots.specs.declared.deed.Deed.{Deed}
 use Rattle.ab_slots.specs.declared.deed.Deed.TheVariants.{Changes}
 use Rattle.ab_slots.specs.Deeds.{told_in}
-use Rattle.ab_shelf.specs.declared.signer.Signer.{Signer}
+use Rattle.ab_shelf.specs.declared.author.Author.{Author}
 use Rattle.ab_shelf.specs.Shelves.{Shelf, empty_shelf, with_ballot_of, with_proof, with_tags}
 use Rattle.ab_shelf.specs.Posts.{Post, posts_all, signed_in_all}
 
@@ -24,8 +24,8 @@ pub record Signing : Type 0 where
   pub left : ℕ
 
 -- who signs
-abbrev pub signer_of : Signing → Signer
-signer_of q = record { cluster = q.cluster; instance = q.order.seat.i; me = q.order.seat.me }
+abbrev pub author_of : Signing → Author
+author_of q = record { cluster = q.cluster; instance = q.order.seat.i; me = q.order.seat.me }
 
 abbrev pub input_of : Signing → Call → Input
 input_of q call = read q.cluster q.order.seat.i call
@@ -54,14 +54,14 @@ abbrev pub first_post : Pen → Signing → Call → Post
 first_post pen q call = record { pen = pen; shelf = puts q.order.seat.f call (input_of q call) q.shelf; sent = [] }
 
 abbrev pub posted : Pen → Signing → Call → Post
-posted pen q call = posts_all (signer_of q) (deeds_by q call) (first_post pen q call)
+posted pen q call = posts_all (author_of q) (deeds_by q call) (first_post pen q call)
 
 abbrev pub signing : OrderProto Signing Pbft
 signing = record {
   begin = λ c i r e. record { cluster = c; order = pbft.begin (limit_of c.plan i) c.f i r e.base; shelf = empty_shelf (limit_of c.plan i) (unwrap_or e.cert []); left = 0 };
   after = λ pen q call. record { cluster = q.cluster; order = pbft.after q.order (input_of q call); shelf = (posted pen q call).shelf; left = q.left + leavings (deeds_by q call) };
   sends = λ pen q call. (posted pen q call).sent;
-  signs = λ q call. signed_in_all (signer_of q) (deeds_by q call);
+  signs = λ q call. signed_in_all (author_of q) (deeds_by q call);
   cluster = λ q. q.cluster;
   instance = λ q. q.order.seat.i;
   view = λ q. q.order;

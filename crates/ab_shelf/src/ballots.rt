@@ -4,9 +4,9 @@ ghost use Rattle.std.specs.Prelude.{◌≡◌, ◌+◌, ◌*◌, [], ◌∷◌, 
 ghost use Rattle.std.specs.List.{find};
 ghost use Rattle.std.specs.Option.{option_map};
 ghost use Rattle.ab_lock.specs.Quorums.{quorum};
-ghost use Rattle.ab_shelf.specs.Shelves.{is_of, is_for, has_ballot, put_ballot, signer_in, signers_below, sealed_by};
+ghost use Rattle.ab_shelf.specs.Shelves.{is_of, is_for, has_ballot, put_ballot, signer_in, signers_below, certified_by};
 
-use crate::kept::{Ballot, Sealed};
+use crate::kept::{Ballot, Certified};
 use ab_msg::{Copied, Sig, SlotPrepares, Value};
 use ab_num::{Cluster, OutOfMemory};
 use ab_slots::slot_digest;
@@ -87,20 +87,20 @@ fn first_signers(
 }
 
 /// The certificate of a value that becomes prepared in a view.
-pub(crate) fn sealed_by(
+pub(crate) fn certified_by(
     alloc: Global,
     c: &Cluster,
     view: u32,
     slot: u8,
     value: &Value,
     ballots: &[Ballot],
-) -> Result<Sealed, OutOfMemory>
-    ensures { IfOk result (λ s. s ≡ sealed_by c.now.f view slot value.now ballots.now) }
+) -> Result<Certified, OutOfMemory>
+    ensures { IfOk result (λ s. s ≡ certified_by c.now.f view slot value.now ballots.now) }
 {
     let x = slot_digest(value);
     let by = first_signers(alloc, c, ballots, slot, &x)?;
     let value = value.copy(alloc)?;
-    Ok(Sealed {
+    Ok(Certified {
         at: view,
         value,
         prepares: SlotPrepares::of(by),

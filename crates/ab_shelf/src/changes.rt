@@ -3,9 +3,9 @@
 ghost use Rattle.std.specs.Prelude.{◌≡◌, ◌<◌, ◌≤◌, ℕ, IfOk, OnOk, length, map, set, slice_index_or};
 ghost use Rattle.ab_lock.specs.Quorums.{quorum};
 ghost use Rattle.ab_msg.specs.declared.change.Proof.{Proof as ChangeProof};
-ghost use Rattle.ab_shelf.specs.Shelves.{maker_in, view_in, maker_of, view_of, later, put_proof, without_maker, proofs_for, own_proof, sealed_front};
+ghost use Rattle.ab_shelf.specs.Shelves.{maker_in, view_in, maker_of, view_of, later, put_proof, without_maker, proofs_for, own_proof, certified_front};
 
-use crate::kept::Sealed;
+use crate::kept::Certified;
 use ab_msg::{Content, Copied, Prepares, Proof, Proofs, Signed, Values};
 use ab_num::{OutOfMemory, Party};
 use std::alloc::Global;
@@ -108,14 +108,14 @@ pub(crate) fn proofs_for(
 }
 
 /// The values of the slots from slot 0 on that have certificates.
-fn front_values(alloc: Global, slots: &[Option<Sealed>]) -> Result<Values, OutOfMemory>
-    ensures { IfOk result (λ v. v ≡ map (λ c. c.value) (sealed_front slots.now)) }
+fn front_values(alloc: Global, slots: &[Option<Certified>]) -> Result<Values, OutOfMemory>
+    ensures { IfOk result (λ v. v ≡ map (λ c. c.value) (certified_front slots.now)) }
 {
     let mut values = Vec::with_capacity(alloc, slots.len())?;
     for slot in slots {
         match slot {
-            Some(sealed) => {
-                let value = sealed.value.copy(alloc)?;
+            Some(certified) => {
+                let value = certified.value.copy(alloc)?;
                 values.push(value)?;
             }
             None => return Ok(Values::of(values)),
@@ -125,14 +125,14 @@ fn front_values(alloc: Global, slots: &[Option<Sealed>]) -> Result<Values, OutOf
 }
 
 /// The PREPAREs of these slots.
-fn front_prepares(alloc: Global, slots: &[Option<Sealed>]) -> Result<Prepares, OutOfMemory>
-    ensures { IfOk result (λ v. v ≡ map (λ c. c.prepares) (sealed_front slots.now)) }
+fn front_prepares(alloc: Global, slots: &[Option<Certified>]) -> Result<Prepares, OutOfMemory>
+    ensures { IfOk result (λ v. v ≡ map (λ c. c.prepares) (certified_front slots.now)) }
 {
     let mut prepares = Vec::with_capacity(alloc, slots.len())?;
     for slot in slots {
         match slot {
-            Some(sealed) => {
-                let by = sealed.prepares.copy(alloc)?;
+            Some(certified) => {
+                let by = certified.prepares.copy(alloc)?;
                 prepares.push(by)?;
             }
             None => return Ok(Prepares::of(prepares)),
@@ -145,9 +145,9 @@ fn front_prepares(alloc: Global, slots: &[Option<Sealed>]) -> Result<Prepares, O
 pub(crate) fn own_proof(
     alloc: Global,
     change: Signed,
-    slots: &[Option<Sealed>],
+    slots: &[Option<Certified>],
 ) -> Result<Proof, OutOfMemory>
-    ensures { IfOk result (λ p. p ≡ own_proof change.maker change.content (sealed_front slots.now) change.sig) }
+    ensures { IfOk result (λ p. p ≡ own_proof change.maker change.content (certified_front slots.now) change.sig) }
 {
     let values = front_values(alloc, slots)?;
     let prepares = front_prepares(alloc, slots)?;

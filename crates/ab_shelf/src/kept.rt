@@ -27,15 +27,15 @@ impl Drop for Ballot {
 }
 
 /// A value that is prepared in a view, with 2f + 1 PREPAREs of that, by ascending replica.
-pub struct Sealed {
+pub struct Certified {
     pub at: u32,
     pub value: Value,
     pub prepares: SlotPrepares,
 }
 
-impl Drop for Sealed {
+impl Drop for Certified {
     fn drop(self) {
-        let Sealed {
+        let Certified {
             at: _,
             value: _,
             prepares: _,
@@ -62,11 +62,11 @@ impl Copied for Ballot {
     }
 }
 
-impl Copied for Sealed {
-    fn copy(&self, alloc: Global) -> Result<Sealed, OutOfMemory> {
+impl Copied for Certified {
+    fn copy(&self, alloc: Global) -> Result<Certified, OutOfMemory> {
         let value = self.value.copy(alloc)?;
         let prepares = self.prepares.copy(alloc)?;
-        Ok(Sealed {
+        Ok(Certified {
             at: self.at,
             value,
             prepares,
@@ -96,13 +96,16 @@ impl Copied for Tagged {
 }
 
 /// The same certificate, if there is one.
-fn copy_sealed(alloc: Global, sealed: &Option<Sealed>) -> Result<Option<Sealed>, OutOfMemory>
-    ensures { IfOk result (λ c. c ≡ sealed.now) }
+fn copy_certified(
+    alloc: Global,
+    certified: &Option<Certified>,
+) -> Result<Option<Certified>, OutOfMemory>
+    ensures { IfOk result (λ c. c ≡ certified.now) }
 {
-    match sealed {
-        Some(sealed) => {
-            let sealed = sealed.copy(alloc)?;
-            Ok(Some(sealed))
+    match certified {
+        Some(certified) => {
+            let certified = certified.copy(alloc)?;
+            Ok(Some(certified))
         }
         None => Ok(None),
     }
@@ -111,13 +114,13 @@ fn copy_sealed(alloc: Global, sealed: &Option<Sealed>) -> Result<Option<Sealed>,
 /// A copy of each slot's certificate.
 pub(crate) fn copy_slots(
     alloc: Global,
-    slots: &[Option<Sealed>],
-) -> Result<Vec<Option<Sealed>>, OutOfMemory>
+    slots: &[Option<Certified>],
+) -> Result<Vec<Option<Certified>>, OutOfMemory>
     ensures { IfOk result (λ v. v.items ≡ slots.now) }
 {
     let mut copies = Vec::with_capacity(alloc, slots.len())?;
-    'slots: for sealed in slots {
-        let copy = copy_sealed(alloc, sealed)?;
+    'slots: for certified in slots {
+        let copy = copy_certified(alloc, certified)?;
         copies.push(copy)?;
     }
     Ok(copies)

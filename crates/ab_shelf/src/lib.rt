@@ -1,6 +1,7 @@
 //! What a replica of PBFT keeps beside what its rules speak of, and what it sends.
 #![tactic(auto)]
 
+mod author;
 mod ballots;
 mod changes;
 mod kept;
@@ -8,9 +9,8 @@ mod laws;
 mod posting;
 mod sending;
 mod shelf;
-mod signer;
 
-pub use kept::{Ballot, Sealed, Tagged};
+pub use author::Author;
+pub use kept::{Ballot, Certified, Tagged};
 pub use laws::replicas_obey;
 pub use shelf::Shelf;
-pub use signer::Signer;

@@ -3,14 +3,14 @@
 ghost use Rattle.std.specs.Prelude.{◌≡◌, ◌+◌, ◌*◌, ◌<◌, ◌↔◌, ◌++◌, IfOk, OnOk, IsErrOf, length};
 ghost use Rattle.ab_num.specs.declared.party.Party.TheVariants.{Replica};
 ghost use Rattle.ab_msg.specs.Pens.{moved};
-ghost use Rattle.ab_shelf.specs.Shelves.{with_ballot, with_sealed, left_for};
+ghost use Rattle.ab_shelf.specs.Shelves.{with_ballot, with_certified, left_for};
 ghost use Rattle.ab_shelf.specs.Posts.{posts, posts_all, posts_prepare, posts_change, own_change_of, signed_by, signings, to_others, commit_message, lead_message};
 
+use crate::author::Author;
 use crate::changes::{own_proof, proofs_for};
 use crate::kept::Ballot;
 use crate::sending::{tell_all, tell_offer};
 use crate::shelf::Shelf;
-use crate::signer::Signer;
 use ab_abs::StepFault;
 use ab_msg::{
     Content, Copied, Msg, NO_TAG, Notary, Out, Proof, Sig, SignFault, Signed, Value, ViewEntries,
@@ -32,7 +32,7 @@ fn sign<N: Notary>(alloc: Global, content: &Content, n: &mut N) -> Result<Sig, S
 }
 
 /// The PREPARE of a slot in a view.
-fn prepare_of(by: &Signer, view: u32, slot: u8, x: &[u8; 32]) -> Content
+fn prepare_of(by: &Author, view: u32, slot: u8, x: &[u8; 32]) -> Content
     ensures { result ≡ Content.Prepare (Replica by.now.me) by.now.instance view slot x.now }
 {
     Content::Prepare {
@@ -45,7 +45,7 @@ fn prepare_of(by: &Signer, view: u32, slot: u8, x: &[u8; 32]) -> Content
 }
 
 /// The COMMIT of a value for a slot in a view.
-fn commit_of(by: &Signer, view: u32, slot: u8, value: &Value) -> Msg
+fn commit_of(by: &Author, view: u32, slot: u8, value: &Value) -> Msg
     ensures { result ≡ commit_message by.now view slot value.now }
 {
     let content = Content::Commit {
@@ -64,7 +64,7 @@ fn commit_of(by: &Signer, view: u32, slot: u8, value: &Value) -> Msg
 /// The VIEW-CHANGE for a view.
 fn change_of(
     alloc: Global,
-    by: &Signer,
+    by: &Author,
     view: u32,
     entries: &ViewEntries,
 ) -> Result<Content, OutOfMemory>
@@ -80,7 +80,7 @@ fn change_of(
 }
 
 /// The NEW-VIEW of a view, with the VIEW-CHANGEs that it rests on.
-fn lead_of(alloc: Global, by: &Signer, shelf: &Shelf, view: u32) -> Result<Msg, OutOfMemory>
+fn lead_of(alloc: Global, by: &Author, shelf: &Shelf, view: u32) -> Result<Msg, OutOfMemory>
     ensures { IfOk result (λ m. m ≡ lead_message by.now shelf.now view) }
 {
     let most = usize::from(2 * by.cluster.f + 1);
@@ -139,7 +139,7 @@ impl Shelf {
     fn own_prepare<N: Notary>(
         &mut self,
         alloc: Global,
-        by: &Signer,
+        by: &Author,
         view: u32,
         slot: u8,
         x: &[u8; 32],
@@ -158,7 +158,7 @@ impl Shelf {
     fn post_prepare<N: Notary>(
         &mut self,
         alloc: Global,
-        by: &Signer,
+        by: &Author,
         view: u32,
         slot: u8,
         x: &[u8; 32],
@@ -178,16 +178,16 @@ impl Shelf {
     fn post_commit(
         &mut self,
         alloc: Global,
-        by: &Signer,
+        by: &Author,
         view: u32,
         slot: u8,
         value: &Value,
         outs: &mut Vec<Out>,
     ) -> Result<(), OutOfMemory>
-        ensures shelf { OnOk result (self.new ≡ with_sealed by.now.cluster.f view slot value.now self.old) }
+        ensures shelf { OnOk result (self.new ≡ with_certified by.now.cluster.f view slot value.now self.old) }
         ensures sent { OnOk result (outs.new.items ≡ outs.old.items ++ to_others (3 * by.now.cluster.f + 1) by.now.me (λ r. commit_message by.now view slot value.now)) }
     {
-        self.seal(alloc, &by.cluster, view, slot, value)?;
+        self.certify(alloc, &by.cluster, view, slot, value)?;
         tell_all(alloc, by, commit_of(by, view, slot, value), outs)
     }
 
@@ -195,7 +195,7 @@ impl Shelf {
     fn own_change<N: Notary>(
         &self,
         alloc: Global,
-        by: &Signer,
+        by: &Author,
         view: u32,
         entries: &ViewEntries,
         n: &mut N,
@@ -205,7 +205,7 @@ impl Shelf {
     {
         let content = change_of(alloc, by, view, entries)?;
         let change = signed(alloc, by.me, content, n)?;
-        Ok(own_proof(alloc, change, self.sealed.as_slice())?)
+        Ok(own_proof(alloc, change, self.certified.as_slice())?)
     }
 
     /// Keeps its own VIEW-CHANGE as it leaves for the view.
@@ -226,7 +226,7 @@ impl Shelf {
     fn left_change<N: Notary>(
         &mut self,
         alloc: Global,
-        by: &Signer,
+        by: &Author,
         view: u32,
         entries: &ViewEntries,
         n: &mut N,
@@ -244,7 +244,7 @@ impl Shelf {
     fn post_change<N: Notary>(
         &mut self,
         alloc: Global,
-        by: &Signer,
+        by: &Author,
         view: u32,
         entries: &ViewEntries,
         n: &mut N,
@@ -263,7 +263,7 @@ impl Shelf {
     fn post_lead(
         &self,
         alloc: Global,
-        by: &Signer,
+        by: &Author,
         view: u32,
         outs: &mut Vec<Out>,
     ) -> Result<(), OutOfMemory>
@@ -273,12 +273,12 @@ impl Shelf {
         tell_all(alloc, by, msg, outs)
     }
 
-    /// Signs and adds what is sent for a deed, and keeps what is to be kept of it. Spent comes exactly of a deed
+    /// Signs and adds what is sent for a deed, and keeps what is to be kept of it. Spent comes only of a deed
     /// that signs where `n` can't. After an `Err` the value may be anything.
     pub fn post<N: Notary>(
         &mut self,
         alloc: Global,
-        by: &Signer,
+        by: &Author,
         deed: &Deed,
         n: &mut N,
         outs: &mut Vec<Out>,
@@ -310,7 +310,7 @@ impl Shelf {
     pub fn post_all<N: Notary>(
         &mut self,
         alloc: Global,
-        by: &Signer,
+        by: &Author,
         deeds: &[Deed],
         n: &mut N,
         outs: &mut Vec<Out>,

@@ -7,9 +7,9 @@ ghost use Rattle.ab_wire.specs.Inside.{tag_in};
 ghost use Rattle.ab_msg.specs.Slots.{slot_digest};
 ghost use Rattle.ab_shelf.specs.Posts.{to_others, no_tag, tag_for, offer_to, offer_message};
 
+use crate::author::Author;
 use crate::kept::Tagged;
 use crate::shelf::Shelf;
-use crate::signer::Signer;
 use ab_msg::{Content, Msg, NO_TAG, Offer, Out, Tag, Value};
 use ab_num::{OutOfMemory, Party};
 use ab_slots::slot_digest;
@@ -17,7 +17,7 @@ use std::alloc::Global;
 use std::mem::drop;
 
 /// Adds the same message to each other replica.
-fn tell(alloc: Global, by: &Signer, msg: &Msg, outs: &mut Vec<Out>) -> Result<(), OutOfMemory>
+fn tell(alloc: Global, by: &Author, msg: &Msg, outs: &mut Vec<Out>) -> Result<(), OutOfMemory>
     ensures { OnOk result (outs.new.items ≡ outs.old.items ++ to_others (3 * by.now.cluster.f + 1) by.now.me (λ r. msg.now)) }
 {
     for r in 0..by.cluster.replicas() {
@@ -35,7 +35,7 @@ fn tell(alloc: Global, by: &Signer, msg: &Msg, outs: &mut Vec<Out>) -> Result<()
 /// The same of a message of its own.
 pub(crate) fn tell_all(
     alloc: Global,
-    by: &Signer,
+    by: &Author,
     msg: Msg,
     outs: &mut Vec<Out>,
 ) -> Result<(), OutOfMemory>
@@ -100,7 +100,7 @@ fn offer_to(alloc: Global, shelf: &Shelf, value: &Value, r: u8) -> Result<Offer,
 /// The PRE-PREPARE of a value with the digest `x` to a replica.
 fn offer_message(
     alloc: Global,
-    by: &Signer,
+    by: &Author,
     shelf: &Shelf,
     view: u32,
     slot: u8,
@@ -129,7 +129,7 @@ fn offer_message(
 /// Adds the PRE-PREPARE of a value for a slot of a view to each other replica.
 pub(crate) fn tell_offer(
     alloc: Global,
-    by: &Signer,
+    by: &Author,
     shelf: &Shelf,
     view: u32,
     slot: u8,

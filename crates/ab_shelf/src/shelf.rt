@@ -2,11 +2,11 @@
 
 ghost use Rattle.std.specs.Prelude.{◌≡◌, ◌≢◌, ◌<◌, ◌≤◌, ℕ, [], None, Some, IfOk, OnOk, length, set, slice_index_or, unwrap_or, replicate};
 ghost use Rattle.ab_shelf.specs.declared.kept.Tagged.{Tagged as ClientTags};
-ghost use Rattle.ab_shelf.specs.Shelves.{empty_shelf, with_ballot, with_ballot_of, with_tags, with_proof, with_sealed, left_for, entered, put_tags};
+ghost use Rattle.ab_shelf.specs.Shelves.{empty_shelf, with_ballot, with_ballot_of, with_tags, with_proof, with_certified, left_for, entered, put_tags};
 
-use crate::ballots::{put_ballot, sealed_by};
+use crate::ballots::{certified_by, put_ballot};
 use crate::changes::{drop_maker, put_proof};
-use crate::kept::{Ballot, Sealed, Tagged, copy_slots};
+use crate::kept::{Ballot, Certified, Tagged, copy_slots};
 use ab_msg::{AbortCert, Proof, Tags, Value};
 use ab_num::{Cluster, OutOfMemory};
 use ab_slots::copy_each;
@@ -20,7 +20,7 @@ pub struct Shelf {
     pub(crate) entry: AbortCert,
     pub(crate) view: u32,
     pub(crate) ballots: Vec<Ballot>,
-    pub(crate) sealed: Vec<Option<Sealed>>,
+    pub(crate) certified: Vec<Option<Certified>>,
     pub(crate) proofs: Vec<Proof>,
     pub(crate) tagged: Vec<Tagged>,
 }
@@ -31,7 +31,7 @@ impl Drop for Shelf {
             entry: _,
             view: _,
             ballots: _,
-            sealed: _,
+            certified: _,
             proofs: _,
             tagged: _,
         } = self;
@@ -43,7 +43,7 @@ impl Model for Shelf {
 
     ghost Value = { Held };
 
-    ghost view = { λ s. record { entry = s.entry; view = s.view; ballots = s.ballots.items; sealed = s.sealed.items; proofs = s.proofs.items; tagged = s.tagged.items } };
+    ghost view = { λ s. record { entry = s.entry; view = s.view; ballots = s.ballots.items; certified = s.certified.items; proofs = s.proofs.items; tagged = s.tagged.items } };
 }
 
 /// The certificate, or an empty one where there is none.
@@ -57,7 +57,7 @@ fn entry_cert(alloc: Global, entry: &Option<AbortCert>) -> Result<AbortCert, Out
 }
 
 /// So many slots without certificates.
-fn empty_slots(alloc: Global, n: usize) -> Result<Vec<Option<Sealed>>, OutOfMemory>
+fn empty_slots(alloc: Global, n: usize) -> Result<Vec<Option<Certified>>, OutOfMemory>
     ensures { IfOk result (λ v. v.items ≡ replicate n None) }
 {
     let mut slots = Vec::with_capacity(alloc, n)?;
@@ -68,12 +68,12 @@ fn empty_slots(alloc: Global, n: usize) -> Result<Vec<Option<Sealed>>, OutOfMemo
 }
 
 /// Keeps it as the certificate of a slot, if that is there.
-fn put_sealed(slots: &mut Vec<Option<Sealed>>, slot: u8, sealed: Sealed)
-    ensures { slots.new.items ≡ set slots.old.items slot (Some sealed) }
+fn put_certified(slots: &mut Vec<Option<Certified>>, slot: u8, certified: Certified)
+    ensures { slots.new.items ≡ set slots.old.items slot (Some certified) }
 {
     let place = usize::from(slot);
     if place < slots.len() {
-        slots[place] = Some(sealed);
+        slots[place] = Some(certified);
     }
 }
 
@@ -108,12 +108,12 @@ impl Shelf {
         ensures { IfOk result (λ s. s ≡ empty_shelf limit (unwrap_or entry.now [])) }
     {
         let entry = entry_cert(alloc, entry)?;
-        let sealed = empty_slots(alloc, usize::from(limit) + 1)?;
+        let certified = empty_slots(alloc, usize::from(limit) + 1)?;
         Ok(Shelf {
             entry,
             view: 0,
             ballots: Vec::new(alloc),
-            sealed,
+            certified,
             proofs: Vec::new(alloc),
             tagged: Vec::new(alloc),
         })
@@ -153,7 +153,7 @@ impl Shelf {
     }
 
     /// Makes the certificate of a slot whose value is prepared in a view.
-    pub(crate) fn seal(
+    pub(crate) fn certify(
         &mut self,
         alloc: Global,
         c: &Cluster,
@@ -161,10 +161,10 @@ impl Shelf {
         slot: u8,
         value: &Value,
     ) -> Result<(), OutOfMemory>
-        ensures { OnOk result (self.new ≡ with_sealed c.now.f view slot value.now self.old) }
+        ensures { OnOk result (self.new ≡ with_certified c.now.f view slot value.now self.old) }
     {
-        let sealed = sealed_by(alloc, c, view, slot, value, self.ballots.as_slice())?;
-        put_sealed(&mut self.sealed, slot, sealed);
+        let certified = certified_by(alloc, c, view, slot, value, self.ballots.as_slice())?;
+        put_certified(&mut self.certified, slot, certified);
         Ok(())
     }
 
@@ -195,14 +195,14 @@ impl Shelf {
     {
         let entry = self.entry.copy(alloc)?;
         let ballots = copy_each(alloc, self.ballots.as_slice())?;
-        let sealed = copy_slots(alloc, self.sealed.as_slice())?;
+        let certified = copy_slots(alloc, self.certified.as_slice())?;
         let proofs = copy_each(alloc, self.proofs.as_slice())?;
         let tagged = copy_each(alloc, self.tagged.as_slice())?;
         Ok(Shelf {
             entry,
             view: self.view,
             ballots,
-            sealed,
+            certified,
             proofs,
             tagged,
         })

@@ -1,10 +1,10 @@
 -- The values that VIEW-CHANGEs choose, slot by slot.
-use Rattle.std.proofs.Common.{◌≡◌, ℕ, suc, ◌+◌, ◌-◌, ◌<◌, ◌≤◌, true, false, Some, None, List, [], ◌∷◌, ◌++◌, length, drop, get_or, refl, sym, ap, ◌∙◌, arith}
+use Rattle.std.proofs.Common.{◌≡◌, ℕ, suc, ◌+◌, ◌-◌, ◌<◌, ◌≤◌, List, [], ◌∷◌, ◌++◌, length, drop, get_or, sym, ap, ◌∙◌, arith}
 use Rattle.std.specs.Prelude.{slice_get}
 use Rattle.std.proofs.Math.Seq.{drop-cons}
 use Rattle.ab_abs.specs.Values.{goes}
 use Rattle.ab_lock.specs.Steps.{Change}
-use Rattle.ab_lock.specs.Choosing.{Offer, better, best_in, goes_on, chosen_from, chosen_of}
+use Rattle.ab_lock.specs.Choosing.{better, best_in, chosen_from, chosen_of}
 use Rattle.ab_msg.specs.declared.value.Value.{Value}
 
 -- one VIEW-CHANGE more

@@ -13,7 +13,7 @@ use Rattle.ab_words.specs.Commands.{StormCommand}
 use Rattle.ab_storm.specs.Storms.{Storm, next_of}
 use Rattle.ab_world.specs.declared.fault.WorldFault.{WorldFault}
 use Rattle.ab_world.specs.declared.fault.WorldFault.TheVariants.{PacketLimit, EventLimit, BadCommand, NoPacket, BadParty, Busy, OutOfMemory as NoMemory}
-use Rattle.ab_world.specs.Steps.{Cause, stepped}
+use Rattle.ab_world.specs.Steps.{WorldCause, stepped}
 use Rattle.ab_world.specs.Runs.{outcome, refused_or}
 use Rattle.ab_world.specs.Worlds.{World, start}
 use Rattle.ab_storm_run.specs.declared.running.StormFault.{StormFault}
@@ -77,7 +77,7 @@ module _ {P : Type 0} (proto : Proto P) where
   refusal_ends : (s : Storm) (w : World P) (f : WorldFault) → Goes proto s w → w.cast.events < 100000 → stepped proto w (drawn_at s w).0 ≡ Err f → IsSome (end_of f)
   refusal_ends s w f goes few is = subst (λ (g : WorldFault). IsSome (end_of g)) (sym (refused_for proto s w goes few f is)) refl
 
-  pub fault_ends : (s : Storm) (w : World P) (f : WorldFault) → Goes proto s w → w.cast.events < 100000 → Cause proto f w (drawn_at s w).0 → IsSome (end_of f)
+  pub fault_ends : (s : Storm) (w : World P) (f : WorldFault) → Goes proto s w → w.cast.events < 100000 → WorldCause proto f w (drawn_at s w).0 → IsSome (end_of f)
   fault_ends s w PacketLimit goes few cause = refl
   fault_ends s w NoMemory goes few cause = refl
   fault_ends s w EventLimit goes few cause = refusal_ends s w EventLimit goes few cause
@@ -90,7 +90,7 @@ module _ {P : Type 0} (proto : Proto P) where
   some_same e f is = cc (is)
 
   -- and has its cause
-  pub end_caused : (w : World P) (event : Event) (f : WorldFault) (e : StormFault) → Some e ≡ end_of f → Cause proto f w event → StepCause e (stepped proto w event)
+  pub end_caused : (w : World P) (event : Event) (f : WorldFault) (e : StormFault) → Some e ≡ end_of f → WorldCause proto f w event → StepCause e (stepped proto w event)
   end_caused w event PacketLimit e is cause = subst (λ (g : StormFault). StepCause g (stepped proto w event)) (some_same e TooManyPackets is) cause
   end_caused w event NoMemory e is cause = subst (λ (g : StormFault). StepCause g (stepped proto w event)) (some_same e OutOfMemory is) tt
   end_caused w event EventLimit e is cause = absurd (some_none e is)

@@ -1,15 +1,15 @@
 -- What is written of marks.
 use Rattle.std.specs.Prelude.{ℕ, List, [], ◌++◌, codes, decimal}
 use Rattle.ab_num.specs.declared.party.Party.{Party}
-use Rattle.ab_text.specs.declared.line.Cause.{Cause}
-use Rattle.ab_text.specs.declared.line.Cause.TheVariants.{Bad, Kind, Tag}
+use Rattle.ab_text.specs.declared.line.OpenCause.{OpenCause}
+use Rattle.ab_text.specs.declared.line.OpenCause.TheVariants.{Bad, Kind, Tag}
 use Rattle.ab_text.specs.Cores.{party_text}
 use Rattle.ab_text.specs.Reports.{◌then◌}
 use Rattle.ab_picture.specs.declared.picture.Mark.{Mark}
 use Rattle.ab_picture.specs.declared.picture.Sign.{Sign}
 use Rattle.ab_picture.specs.declared.picture.Sign.TheVariants.{Invoked, Committed, Certified, Entered, Refused, Spent}
 
-abbrev pub cause_words : Cause → List ℕ
+abbrev pub cause_words : OpenCause → List ℕ
 cause_words Bad = codes "no message"
 cause_words Kind = codes "not for it"
 cause_words Tag = codes "wrong tag"
@@ -30,7 +30,7 @@ entered_text p i = party_text p then codes " enters instance " then decimal i
 abbrev pub refusing_text : Party → List ℕ
 refusing_text p = party_text p then codes " refuses bytes: "
 
-abbrev pub refused_text : Party → Cause → List ℕ
+abbrev pub refused_text : Party → OpenCause → List ℕ
 refused_text p cause = refusing_text p ++ cause_words cause
 
 abbrev pub spent_text : Party → List ℕ

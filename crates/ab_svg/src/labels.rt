@@ -5,16 +5,16 @@ ghost use Rattle.ab_svg.specs.Labels.{cause_words, certified_text, committed_tex
 
 use ab_num::{OutOfMemory, Party};
 use ab_picture::{Mark, Sign};
-use ab_text::{Cause, party_string};
+use ab_text::{OpenCause, party_string};
 use std::alloc::{AllocError, Global};
 
-fn cause_words(cause: Cause) -> &'static str
+fn cause_words(cause: OpenCause) -> &'static str
     ensures { result.now ≡ cause_words cause }
 {
     match cause {
-        Cause::Bad => "no message",
-        Cause::Kind => "not for it",
-        Cause::Tag => "wrong tag",
+        OpenCause::Bad => "no message",
+        OpenCause::Kind => "not for it",
+        OpenCause::Tag => "wrong tag",
     }
 }
 
@@ -63,7 +63,7 @@ fn refusing_string(alloc: Global, party: Party) -> Result<String, AllocError>
     format!(in alloc; "{party} refuses bytes: ")
 }
 
-fn refused_string(alloc: Global, party: Party, cause: Cause) -> Result<String, AllocError>
+fn refused_string(alloc: Global, party: Party, cause: OpenCause) -> Result<String, AllocError>
     ensures { IfOk result (λ s. string_bytes s ≡ refused_text party cause) }
 {
     let mut text = refusing_string(alloc, party)?;

@@ -2,8 +2,8 @@
 use Rattle.std.specs.Prelude.{ℕ, List, [], ◌∷◌, ◌++◌, codes, decimal}
 use Rattle.std.specs.List.{flat_map}
 use Rattle.ab_num.specs.declared.party.Party.{Party}
-use Rattle.ab_text.specs.declared.line.Cause.{Cause}
-use Rattle.ab_text.specs.declared.line.Cause.TheVariants.{Bad, Kind, Tag}
+use Rattle.ab_text.specs.declared.line.OpenCause.{OpenCause}
+use Rattle.ab_text.specs.declared.line.OpenCause.TheVariants.{Bad, Kind, Tag}
 use Rattle.ab_text.specs.declared.line.Line.{Line}
 use Rattle.ab_text.specs.declared.line.Line.TheVariants.{Refused, Cert, Init, Invoked, Commit, Spent}
 use Rattle.ab_text.specs.declared.line.Breach.{Breach}
@@ -29,12 +29,12 @@ abbrev pub entries_text : List (ℕ × ℕ) → List ℕ
 entries_text [] = codes "-"
 entries_text (e ∷ es) = entry_text e ++ flat_map next_entry_text es
 
-abbrev pub cause_text : Cause → List ℕ
+abbrev pub cause_text : OpenCause → List ℕ
 cause_text Bad = codes "bad"
 cause_text Kind = codes "kind"
 cause_text Tag = codes "tag"
 
-abbrev pub refused_line : ℕ → Party → Cause → List ℕ
+abbrev pub refused_line : ℕ → Party → OpenCause → List ℕ
 refused_line e p cause = codes "refused " then decimal e then codes " " then party_text p then codes " " then cause_text cause then codes "\n"
 
 abbrev pub cert_line : ℕ → Party → ℕ → List (ℕ × ℕ) → List ℕ

@@ -1,4 +1,4 @@
--- The one spelling of a schedule.
+-- How a schedule is spelled.
 use Rattle.std.specs.Prelude.{◌≡◌, ℕ, List, [], ◌∷◌, ◌++◌, map, codes, decimal}
 use Rattle.std.specs.List.{AllByRecursion}
 use Rattle.ab_num.specs.declared.party.Party.{Party}

@@ -24,7 +24,7 @@ pub use event_lines::command_of;
 pub use fault::TextFault;
 pub use head::{height_in, plan_in, service_in, word_number};
 pub use items::Items;
-pub use line::{Breach, Cause, Line, Premise};
+pub use line::{Breach, Line, OpenCause, Premise};
 pub use lines::next_line;
 pub use numbers::number;
 pub use parts::{after, split_first};

@@ -6,7 +6,7 @@ use arrayvec::ArrayVec;
 
 /// Why a message didn't open.
 #[derive(Clone, Copy, Debug, PartialEq, Eq)]
-pub enum Cause {
+pub enum OpenCause {
     /// It is no message.
     Bad,
     /// It is not for this party.
@@ -22,7 +22,7 @@ pub enum Line {
     Refused {
         event: u32,
         party: Party,
-        cause: Cause,
+        cause: OpenCause,
     },
     /// A correct party took a certificate of the instance.
     Cert {

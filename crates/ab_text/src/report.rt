@@ -5,7 +5,7 @@ ghost use Rattle.std.specs.List.{flat_map};
 ghost use Rattle.ab_text.specs.Cores.{party_text};
 ghost use Rattle.ab_text.specs.Reports.{entry_text, next_entry_text, entries_text, cause_text, breach_text, refused_line, cert_line, init_line, invoked_line, commit_front, spent_line, line_text, log_line, premise_text, broken_line, end_text};
 
-use crate::line::{Breach, Cause, Line, Premise};
+use crate::line::{Breach, Line, OpenCause, Premise};
 use ab_num::{OutOfMemory, Party};
 use std::alloc::{AllocError, Global};
 
@@ -28,13 +28,13 @@ pub fn party_string(alloc: Global, party: Party) -> Result<String, AllocError>
     }
 }
 
-fn cause_name(cause: Cause) -> &'static str
+fn cause_name(cause: OpenCause) -> &'static str
     ensures { result.now ≡ cause_text cause }
 {
     match cause {
-        Cause::Bad => "bad",
-        Cause::Kind => "kind",
-        Cause::Tag => "tag",
+        OpenCause::Bad => "bad",
+        OpenCause::Kind => "kind",
+        OpenCause::Tag => "tag",
     }
 }
 
@@ -86,7 +86,7 @@ fn refused_string(
     alloc: Global,
     event: u32,
     party: Party,
-    cause: Cause,
+    cause: OpenCause,
 ) -> Result<String, AllocError>
     ensures { IfOk result (λ s. string_bytes s ≡ refused_line event party cause) }
 {

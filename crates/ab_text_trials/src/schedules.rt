@@ -4,9 +4,9 @@ ghost use Rattle.std.specs.Prelude.{◌<◌};
 
 use ab_num::{Height, OutOfMemory, Party, Plan, ServiceName};
 use ab_text::{
-    Breach, Cause, Core, Event, Head, Items, Line, Premise, TextFault, fault_is_first, one_reading,
-    read_is_in_form, read_is_spelled, read_schedule, spelled_is_read, write_end, write_log,
-    write_premise, write_seen,
+    Breach, Core, Event, Head, Items, Line, OpenCause, Premise, TextFault, fault_is_first,
+    one_reading, read_is_in_form, read_is_spelled, read_schedule, spelled_is_read, write_end,
+    write_log, write_premise, write_seen,
 };
 use arrayvec::ArrayVec;
 use std::alloc::Global;
@@ -339,9 +339,9 @@ fn write(alloc: Global, out: &mut Vec<u8>, line: Line) -> Result<(), OutOfMemory
 
 fn write_refused(alloc: Global, out: &mut Vec<u8>) -> Result<(), OutOfMemory> {
     for (event, party, cause) in [
-        (9, Party::Client(0), Cause::Tag),
-        (18, Party::Replica(0), Cause::Bad),
-        (18, Party::Replica(0), Cause::Kind),
+        (9, Party::Client(0), OpenCause::Tag),
+        (18, Party::Replica(0), OpenCause::Bad),
+        (18, Party::Replica(0), OpenCause::Kind),
     ] {
         let line = Line::Refused {
             event,

@@ -10,7 +10,7 @@ ghost use Rattle.ab_cast.specs.Setups.{place_of};
 ghost use Rattle.ab_cast.specs.Casts.{is_free};
 ghost use Rattle.ab_premise.specs.Collisions.{first_watch};
 ghost use Rattle.ab_world.specs.Worlds.{premise_of, start};
-ghost use Rattle.ab_world.specs.Steps.{addressed, handed, settled, missed, stepped, stepped_by, happening, rung, Cause, CauseIn, HasEnded, Leaves, SettleCause};
+ghost use Rattle.ab_world.specs.Steps.{addressed, handed, settled, missed, stepped, stepped_by, happening, rung, WorldCause, CauseIn, HasEnded, Leaves, SettleCause};
 ghost use Rattle.ab_world.specs.Handing.{finished, EachOut};
 
 use crate::fault::WorldFault;
@@ -29,7 +29,7 @@ use ab_premise::{Collision, Forgery, first_collision, first_forgery, premise};
 use ab_replica::Effects;
 use ab_run::Noted;
 use ab_svc::Service;
-use ab_text::{Cause as TextCause, Core, Event, Line, Premise};
+use ab_text::{Core, Event, Line, OpenCause, Premise};
 use arrayvec::ArrayVec;
 use std::alloc::Global;
 use std::marker::Model;
@@ -183,7 +183,7 @@ impl<S: Service, P: Protocol<S>> World<S, P> {
     }
 
     /// Whether it takes no more events: it took 100,000, its packets would pass their number of
-    /// bytes, or memory was refused.
+    /// bytes, or an allocation failed.
     pub fn ended(&self) -> bool
         ensures { result ≡ is_some self.now.ended }
     {
@@ -260,7 +260,7 @@ impl<S: Service, P: Protocol<S>> World<S, P> {
     }
 
     /// Bytes came to a party in the present event that did not open.
-    fn refuse(&mut self, party: Party, cause: TextCause) -> Result<(), WorldFault>
+    fn refuse(&mut self, party: Party, cause: OpenCause) -> Result<(), WorldFault>
         ensures ok { OnOk result ((self.new ≡ missed self.old party cause) × (total self.new.packets ≤ most_bytes)) }
         ensures cause { IfErr result (λ f. f ≡ WorldFault.OutOfMemory) }
         ensures err { OnErr result (self.new ≡ self.old) }
@@ -403,7 +403,7 @@ impl<S: Service, P: Protocol<S>> World<S, P> {
     /// after these the world has ended, and each further step answers the same.
     pub fn step(&mut self, alloc: Global, e: &Event) -> Result<(), WorldFault>
         ensures ok { OnOk result (stepped P.proto self.old e.now ≡ Ok self.new) }
-        ensures cause { IfErr result (λ f. Cause P.proto f self.old e.now) }
+        ensures cause { IfErr result (λ f. WorldCause P.proto f self.old e.now) }
         ensures err { IfErr result (λ f. Leaves f self.old self.new) }
     {
         if let Some(fault) = self.ended {

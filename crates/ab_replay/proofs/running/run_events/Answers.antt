@@ -1,7 +1,7 @@
 use Rattle.std.proofs.Common.{◌≡◌, ◌+◌, Ok, Err, arith, sym, ◌∙◌, subst}
 use Rattle.ab_world.specs.declared.fault.WorldFault.{WorldFault}
 use Rattle.ab_world.specs.declared.fault.WorldFault.TheVariants.{PacketLimit}
-use Rattle.ab_world.specs.Steps.{Cause, stepped}
+use Rattle.ab_world.specs.Steps.{WorldCause, stepped}
 use Rattle.ab_world.specs.Runs.{outcome}
 use Rattle.ab_replay.proofs.RunLemmas.{next_event, no_limit, refused_at, step_steps, steps_to}
 use Rattle.ab_replay.proofs.running.run_events.Goals as goal
@@ -23,7 +23,7 @@ loop-i-preserved g c =
 pub unreachable-requires : goal.unreachable-requires
 unreachable-requires g c =
     no_limit g.P.Protocol.proto c.loop-i.world c.index-events-i.result c.loop-i.invariant.goes (omega (arith, c.loop-i.invariant.counted, c.loop-i-test.true, c.requires.few))
-    (subst (λ (f : WorldFault). Cause g.P.Protocol.proto f c.loop-i.world c.index-events-i.result) c.in-Err-EventLimit.field-0-is c.in-Err-EventLimit.ensures.cause)
+    (subst (λ (f : WorldFault). WorldCause g.P.Protocol.proto f c.loop-i.world c.index-events-i.result) c.in-Err-EventLimit.field-0-is c.in-Err-EventLimit.ensures.cause)
 
 -- the event that would pass the limit is the first that is refused
 pub returns-in-Err-PacketLimit-clause-cause : goal.returns-in-Err-PacketLimit-clause-cause
@@ -33,7 +33,7 @@ returns-in-Err-PacketLimit-clause-cause g c =
     let e = c.index-events-i.result in
     let events = c.args.events.now in
     let refused : stepped proto c.loop-i.world e ≡ Err PacketLimit =
-    subst (λ (f : WorldFault). Cause proto f c.loop-i.world e) c.in-Err-PacketLimit.field-0-is c.in-Err-PacketLimit.ensures.cause in
+    subst (λ (f : WorldFault). WorldCause proto f c.loop-i.world e) c.in-Err-PacketLimit.field-0-is c.in-Err-PacketLimit.ensures.cause in
     let next = next_event events i e c.loop-i-test.true c.index-events-i.is in
     (i + 1, sym (steps_to proto events i e c.loop-i.world (outcome proto 1 c.args.world.now events) next c.loop-i.invariant.rest (Err PacketLimit) refused))
 

@@ -1,6 +1,6 @@
 use Rattle.std.proofs.Common.{◌≡◌, Ok, subst}
 use Rattle.ab_text.specs.declared.event.Event.{Event}
-use Rattle.ab_world.specs.Steps.{Cause, stepped}
+use Rattle.ab_world.specs.Steps.{WorldCause, stepped}
 use Rattle.ab_storm_run.specs.Runs.{drawn_at}
 use Rattle.ab_storm_run.proofs.StormLemmas.{drawn_so, end_caused, fault_ends}
 use Rattle.ab_storm_run.proofs.running.step.Goals as goal
@@ -11,7 +11,7 @@ ended_by-requires g c =
     let s = c.args.storm.now in
     let w = c.args.world.now in
     let so = drawn_so s c.next-event.new.self w c.next-event.result c.packets.result c.idle_clients.result c.packets.ensures c.idle_clients.ensures c.next-event.ensures in
-    fault_ends proto s w c.in-Err.fault c.requires.goes c.requires.few (subst (λ (e : Event). Cause proto c.in-Err.fault w e) so.0 c.in-Err.ensures.cause)
+    fault_ends proto s w c.in-Err.fault c.requires.goes c.requires.few (subst (λ (e : Event). WorldCause proto c.in-Err.fault w e) so.0 c.in-Err.ensures.cause)
 
 pub returns-in-Ok-clause-ok : goal.returns-in-Ok-clause-ok
 returns-in-Ok-clause-ok g c =
@@ -34,4 +34,4 @@ returns-clause-cause g c =
     let s = c.args.storm.now in
     let w = c.args.world.now in
     let so = drawn_so s c.next-event.new.self w c.next-event.result c.packets.result c.idle_clients.result c.packets.ensures c.idle_clients.ensures c.next-event.ensures in
-    end_caused proto w (drawn_at s w).0 c.in-Err.fault c.ended_by.result c.ended_by.ensures (subst (λ (e : Event). Cause proto c.in-Err.fault w e) so.0 c.in-Err.ensures.cause)
+    end_caused proto w (drawn_at s w).0 c.in-Err.fault c.ended_by.result c.ended_by.ensures (subst (λ (e : Event). WorldCause proto c.in-Err.fault w e) so.0 c.in-Err.ensures.cause)

@@ -1,8 +1,8 @@
-use Rattle.std.proofs.Common.{◌≡◌, ◌∙◌, ◌++◌, ◌∷◌, [], ◌+◌, ◌<◌, All, Bor, IfSome, List, Option, ap, arith, length, subst, sym, take}
+use Rattle.std.proofs.Common.{◌≡◌, ◌∙◌, ◌++◌, ◌∷◌, [], ◌+◌, ◌<◌, All, Bor, IfSome, List, Option, ap, arith, length, subst, sym}
 use Rattle.ab_keys.specs.Keys.{is_party}
 use Rattle.ab_msg.specs.declared.message.Out.{Out}
 use Rattle.ab_loop.specs.Cores.{IsSendable, Sealed}
-use Rattle.ab_member.specs.Credentials.{IsLast, sealed_all, sealed_by}
+use Rattle.ab_member.specs.Credentials.{IsLast, sealed_by}
 use Rattle.ab_member.proofs.SealLemmas.{is_last, sent_more, unsent_more}
 use Rattle.ab_member.proofs.credentials.Credentials.seal_all.Goals as goal
 use Rattle.ab_member.proofs.credentials.Credentials.seal_all.Goals.{then-is_party+in_ok-add, else-is_party}
