@@ -1,7 +1,6 @@
 //! Lines 1 to 7 of a key text.
 
 ghost use Rattle.std.specs.Prelude.{◌≡◌, ◌≤◌, IfOk, length};
-ghost use Rattle.ab_num.specs.Bounds.{IsInBounds};
 ghost use Rattle.ab_keys.specs.Keys.{is_party};
 ghost use Rattle.ab_text.specs.Lines.{lines_of};
 ghost use Rattle.ab_key_text.specs.Lines.{Gives};
@@ -14,6 +13,7 @@ use crate::secret::Secret;
 use crate::shared::Shared;
 use ab_keys::is_party;
 use ab_num::{Cluster, Height, Party, Plan, ServiceName};
+use ab_text::cluster_of;
 use std::marker::Model;
 
 /// A party of a cluster, the cluster's service and the height of its signers' trees.
@@ -42,16 +42,6 @@ impl Model for Setting {
     } };
 
     ghost invariant = { λ s. IsTrue (is_member s.cluster.f s.cluster.clients s.me) };
-}
-
-/// The cluster of these numbers.
-fn cluster_of(f: u8, clients: u16, plan: Plan) -> Cluster
-    requires { IsInBounds f clients }
-    ensures f { result.f ≡ f }
-    ensures clients { result.clients ≡ clients }
-    ensures plan { result.plan ≡ plan }
-{
-    Cluster { f, clients, plan }
 }
 
 /// What seven lines set up, and what comes after them.

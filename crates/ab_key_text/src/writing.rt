@@ -2,46 +2,14 @@
 
 ghost use Rattle.std.specs.Prelude.{◌≡◌, ◌+◌, ◌++◌, ◌∷◌, [], IfOk, OnOk, flat_map, string_bytes};
 ghost use Rattle.ab_num.specs.declared.party.Party.TheVariants.{Replica};
-ghost use Rattle.ab_text.specs.Heads.{lms_line, plan_line, service_line};
 ghost use Rattle.ab_key_text.specs.Spelling.{cluster_lines, key_line, key_lines, name_lines, peer_lines, public_lines, secret_line, secret_lines, text_of};
 
 use crate::keys::PartyKeys;
 use crate::secret::Secret;
 use crate::shared::Shared;
-use ab_num::{Height, OutOfMemory, Party, Plan, ServiceName};
-use ab_text::party_string;
+use ab_num::{OutOfMemory, Party};
+use ab_text::{height_text, party_string, plan_text, service_text};
 use std::alloc::{AllocError, Global};
-
-fn plan_text(plan: Plan) -> &'static str
-    ensures { result.now ≡ plan_line plan }
-{
-    match plan {
-        Plan::AZyzzyva => "plan azyzzyva",
-        Plan::Aliph => "plan aliph",
-        Plan::Quorum => "plan quorum",
-        Plan::ZLight => "plan zlight",
-        Plan::Chain => "plan chain",
-        Plan::Backup => "plan backup",
-    }
-}
-
-fn service_text(service: ServiceName) -> &'static str
-    ensures { result.now ≡ service_line service }
-{
-    match service {
-        ServiceName::Echo => "service echo",
-        ServiceName::Kv => "service kv",
-    }
-}
-
-fn lms_text(lms: Height) -> &'static str
-    ensures { result.now ≡ lms_line lms }
-{
-    match lms {
-        Height::Five => "lms 5",
-        Height::Ten => "lms 10",
-    }
-}
 
 /// A line of a word, a party and a key.
 fn key_string(alloc: Global, word: &str, p: Party, key: &[u8]) -> Result<String, AllocError>
@@ -112,7 +80,7 @@ impl PartyKeys {
     {
         add_line(out, plan_text(self.cluster.plan))?;
         add_line(out, service_text(self.service))?;
-        add_line(out, lms_text(self.lms))
+        add_line(out, height_text(self.lms))
     }
 
     /// Adds the line of a replica's secret.

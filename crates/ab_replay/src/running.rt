@@ -1,6 +1,6 @@
 //! Replays of schedules.
 
-ghost use Rattle.std.specs.Prelude.{◌≡◌, ◌↔◌, ℕ, List, ◌+◌, ◌<◌, ◌≤◌, ◌^◌, All, length, IsTrue, OnOk, IfOk, IfErr, Ok, None};
+ghost use Rattle.std.specs.Prelude.{◌≡◌, ℕ, List, ◌+◌, ◌<◌, ◌≤◌, ◌^◌, All, length, IsTrue, OnOk, IfOk, IfErr, Ok, None};
 ghost use Rattle.ab_text.specs.Schedules.{script_of};
 ghost use Rattle.ab_abs.specs.Promises.{ServesAll};
 ghost use Rattle.ab_keys.specs.Keys.{is_party};
@@ -23,7 +23,7 @@ use ab_kv::Kv;
 use ab_num::{OutOfMemory, ServiceName};
 use ab_quorum::Quorum;
 use ab_svc::{Echo, Service};
-use ab_text::{Event, Premise, Schedule, TextFault, read_is_in_form, read_schedule};
+use ab_text::{Event, Schedule, TextFault, read_is_in_form, read_schedule};
 use ab_world::{World, WorldFault, premise_is_exact, worlds_keep_promises};
 use ab_zlight::ZLight;
 use std::alloc::Global;
@@ -134,13 +134,6 @@ pub struct Replayed {
     pub held: bool,
 }
 
-/// Whether the premises held.
-fn is_held(premise: &Premise) -> bool
-    ensures { IsTrue result ↔ (premise.now ≡ Premise.Held) }
-{
-    matches!(premise, Premise::Held)
-}
-
 /// Runs a schedule of few events in the world that its head sets up, and reports. The first event stands in the line after
 /// this one.
 fn report_in<S: Service, P: Protocol<S>>(
@@ -159,7 +152,7 @@ fn report_in<S: Service, P: Protocol<S>>(
     run_events(alloc, world, schedule.events.as_slice(), line)?;
     premise_is_exact::<S, P>();
     worlds_keep_promises::<S, P>();
-    let held = is_held(&world.premise());
+    let held = world.premise().is_held();
     let report = report(alloc, world)?;
     Ok(Replayed { report, held })
 }

@@ -1,46 +1,15 @@
 //! The lines of the head, and of faulty parties.
 
 ghost use Rattle.std.specs.Prelude.{◌≡◌, ◌++◌, ◌∷◌, [], IfOk, OnOk, codes, decimal, map, string_bytes};
-ghost use Rattle.ab_text.specs.Heads.{lms_line, plan_line, service_line};
+ghost use Rattle.ab_text.specs.Heads.{plan_line};
 ghost use Rattle.ab_text.specs.Schedules.{faulty_line, script_of};
 ghost use Rattle.ab_text.specs.Spelling.{head_lines};
 ghost use Rattle.ab_schedule.specs.Texts.{text_of};
 
 use crate::lines::add_line;
-use ab_num::{Cluster, Height, OutOfMemory, Party, Plan, ServiceName};
-use ab_text::{Head, party_string};
+use ab_num::{Cluster, OutOfMemory, Party};
+use ab_text::{Head, height_text, party_string, plan_text, service_text};
 use std::alloc::{AllocError, Global};
-
-fn plan_text(plan: Plan) -> &'static [u8]
-    ensures { result.now ≡ plan_line plan }
-{
-    match plan {
-        Plan::AZyzzyva => b"plan azyzzyva",
-        Plan::Aliph => b"plan aliph",
-        Plan::Quorum => b"plan quorum",
-        Plan::ZLight => b"plan zlight",
-        Plan::Chain => b"plan chain",
-        Plan::Backup => b"plan backup",
-    }
-}
-
-fn service_text(service: ServiceName) -> &'static [u8]
-    ensures { result.now ≡ service_line service }
-{
-    match service {
-        ServiceName::Echo => b"service echo",
-        ServiceName::Kv => b"service kv",
-    }
-}
-
-fn lms_text(lms: Height) -> &'static [u8]
-    ensures { result.now ≡ lms_line lms }
-{
-    match lms {
-        Height::Five => b"lms 5",
-        Height::Ten => b"lms 10",
-    }
-}
 
 fn f_string(alloc: Global, f: u8) -> Result<String, AllocError>
     ensures { IfOk result (λ s. string_bytes s ≡ codes "f " ++ decimal f) }
@@ -62,7 +31,7 @@ fn add_cluster(out: &mut Vec<u8>, alloc: Global, cluster: &Cluster) -> Result<()
     let clients = clients_string(alloc, cluster.clients)?;
     add_line(out, b"abstract 1")?;
     add_line(out, f.as_bytes())?;
-    add_line(out, plan_text(cluster.plan))?;
+    add_line(out, plan_text(cluster.plan).as_bytes())?;
     add_line(out, clients.as_bytes())?;
     Ok(())
 }
@@ -72,8 +41,8 @@ pub(crate) fn add_head(out: &mut Vec<u8>, alloc: Global, head: &Head) -> Result<
     ensures { OnOk result (out.new.items ≡ out.old.items ++ text_of (head_lines (script_of head.now []))) }
 {
     add_cluster(out, alloc, &head.cluster)?;
-    add_line(out, service_text(head.service))?;
-    add_line(out, lms_text(head.lms))
+    add_line(out, service_text(head.service).as_bytes())?;
+    add_line(out, height_text(head.lms).as_bytes())
 }
 
 /// The line of a faulty party and the number of its twins.

@@ -1,6 +1,6 @@
 //! A storm is run.
 
-ghost use Rattle.std.specs.Prelude.{◌≡◌, ◌↔◌, ◌<◌, ◌≤◌, ℕ, IsTrue, IsSome, IfOk, IfErr, OnOk, Ok, Some};
+ghost use Rattle.std.specs.Prelude.{◌≡◌, ◌<◌, ◌≤◌, ℕ, IsTrue, IsSome, IfOk, IfErr, OnOk, Ok, Some};
 ghost use Rattle.ab_num.specs.Places.{kind_of};
 ghost use Rattle.ab_world.specs.Runs.{outcome};
 ghost use Rattle.ab_world.specs.Steps.{stepped};
@@ -14,7 +14,6 @@ use ab_cast::Setup;
 use ab_num::{Cluster, Height, OutOfMemory};
 use ab_storm::Storm;
 use ab_svc::Service;
-use ab_text::Premise;
 use ab_words::StormCommand;
 use ab_world::{World, WorldFault, premise_is_exact, worlds_keep_promises};
 use std::alloc::Global;
@@ -104,13 +103,6 @@ fn run_events<S: Service, P: Protocol<S>>(
     Ok(())
 }
 
-/// Whether the premises held.
-fn is_held(premise: &Premise) -> bool
-    ensures { IsTrue result ↔ (premise.now ≡ Premise.Held) }
-{
-    matches!(premise, Premise::Held)
-}
-
 /// Runs the storm that is asked for in the world that its cluster begins with, and sums it up.
 fn summary_in<S: Service, P: Protocol<S>>(
     alloc: Global,
@@ -130,7 +122,7 @@ fn summary_in<S: Service, P: Protocol<S>>(
     run_events(alloc, &mut storm, world, asked.events())?;
     premise_is_exact::<S, P>();
     worlds_keep_promises::<S, P>();
-    let held = is_held(&world.premise());
+    let held = world.premise().is_held();
     let summary = summary(alloc, world)?;
     Ok(Stormed { summary, held })
 }

@@ -67,6 +67,20 @@ fn numbered<'a>(
     }
 }
 
+/// The line that names a plan.
+pub fn plan_text(plan: Plan) -> &'static str
+    ensures { result.now ≡ plan_line plan }
+{
+    match plan {
+        Plan::AZyzzyva => "plan azyzzyva",
+        Plan::Aliph => "plan aliph",
+        Plan::Quorum => "plan quorum",
+        Plan::ZLight => "plan zlight",
+        Plan::Chain => "plan chain",
+        Plan::Backup => "plan backup",
+    }
+}
+
 /// The plan that a line names.
 #[tactic(auto, unfolding(crate::specs::Heads::spelled_in))]
 pub fn plan_in(line: &[u8]) -> Option<Plan>
@@ -93,6 +107,16 @@ pub fn plan_in(line: &[u8]) -> Option<Plan>
     None
 }
 
+/// The line that names a service.
+pub fn service_text(service: ServiceName) -> &'static str
+    ensures { result.now ≡ service_line service }
+{
+    match service {
+        ServiceName::Echo => "service echo",
+        ServiceName::Kv => "service kv",
+    }
+}
+
 /// The service that a line names.
 #[tactic(auto, unfolding(crate::specs::Heads::spelled_in))]
 pub fn service_in(line: &[u8]) -> Option<ServiceName>
@@ -105,6 +129,16 @@ pub fn service_in(line: &[u8]) -> Option<ServiceName>
         return Some(ServiceName::Kv);
     }
     None
+}
+
+/// The line that names a height.
+pub fn height_text(lms: Height) -> &'static str
+    ensures { result.now ≡ lms_line lms }
+{
+    match lms {
+        Height::Five => "lms 5",
+        Height::Ten => "lms 10",
+    }
 }
 
 /// The height that a line names.

@@ -22,7 +22,7 @@ pub use cores::party_of;
 pub use event::{Core, Event};
 pub use event_lines::command_of;
 pub use fault::TextFault;
-pub use head::{height_in, plan_in, service_in, word_number};
+pub use head::{height_in, height_text, plan_in, plan_text, service_in, service_text, word_number};
 pub use items::Items;
 pub use line::{Breach, Line, OpenCause, Premise};
 pub use lines::next_line;
@@ -33,3 +33,4 @@ pub use reading::{
 };
 pub use report::{party_string, write_end, write_log, write_premise, write_seen};
 pub use schedule::{Head, Schedule};
+pub use setting::cluster_of;

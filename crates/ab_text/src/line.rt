@@ -1,5 +1,7 @@
 //! What a report tells.
 
+ghost use Rattle.std.specs.Prelude.{◌≡◌, ◌↔◌, IsTrue};
+
 use crate::items::Items;
 use ab_num::Party;
 use arrayvec::ArrayVec;
@@ -82,4 +84,13 @@ pub enum Premise {
         breach: Breach,
         party: Party,
     },
+}
+
+impl Premise {
+    /// Whether they held.
+    pub fn is_held(&self) -> bool
+        ensures { IsTrue result ↔ (self.now ≡ Premise.Held) }
+    {
+        matches!(self, Premise::Held)
+    }
 }

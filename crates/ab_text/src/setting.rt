@@ -13,8 +13,8 @@ pub(crate) struct Setting {
     pub(crate) lms: Height,
 }
 
-/// The cluster of these numbers.
-pub(crate) fn cluster_of(f: u8, clients: u16, plan: Plan) -> Cluster
+/// The cluster of these numbers, which are within its bounds.
+pub fn cluster_of(f: u8, clients: u16, plan: Plan) -> Cluster
     requires { IsInBounds f clients }
     ensures f { result.f ≡ f }
     ensures clients { result.clients ≡ clients }

@@ -4,13 +4,14 @@ ghost use Rattle.std.specs.Prelude.{◌≡◌, IfOk, None, Some};
 ghost use Rattle.ab_words.specs.Language.{command_in, command_of, keys_in, node_in, storm_in};
 ghost use Rattle.ab_words.specs.Uses.{texts, uses_seen};
 
-use crate::command::{Command, KeysCommand, NodeCommand, StormCommand, cluster_of};
+use crate::command::{Command, KeysCommand, NodeCommand, StormCommand};
 use crate::names::{height_named, plan_named, service_named};
 use crate::uses::{Use, uses_in};
 use crate::values::{number_of, trace_of, value_of};
 use ab_key_text::{bytes_in, party_in};
 use ab_keys::is_party;
 use ab_num::OutOfMemory;
+use ab_text::cluster_of;
 use std::alloc::Global;
 
 /// Whose keys the uses ask for.
