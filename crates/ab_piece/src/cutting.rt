@@ -1,13 +1,14 @@
 //! Messages are cut into pieces.
 
 ghost use Rattle.std.specs.Prelude.{◌≡◌, ◌++◌, ◌+◌, ◌*◌, ◌<◌, ◌≤◌, IfOk, OnOk, length, slice_index_or};
-ghost use Rattle.ab_msg.specs.Fields.{IsParty, spell_party};
+ghost use Rattle.ab_msg.specs.Fields.{IsParty};
 ghost use Rattle.ab_piece.specs.Pieces.{count_of, cut_at, cut_of, part_at, spell_header};
 
 use crate::datagram::Datagram;
 use crate::reading::BODY;
 use ab_form::{put_bytes, put_u8, put_u16, put_u64};
 use ab_num::{OutOfMemory, Party};
+use ab_write::put_party;
 use std::alloc::Global;
 use std::marker::Model;
 
@@ -40,22 +41,6 @@ impl Pieces {
         ensures { result.now ≡ slice_index_or self.now index result.now }
     {
         self.pieces[index].bytes()
-    }
-}
-
-/// Adds a party as three bytes.
-fn put_party(alloc: Global, out: &mut Vec<u8>, party: Party) -> Result<(), OutOfMemory>
-    ensures { OnOk result (out.new.items ≡ out.old.items ++ spell_party party) }
-{
-    match party {
-        Party::Replica(r) => {
-            put_u8(alloc, out, 0)?;
-            put_u16(alloc, out, u16::from(r))
-        }
-        Party::Client(c) => {
-            put_u8(alloc, out, 1)?;
-            put_u16(alloc, out, c)
-        }
     }
 }
 

@@ -7,9 +7,8 @@ ghost use Rattle.ab_shelf.specs.Shelves.{empty_shelf, with_ballot, with_ballot_o
 use crate::ballots::{certified_by, put_ballot};
 use crate::changes::{drop_maker, put_proof};
 use crate::kept::{Ballot, Certified, Tagged, copy_slots};
-use ab_msg::{AbortCert, Proof, Tags, Value};
+use ab_msg::{AbortCert, Proof, Tags, Value, copy_each};
 use ab_num::{Cluster, OutOfMemory};
-use ab_slots::copy_each;
 use std::alloc::Global;
 use std::marker::Model;
 

@@ -2,8 +2,7 @@
 
 ghost use Rattle.std.specs.Prelude.{◌≡◌};
 
-use crate::copies::copy_each;
-use ab_msg::{Copied, Value};
+use ab_msg::{Copied, Value, copy_each};
 use ab_num::OutOfMemory;
 use std::alloc::Global;
 use std::marker::Model;

@@ -5,7 +5,6 @@
 pub mod certs;
 mod change;
 mod choosing;
-mod copies;
 mod deed;
 mod digest;
 mod input;
@@ -16,7 +15,6 @@ pub mod waiting;
 
 pub use change::{Cert, Change};
 pub use choosing::chosen;
-pub use copies::copy_each;
 pub use deed::Deed;
 pub use digest::slot_digest;
 pub use input::{ChangeInput, Input, ProvedSlot, into_changes, may_enter};

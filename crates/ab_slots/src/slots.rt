@@ -9,9 +9,8 @@ ghost use Rattle.ab_abs.specs.Values.{goes, list_of};
 ghost use Rattle.ab_slots.specs.Based.{AreSlots};
 ghost use Rattle.ab_pbft.specs.Rules.{base_of, is_empty as has_none};
 
-use crate::copies::copy_each;
 use ab_hist::{History, PushFault, Request};
-use ab_msg::{Copied, Value};
+use ab_msg::{Copied, Value, copy_each};
 use ab_num::OutOfMemory;
 use std::alloc::Global;
 use std::marker::Model;

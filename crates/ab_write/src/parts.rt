@@ -13,7 +13,8 @@ use ab_msg::{Sig, Tag};
 use ab_num::{OutOfMemory, Party};
 use std::alloc::Global;
 
-pub(crate) fn put_party(alloc: Global, out: &mut Vec<u8>, party: Party) -> Result<(), OutOfMemory>
+/// Adds a party: whether it is a client, and its number.
+pub fn put_party(alloc: Global, out: &mut Vec<u8>, party: Party) -> Result<(), OutOfMemory>
     ensures { OnOk result (out.new.items ≡ out.old.items ++ spell_party party) }
 {
     match party {

@@ -1,5 +1,0 @@
-use Rattle.std.proofs.Common.{◌≡◌, take}
-use Rattle.ab_slots.proofs.copies.copy_each.Given as goal
-
-abbrev pub invariant-all : goal.invariant-all
-invariant-all g l = l.copies.items ≡ take l.x-index l.all
