@@ -1,8 +1,11 @@
 -- A node is where its events lead its core.
-use Rattle.std.proofs.Common.{◌≡◌, inl, inr, ℕ, ◌+◌, ◌-◌, ◌^◌, ◌≤◌, List, [], ◌∷◌, ◌++◌, length, Option, None, Some, Bool, true, false, cond, refl, ap, sym, ◌∙◌, append_assoc, append-nil, length-append, arith}
-use Rattle.std.specs.Prelude.{slice_get}
+use Rattle.std.proofs.Common.{◌≡◌, ◌⊎◌, inl, inr, ℕ, ◌+◌, ◌-◌, ◌^◌, ◌≤◌, List, [], ◌∷◌, ◌++◌, length, Option, None, Some, Bool, true, false, cond, refl, ap, sym, subst, ◌∙◌, append_assoc, append-nil, length-append, arith}
+use Rattle.std.specs.Prelude.{Contains, slice_get}
+use Rattle.std.specs.List.{cons_option}
 use Rattle.std.proofs.lemmas.Bool.{cases_Bool}
 use Rattle.std.proofs.lemmas.Grind.{flat_map-append}
+use Rattle.std.proofs.lemmas.List.Elements.{Contains-append_left, Contains-append_right}
+use Rattle.std.proofs.lemmas.Option.{none-some, same_Some}
 use Rattle.arrayvec.specs.ArrayVec.{ArrayVec}
 use Rattle.ab_piece.specs.Joining.{Answer, dropped, more, step_of, whole}
 use Rattle.ab_loop.specs.declared.party_core.Commit.{Commit}
@@ -10,8 +13,8 @@ use Rattle.ab_loop.specs.declared.setting.Setting.{Setting}
 use Rattle.ab_loop.specs.Cores.{Event, Rules, Sealed, invoke, message, timeout}
 use Rattle.ab_loop.specs.Outside.{capped}
 use Rattle.ab_loop.specs.Texts.{reply_text}
-use Rattle.ab_loop.specs.Nodes.{Node, Out, Turn, after_reply, and_then, command_step, datagram_step, datagrams_in, event_step, first_step, has_expired, joined_step, new_node, next_deadline, no_step, parcel_of, parcels_of, reply_step, run_after, text_step, timer_step, turn_step, with_deadline, with_joiner}
-use Rattle.ab_loop.specs.Folds.{IsOfCore, core_after, sends_in, spent_in}
+use Rattle.ab_loop.specs.Nodes.{Node, Out, Turn, after_reply, and_then, command_step, datagram_step, datagrams_in, event_step, first_step, has_expired, joined_step, latest, new_node, next_deadline, no_step, parcel_of, parcels_of, reply_step, run_after, text_step, timer_step, turn_step, with_deadline, with_joiner}
+use Rattle.ab_loop.specs.Folds.{IsOfCore, commits_in, core_after, sends_in, spent_in}
 
 -- ---- lists of events and of messages
 
@@ -28,6 +31,22 @@ sends_in-append rules core (e ∷ a) b =
 spent_in-append : {C : Type 0} (rules : Rules C) (core : C) (a b : List Event) → spent_in rules core (a ++ b) ≡ spent_in rules core a + spent_in rules (core_after rules core a) b
 spent_in-append rules core [] b = omega arith
 spent_in-append rules core (e ∷ a) b = let rest = spent_in-append rules (rules.step core e).after a b in omega (arith, rest)
+
+cons_option-append : {A : Type 0} (o : Option A) (a b : List A) → cons_option o (a ++ b) ≡ cons_option o a ++ b
+cons_option-append None a b = refl
+cons_option-append (Some x) a b = refl
+
+commits_in-append : {C : Type 0} (rules : Rules C) (core : C) (a b : List Event) → commits_in rules core (a ++ b) ≡ commits_in rules core a ++ commits_in rules (core_after rules core a) b
+commits_in-append rules core [] b = refl
+commits_in-append rules core (e ∷ a) b =
+    let now = (rules.step core e).after in
+    ap (λ rest. cons_option (rules.step core e).commit rest) (commits_in-append rules now a b)
+    ∙ cons_option-append (rules.step core e).commit (commits_in rules now a) (commits_in rules (core_after rules now a) b)
+
+-- the later of two commits is the one before or what is new
+latest_in : (old new : Option Commit) (c : Commit) → latest old new ≡ Some c → (old ≡ Some c) ⊎ Contains (cons_option new []) c
+latest_in old None c is = inl is
+latest_in old (Some d) c is = inr (0, omega arith, same_Some d c is)
 
 -- the numbers of messages behind others
 parcels_of-append : (s : Setting) (n : ℕ) (a b : List Sealed) → n ≤ 2 ^ 64 - 1 → parcels_of s n (a ++ b) ≡ parcels_of s n a ++ parcels_of s (capped (n + length a)) b
@@ -51,6 +70,7 @@ record Steps {C : Type 0} (rules : Rules C) (s : Setting) (n : Node C) (o : Out 
   core : o.node.core ≡ core_after rules n.core o.events
   number : o.node.number ≡ capped (n.number + length (sends_in rules n.core o.events))
   datagrams : o.effects.datagrams ≡ datagrams_in (parcels_of s n.number (sends_in rules n.core o.events))
+  commit : (c : Commit) → o.node.commit ≡ Some c → (n.commit ≡ Some c) ⊎ Contains (commits_in rules n.core o.events) c
   events : o.node.events ≡ capped (n.events + length o.events)
   sent : o.node.sent ≡ capped (n.sent + length o.effects.datagrams)
   spent : o.node.spent ≡ capped (n.spent + spent_in rules n.core o.events)
@@ -59,19 +79,24 @@ module _ {C : Type 0} (rules : Rules C) (s : Setting) where
   capped_after : (n : Node C) (o : Out C) → Steps rules s n o → IsCapped o.node
   capped_after n o st = record { number = omega (arith, st.number); events = omega (arith, st.events); sent = omega (arith, st.sent); spent = omega (arith, st.spent) }
 
+  -- the commit stays or goes
+  abbrev KeepsCommit : Node C → Node C → Type 0
+  KeepsCommit n m = (c : Commit) → m.commit ≡ Some c → n.commit ≡ Some c
+
   -- a step in which the core and the numbers stay
-  stays : (n m : Node C) (text : List ℕ) → IsCapped n → m.core ≡ n.core → m.number ≡ n.number → m.events ≡ n.events → m.sent ≡ n.sent → m.spent ≡ n.spent → Steps rules s n (text_step m text)
-  stays n m text within core number events sent spent = record {
+  stays : (n m : Node C) (text : List ℕ) → IsCapped n → m.core ≡ n.core → m.number ≡ n.number → KeepsCommit n m → m.events ≡ n.events → m.sent ≡ n.sent → m.spent ≡ n.spent → Steps rules s n (text_step m text)
+  stays n m text within core number commit events sent spent = record {
     core = core;
     number = omega (arith, number, within.number);
     datagrams = refl;
+    commit = λ c is. inl (commit c is);
     events = omega (arith, events, within.events);
     sent = omega (arith, sent, within.sent);
     spent = omega (arith, spent, within.spent);
   }
 
   no_steps : (n : Node C) → IsCapped n → Steps rules s n (no_step n)
-  no_steps n within = stays n n [] within refl refl refl refl refl
+  no_steps n within = stays n n [] within refl refl (λ c is. is) refl refl refl
 
   -- one step after another
   then_steps : (n : Node C) (a : Out C) (f : Node C → Out C) → IsCapped n → Steps rules s n a → Steps rules s a.node (f a.node) → Steps rules s n (and_then a f)
@@ -83,6 +108,7 @@ module _ {C : Type 0} (rules : Rules C) (s : Setting) where
       let count : length (sends_in rules n.core (a.events ++ b.events)) ≡ length (sends_in rules n.core a.events) + length (sends_in rules a.node.core b.events) =
       ap (λ (ms : List Sealed). length ms) sends ∙ length-append (sends_in rules n.core a.events) (sends_in rules here b.events)
       ∙ ap (λ (ms : List Sealed). length (sends_in rules n.core a.events) + length ms) (sym later_sends) in
+      let commits : commits_in rules n.core (a.events ++ b.events) ≡ commits_in rules n.core a.events ++ commits_in rules here b.events = commits_in-append rules n.core a.events b.events in
       let spent : spent_in rules n.core (a.events ++ b.events) ≡ spent_in rules n.core a.events + spent_in rules a.node.core b.events =
       spent_in-append rules n.core a.events b.events ∙ ap (λ core. spent_in rules n.core a.events + spent_in rules core b.events) (sym first.core) in
       record {
@@ -95,6 +121,15 @@ module _ {C : Type 0} (rules : Rules C) (s : Setting) where
             ∙ ap (λ k. a.effects.datagrams ++ datagrams_in (parcels_of s k (sends_in rules here b.events))) (sym first.number)
             ∙ ap (λ (ms : List Sealed). a.effects.datagrams ++ datagrams_in (parcels_of s a.node.number ms)) (sym later_sends)
             ∙ ap (λ ds. a.effects.datagrams ++ ds) (sym second.datagrams));
+        commit = λ c is. elim (second.commit c is) [
+          | inl kept ↦ elim (first.commit c kept) [
+            | inl before ↦ inl before
+            | inr there ↦ inr (subst (λ (cs : List Commit). Contains cs c) (sym commits) (Contains-append_left (commits_in rules n.core a.events) (commits_in rules here b.events) c there))
+          ]
+          | inr there ↦
+              inr (subst (λ (cs : List Commit). Contains cs c) (sym commits)
+              (Contains-append_right (commits_in rules n.core a.events) (commits_in rules here b.events) c (subst (λ core. Contains (commits_in rules core b.events) c) first.core there)))
+        ];
         events = omega (arith, first.events, second.events, length-append a.events b.events);
         sent = omega (arith, first.sent, second.sent, length-append a.effects.datagrams b.effects.datagrams);
         spent = omega (arith, first.spent, second.spent, spent);
@@ -112,6 +147,7 @@ module _ {C : Type 0} (rules : Rules C) (s : Setting) where
         core = refl;
         number = ap (λ (ms : List Sealed). capped (n.number + length ms)) (sym (append-nil sends));
         datagrams = ap (λ (ms : List Sealed). datagrams_in (parcels_of s n.number ms)) (sym (append-nil sends));
+        commit = λ c is. latest_in n.commit (rules.step n.core e).commit c is;
         events = refl;
         sent = refl;
         spent = spent_one (rules.step n.core e).spent n.spent within.spent;
@@ -119,7 +155,7 @@ module _ {C : Type 0} (rules : Rules C) (s : Setting) where
 
   -- the deadline alone is another
   dated : (deadline : ℕ) (n : Node C) (o : Out C) → Steps rules s n o → Steps rules s n (with_deadline deadline o)
-  dated deadline n o st = record { core = st.core; number = st.number; datagrams = st.datagrams; events = st.events; sent = st.sent; spent = st.spent }
+  dated deadline n o st = record { core = st.core; number = st.number; datagrams = st.datagrams; commit = st.commit; events = st.events; sent = st.sent; spent = st.spent }
 
   timer_steps : (t : ℕ) (n : Node C) → IsCapped n → Steps rules s n (timer_step rules s t n)
   unfolding timer_step
@@ -129,17 +165,17 @@ module _ {C : Type 0} (rules : Rules C) (s : Setting) where
         | inr running ↦ rw running (no_steps n within)
       ]
 
-  joined_steps : (t : ℕ) (a : Answer) (n m : Node C) → m.core ≡ n.core → m.number ≡ n.number → m.events ≡ n.events → m.sent ≡ n.sent → m.spent ≡ n.spent → IsCapped n → Steps rules s n (joined_step rules s t a m)
-  joined_steps t (whole text) n m core number events sent spent within =
-      then_steps n (text_step m []) (event_step rules s t (message text)) within (stays n m [] within core number events sent spent)
-      (event_steps t (message text) m (capped_after n (text_step m []) (stays n m [] within core number events sent spent)))
-  joined_steps t more n m core number events sent spent within = stays n m [] within core number events sent spent
-  joined_steps t (dropped why) n m core number events sent spent within = stays n m [] within core number events sent spent
+  joined_steps : (t : ℕ) (a : Answer) (n m : Node C) → m.core ≡ n.core → m.number ≡ n.number → KeepsCommit n m → m.events ≡ n.events → m.sent ≡ n.sent → m.spent ≡ n.spent → IsCapped n → Steps rules s n (joined_step rules s t a m)
+  joined_steps t (whole text) n m core number commit events sent spent within =
+      then_steps n (text_step m []) (event_step rules s t (message text)) within (stays n m [] within core number commit events sent spent)
+      (event_steps t (message text) m (capped_after n (text_step m []) (stays n m [] within core number commit events sent spent)))
+  joined_steps t more n m core number commit events sent spent within = stays n m [] within core number commit events sent spent
+  joined_steps t (dropped why) n m core number commit events sent spent within = stays n m [] within core number commit events sent spent
 
   datagram_steps : (t : ℕ) (got : Option (List ℕ)) (n : Node C) → IsCapped n → Steps rules s n (datagram_step rules s t got n)
   unfolding datagram_step
   datagram_steps t None n within = no_steps n within
-  datagram_steps t (Some bytes) n within = joined_steps t (step_of n.joiner bytes).answer n (with_joiner (step_of n.joiner bytes).after n) refl refl refl refl refl within
+  datagram_steps t (Some bytes) n within = joined_steps t (step_of n.joiner bytes).answer n (with_joiner (step_of n.joiner bytes).after n) refl refl (λ c is. is) refl refl refl within
 
   command_steps : (t : ℕ) (n : Node C) → IsCapped n → Steps rules s n (command_step rules s t n)
   unfolding command_step
@@ -154,7 +190,7 @@ module _ {C : Type 0} (rules : Rules C) (s : Setting) where
     go : (commit : Option Commit) → Steps rules s n (elim commit [ None ↦ no_step n | Some c ↦ and_then (text_step (after_reply n) (reply_text c)) (command_step rules s t) ])
     go None = no_steps n within
     go (Some c) =
-        let told = stays n (after_reply n) (reply_text c) within refl refl refl refl refl in
+        let told = stays n (after_reply n) (reply_text c) within refl refl (λ d is. absurd (none-some d is)) refl refl refl in
         then_steps n (text_step (after_reply n) (reply_text c)) (command_step rules s t) within told (command_steps t (after_reply n) (capped_after n (text_step (after_reply n) (reply_text c)) told))
 
   turn_steps : (turn : Turn) (n : Node C) → IsCapped n → Steps rules s n (turn_step rules s turn n)
@@ -179,4 +215,11 @@ module _ {C : Type 0} (rules : Rules C) (s : Setting) where
       let n = new_node s reading core commands in
       let within : IsCapped n = record { number = omega arith; events = omega arith; sent = omega arith; spent = omega arith } in
       let st = run_steps n (command_step rules s reading n) turns within (command_steps reading n within) in
-      record { core = st.core; datagrams = st.datagrams; events = omega (arith, st.events); sent = omega (arith, st.sent); spent = omega (arith, st.spent) }
+      record {
+        core = st.core;
+        datagrams = st.datagrams;
+        commit = λ c is. elim (st.commit c is) [ inl gone ↦ absurd (none-some c gone) | inr there ↦ there ];
+        events = omega (arith, st.events);
+        sent = omega (arith, st.sent);
+        spent = omega (arith, st.spent);
+      }

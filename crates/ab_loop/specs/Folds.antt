@@ -1,5 +1,7 @@
 -- What a core does over a list of events.
-use Rattle.std.specs.Prelude.{◌≡◌, ℕ, ◌+◌, List, [], ◌∷◌, ◌++◌, length, if◌then◌else◌}
+use Rattle.std.specs.Prelude.{◌≡◌, ℕ, ◌+◌, List, [], ◌∷◌, ◌++◌, length, Contains, Some, if◌then◌else◌}
+use Rattle.std.specs.List.{cons_option}
+use Rattle.ab_loop.specs.declared.party_core.Commit.{Commit}
 use Rattle.ab_loop.specs.declared.setting.Setting.{Setting}
 use Rattle.ab_loop.specs.Cores.{Event, Rules, Sealed}
 use Rattle.ab_loop.specs.Outside.{capped}
@@ -15,16 +17,23 @@ abbrev pub sends_in : {C : Type 0} → Rules C → C → List Event → List Sea
 sends_in rules core [] = []
 sends_in rules core (e ∷ es) = (rules.step core e).sends ++ sends_in rules (rules.step core e).after es
 
+-- what is committed in them, in order
+abbrev pub commits_in : {C : Type 0} → Rules C → C → List Event → List Commit
+commits_in rules core [] = []
+commits_in rules core (e ∷ es) = cons_option (rules.step core e).commit (commits_in rules (rules.step core e).after es)
+
 -- how many of them are spent
 abbrev pub spent_in : {C : Type 0} → Rules C → C → List Event → ℕ
 spent_in rules core [] = 0
 spent_in rules core (e ∷ es) = (if (rules.step core e).spent then 1 else 0) + spent_in rules (rules.step core e).after es
 
 -- A node that began with this core is where its events lead the core. Its datagrams are those of what the core sends in them, its
--- messages numbered from 1, and its numbers count the events, the datagrams and the spent events.
+-- messages numbered from 1, the commit that it prints next was made in one of them, and its numbers count the events, the datagrams and the
+-- spent events.
 pub record IsOfCore {C : Type 0} (rules : Rules C) (s : Setting) (start : C) (o : Out C) : Type 0 where
   pub core : o.node.core ≡ core_after rules start o.events
   pub datagrams : o.effects.datagrams ≡ datagrams_in (parcels_of s 0 (sends_in rules start o.events))
+  pub commit : (c : Commit) → o.node.commit ≡ Some c → Contains (commits_in rules start o.events) c
   pub events : o.node.events ≡ capped (length o.events)
   pub sent : o.node.sent ≡ capped (length o.effects.datagrams)
   pub spent : o.node.spent ≡ capped (spent_in rules start o.events)

@@ -1,23 +1,40 @@
 -- All parties of a cluster over the events of all.
-use Rattle.std.proofs.Common.{◌≡◌, ◌≢◌, ℕ, ◌+◌, ◌*◌, ◌<◌, List, [], ◌∷◌, ◌++◌, Option, None, Some, refl, sym, ap, subst, ◌∙◌, inl, inr, append_assoc, append-nil}
-use Rattle.std.specs.Prelude.{◌==◌}
+use Rattle.std.proofs.Common.{◌≡◌, ◌≢◌, ◌⊎◌, ℕ, ◌+◌, ◌*◌, ◌<◌, Bool, true, false, List, [], ◌∷◌, ◌++◌, reverse, Option, None, Some, refl, sym, ap, subst, ◌∙◌, inl, inr, arith, append_assoc, append-nil}
+use Rattle.std.specs.Prelude.{◌==◌, nat_lt, if◌then◌else◌, Contains}
+use Rattle.std.specs.List.{cons_option}
 use Rattle.std.specs.Option.{option_map, option_to_list}
-use Rattle.std.proofs.lemmas.Bool.{cases_Bool, eqb-true, eqb-false}
+use Rattle.std.proofs.lemmas.Bool.{cases_Bool, eqb-true, eqb-false, ltb-true}
+use Rattle.std.proofs.lemmas.List.Elements.{Contains-append_left, Contains-append_right}
+use Rattle.std.proofs.lemmas.Option.{none-some}
 use Rattle.ab_num.specs.declared.party.Party.{Party}
 use Rattle.ab_num.specs.declared.party.Party.TheVariants.{Replica, Client}
+use Rattle.ab_abs.specs.declared.seen.Seen.{Seen}
+use Rattle.ab_abs.specs.declared.seen.Seen.TheVariants.{Committed}
+use Rattle.ab_abs.specs.Faults.{is_faulty}
 use Rattle.ab_abs.specs.Ensembles.{Proto, put}
 use Rattle.ab_abs.specs.Messages.{Call, took, timed}
+use Rattle.ab_abs.proofs.Lists.{Contains-cons_cases}
 use Rattle.ab_abs.proofs.Reach.{put_same, put_other}
-use Rattle.ab_run.specs.Setups.{Setup}
-use Rattle.ab_run.specs.Runs.{Event as Happening, run}
-use Rattle.ab_run.specs.Local.{Cue, cue_command, cue_message, cue_time, cli_after, rep_after}
+use Rattle.ab_run.specs.Setups.{Setup, replicas}
+use Rattle.ab_run.specs.Runs.{Event as Happening, Run, invoke, to_replica, to_client, replica_time, client_time, run}
+use Rattle.ab_run.specs.Local.{Cue, cue_command, cue_message, cue_time, cli_after, cli_marks, cli_shows, moves_at, rep_after, rep_shows}
 use Rattle.ab_run.proofs.Effects.{at_call, at_cue, called, cued, reps_stay, reps_apart, clis_stay, clis_apart}
+use Rattle.ab_run.proofs.Listed.{Contains-reverse}
+use Rattle.ab_run.proofs.Shown.{moves_backward}
+use Rattle.ab_client.specs.Clients.{alone, marks}
+use Rattle.ab_loop.specs.declared.party_core.Commit.{Commit}
 use Rattle.ab_loop.specs.Cores.{Event}
-use Rattle.ab_loop.specs.Folds.{core_after}
+use Rattle.ab_loop.specs.Folds.{commits_in, core_after}
 use Rattle.ab_member.specs.Replicas.{ReplicaMember, call_of, replica_after, replica_may_take, replica_rules, replica_step}
 use Rattle.ab_member.specs.Clients.{ClientMember, client_after, client_may_take, client_rules, client_step, cue_of}
-use Rattle.ab_member.specs.Locality.{AllStartIn, AreRun, Members, all_after, all_happens, call_event, cue_event, events_at_client, events_at_replica, happens, members_after}
+use Rattle.ab_member.specs.Locality.{AllStartIn, AreRun, IsSeen, Members, all_after, all_happens, call_event, cue_event, events_at_client, events_at_replica, happens, members_after}
+use Rattle.ab_member.proofs.CommitLemmas.{commit_among, own_commit}
 use Rattle.ab_member.proofs.LocalLemmas.{IsPlaced, after_is, cli_is, placed_after}
+
+-- what stands in a list that may begin with one more
+option_cases : {A : Type 0} (o : Option A) (xs : List A) (x : A) → Contains (cons_option o xs) x → (o ≡ Some x) ⊎ Contains xs x
+option_cases None xs x has = inr has
+option_cases (Some y) xs x has = elim (Contains-cons_cases y xs x has) [ inl e ↦ inl (ap Some e) | inr more ↦ inr more ]
 
 module _ {P : Type 0} (k : Setup) (proto : Proto P) where
   -- the run has left these members where they are
@@ -157,6 +174,106 @@ module _ {P : Type 0} (k : Setup) (proto : Proto P) where
         | inr differ ↦ rw differ (ap (λ m. core_after client_rules m (events_at_client c xs)) (put_other w.clients d c v (λ is. eqb-false d c differ (sym is))))
       ]
 
+  -- ---- what clients commit is seen
+
+  -- what was seen stays seen
+  still_seen : (bad : Bool) (new old : List Seen) (s : Seen) → Contains old s → Contains (if bad then old else new ++ old) s
+  still_seen true new old s has = has
+  still_seen false new old s has = Contains-append_right new old s has
+
+  seen_at_call : (v : Run P) (r : ℕ) (call : Call) (s : Seen) → Contains v.seen s → Contains (at_call k proto v r call).seen s
+  seen_at_call v r call s has =
+      elim (cases_Bool (nat_lt r (replicas k))) [
+        | inl there ↦
+            subst (λ (l : List Seen). Contains l s) (sym (called k proto v r call (ltb-true r (replicas k) there)).seen)
+            (still_seen (is_faulty k.faulty (Replica r)) (rep_shows k proto r (v.reps r) call) v.seen s has)
+        | inr gone ↦ rw gone has
+      ]
+
+  seen_at_cue : (v : Run P) (c : ℕ) (cue : Cue) (s : Seen) → Contains v.seen s → Contains (at_cue k proto v c cue).seen s
+  seen_at_cue v c cue s has =
+      elim (cases_Bool (nat_lt c k.cluster.clients)) [
+        | inl there ↦
+            subst (λ (l : List Seen). Contains l s) (sym (cued k proto v c cue (ltb-true c k.cluster.clients there)).seen)
+            (still_seen (is_faulty k.faulty (Client c)) (cli_shows k c (v.clis c) cue) v.seen s has)
+        | inr gone ↦ rw gone has
+      ]
+
+  seen_on : (h : Happening) (before : List Happening) (s : Seen) → Contains (run k proto before).seen s → Contains (run k proto (h ∷ before)).seen s
+  seen_on (invoke c command) before s has = seen_at_cue (run k proto before) c (cue_command command) s has
+  seen_on (to_replica r m) before s has = seen_at_call (run k proto before) r (took m) s has
+  seen_on (to_client c m) before s has = seen_at_cue (run k proto before) c (cue_message m) s has
+  seen_on (replica_time r) before s has = seen_at_call (run k proto before) r timed s has
+  seen_on (client_time c) before s has = seen_at_cue (run k proto before) c cue_time s has
+
+  seen_later : (hs before : List Happening) (s : Seen) → Contains (run k proto before).seen s → Contains (run k proto (hs ++ before)).seen s
+  seen_later [] before s has = has
+  seen_later (h ∷ hs) before s has = seen_on h (hs ++ before) s (seen_later hs before s has)
+
+  commit_later : (c : ℕ) (commit : Commit) (hs before : List Happening) → IsSeen c commit (run k proto before).seen → IsSeen c commit (run k proto (hs ++ before)).seen
+  commit_later c commit hs before is = record {
+    request = is.request;
+    digest = is.digest;
+    there = seen_later hs before (Committed commit.instance c is.request commit.n is.digest commit.reply) is.there;
+    stamp = is.stamp;
+  }
+
+  module _ (c : ℕ) (lt : c < k.cluster.clients) (good : is_faulty k.faulty (Client c) ≡ false) where
+    -- what it commits in an event is seen in that event
+    commit_now : (w : Members P) (before : List Happening) → Stand w before → (e : Event) (commit : Commit) → (client_step (w.clients c) e).commit ≡ Some commit
+        → IsSeen c commit (run k proto (happens proto w (Client c) e ++ before)).seen
+    commit_now w before st e commit is = go (cue_of (w.clients c) e) is where
+      go : (o : Option Cue) → (client_may_take (w.clients c) o).commit ≡ Some commit → IsSeen c commit (run k proto (option_to_list (option_map (cue_event c) o) ++ before)).seen
+      go None none = absurd (none-some commit none)
+      go (Some cue) some =
+          let m = w.clients c in
+          let v = run k proto before in
+          let shows = cli_shows k c (v.clis c) cue in
+          let found = commit_among (marks m.seat cue) commit some in
+          let backward : marks m.seat cue ≡ reverse shows =
+          ap (λ x. cli_marks (alone x) m.seat.me m.seat.cli cue) (sym (st.clusters c lt))
+          ∙ ap (λ j. cli_marks k j m.seat.cli cue) (st.mine c lt)
+          ∙ ap (λ s. cli_marks k c s cue) (sym (st.clients c lt))
+          ∙ moves_backward c (moves_at k c (v.clis c) cue) (v.clis c) in
+          let shown : Contains shows found.0 = Contains-reverse shows found.0 (subst (λ (l : List Seen). Contains l found.0) backward found.1) in
+          let own = own_commit c (moves_at k c (v.clis c) cue) (v.clis c) found.0 commit shown found.2 in
+          let seen : (run k proto (cue_event c cue ∷ before)).seen ≡ (if is_faulty k.faulty (Client c) then v.seen else shows ++ v.seen) =
+          ap (λ u. u.seen) (cue_happens before c cue) ∙ (cued k proto v c cue lt).seen in
+          let there : Contains (run k proto (cue_event c cue ∷ before)).seen found.0 =
+          subst (λ (l : List Seen). Contains l found.0) (sym seen)
+          (subst (λ (b : Bool). Contains (if b then v.seen else shows ++ v.seen) found.0) (sym good) (Contains-append_left shows v.seen found.0 shown)) in
+          record { request = own.request; digest = own.digest; there = subst (λ s. Contains (run k proto (cue_event c cue ∷ before)).seen s) own.is there; stamp = own.stamp }
+
+    commits_seen : (xs : List (Party × Event)) (w : Members P) (before : List Happening) → Stand w before → (commit : Commit)
+        → Contains (commits_in client_rules (w.clients c) (events_at_client c xs)) commit → IsSeen c commit (run k proto (all_happens proto w xs ++ before)).seen
+    commits_seen [] w before st commit gone = absurd (omega (arith, gone.1))
+    commits_seen ((Replica q, e) ∷ xs) w before st commit has =
+        let now = members_after proto w (Replica q) e in
+        subst (λ (hs : List Happening). IsSeen c commit (run k proto hs).seen) (sym (append_assoc (all_happens proto now xs) (happens proto w (Replica q) e) before))
+        (commits_seen xs now (happens proto w (Replica q) e ++ before) (replica_stands w before q e st) commit has)
+    commits_seen ((Client d, e) ∷ xs) w before st commit has =
+        let v = (client_step (w.clients d) e).after in
+        let now = members_after proto w (Client d) e in
+        let after = happens proto w (Client d) e ++ before in
+        subst (λ (hs : List Happening). IsSeen c commit (run k proto hs).seen) (sym (append_assoc (all_happens proto now xs) (happens proto w (Client d) e) before))
+        (elim (cases_Bool (d == c)) [
+          | inl same ↦
+              let is : d ≡ c = eqb-true d c same in
+              let put_is : put w.clients d v c ≡ (client_step (w.clients c) e).after =
+              ap (λ j. put w.clients d v j) (sym is) ∙ put_same w.clients d v ∙ ap (λ j. (client_step (w.clients j) e).after) is in
+              elim (option_cases (client_step (w.clients c) e).commit (commits_in client_rules (client_step (w.clients c) e).after (events_at_client c xs)) commit (rw same at has)) [
+                | inl new ↦
+                    commit_later c commit (all_happens proto now xs) after
+                    (subst (λ j. IsSeen c commit (run k proto (happens proto w (Client j) e ++ before)).seen) (sym is) (commit_now w before st e commit new))
+                | inr rest ↦
+                    commits_seen xs now after (client_stands w before d e st) commit
+                    (subst (λ m. Contains (commits_in client_rules m (events_at_client c xs)) commit) (sym put_is) rest)
+              ]
+          | inr differ ↦
+              commits_seen xs now after (client_stands w before d e st) commit
+              (subst (λ m. Contains (commits_in client_rules m (events_at_client c xs)) commit) (sym (put_other w.clients d c v (λ is. eqb-false d c differ (sym is)))) (rw differ at has))
+        ])
+
   pub are_run : (counted : P → Option ℕ) (w : Members P) (xs : List (Party × Event)) → AllStartIn k proto w → AreRun k proto counted w xs
   are_run counted w xs starts =
       let first : Stand w [] = record {
@@ -173,4 +290,5 @@ module _ {P : Type 0} (k : Setup) (proto : Proto P) where
       record {
         replicas = λ r lt. subst (λ (hs : List Happening). (run k proto hs).reps r ≡ ((all_after proto w xs).replicas r).site.rep) (append-nil (all_happens proto w xs)) (last.replicas r lt) ∙ ap (λ m. m.site.rep) (replica_comes counted r xs w);
         clients = λ c lt. subst (λ (hs : List Happening). (run k proto hs).clis c ≡ ((all_after proto w xs).clients c).seat.cli) (append-nil (all_happens proto w xs)) (last.clients c lt) ∙ ap (λ m. m.seat.cli) (client_comes c xs w);
+        commits = λ c lt good commit has. subst (λ (hs : List Happening). IsSeen c commit (run k proto hs).seen) (append-nil (all_happens proto w xs)) (commits_seen c lt good xs w [] first commit has);
       }

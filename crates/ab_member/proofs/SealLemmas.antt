@@ -1,7 +1,6 @@
 -- What is opened and sealed.
-use Rattle.std.proofs.Common.{◌≡◌, ℕ, suc, ◌+◌, ◌*◌, ◌<◌, ◌≤◌, true, false, IsTrue, List, [], ◌∷◌, ◌++◌, length, take, get_or, refl, ap, sym, ◌∙◌, arith, append-nil, length-append}
-use Rattle.std.specs.Prelude.{nat_lt, ◌&&◌, ◌-◌, None, Some, if◌then◌else◌, slice_get}
-use Rattle.std.specs.List.{list_all}
+use Rattle.std.proofs.Common.{◌≡◌, ℕ, ◌+◌, ◌*◌, ◌<◌, ◌≤◌, true, false, IsTrue, List, [], ◌∷◌, ◌++◌, length, take, get_or, refl, ap, sym, ◌∙◌, arith, append-nil, length-append}
+use Rattle.std.specs.Prelude.{◌&&◌, ◌-◌, None, Some, if◌then◌else◌, slice_get}
 use Rattle.std.specs.Result.{result_ok}
 use Rattle.std.proofs.lemmas.List.{take_more}
 use Rattle.std.proofs.lemmas.Bool.{ltb-true}
@@ -16,19 +15,13 @@ use Rattle.ab_msg.specs.declared.message.Out.{Out}
 use Rattle.ab_msg.specs.Fields.{IsParty}
 use Rattle.ab_msg.specs.Messages.{code_of, spell_body}
 use Rattle.ab_open.specs.Opening.{opening}
+use Rattle.ab_open.proofs.ByteLemmas.{all_bytes}
 use Rattle.ab_sign.specs.Judges.{judge_of}
 use Rattle.ab_seal.specs.Sealing.{sealed, tagged}
 use Rattle.ab_loop.specs.Cores.{IsSendable, Sealed}
 use Rattle.ab_member.specs.Credentials.{Credentials, IsLast, IsPartyRing, opened, sealed_all, sealed_by, sealed_for}
 
 -- ---- opening
-
-is_byte : (b : ℕ) → b < 256 → nat_lt b 256 ≡ true
-is_byte b lt = search arith
-
-all_bytes : (bytes : List ℕ) → IsBytes bytes → list_all (λ b. nat_lt b 256) bytes ≡ true
-all_bytes [] fits = refl
-all_bytes (b ∷ bytes) fits = (λ j. is_byte b (fits 0) j && all_bytes bytes (λ i. fits (suc i)) j)
 
 pub opened_is : (c : Credentials) (bytes : List ℕ) → IsBytes bytes → opened c bytes ≡ result_ok (opening (judge_of c.ring c.keys) c.ring.f c.ring.clients c.ring.me bytes)
 opened_is c bytes fits = ap (λ b. if b then result_ok (opening (judge_of c.ring c.keys) c.ring.f c.ring.clients c.ring.me bytes) else None) (all_bytes bytes fits)

@@ -1,12 +1,16 @@
 -- What parties come to over their events, as a run says it: whatever happens elsewhere, and in whichever order the events of different
 -- parties come.
-use Rattle.std.specs.Prelude.{◌≡◌, ℕ, ◌+◌, ◌*◌, ◌<◌, ◌==◌, if◌then◌else◌, List, [], ◌∷◌, ◌++◌, reverse, Option}
+use Rattle.std.specs.Prelude.{◌≡◌, ℕ, ◌+◌, ◌*◌, ◌<◌, ◌==◌, if◌then◌else◌, false, List, [], ◌∷◌, ◌++◌, Contains, reverse, Option}
 use Rattle.std.specs.List.{cons_option, filter_map}
 use Rattle.std.specs.Option.{option_map, option_to_list}
 use Rattle.ab_num.specs.declared.party.Party.{Party}
 use Rattle.ab_num.specs.declared.party.Party.TheVariants.{Replica, Client}
+use Rattle.ab_hist.specs.declared.request.Request.{Request}
 use Rattle.ab_msg.specs.declared.message.Out.{Out}
 use Rattle.ab_sign.specs.Signers.{pen_of}
+use Rattle.ab_abs.specs.declared.seen.Seen.{Seen}
+use Rattle.ab_abs.specs.declared.seen.Seen.TheVariants.{Committed}
+use Rattle.ab_abs.specs.Faults.{is_faulty}
 use Rattle.ab_abs.specs.Ensembles.{Proto, put}
 use Rattle.ab_abs.specs.Messages.{Call, took, timed}
 use Rattle.ab_run.specs.Setups.{Setup, replicas}
@@ -15,8 +19,9 @@ use Rattle.ab_run.specs.Clients.{Cli}
 use Rattle.ab_run.specs.Runs.{Event as Happening, invoke, to_replica, to_client, replica_time, client_time, first_cli, first_rep, run}
 use Rattle.ab_run.specs.Local.{Cue, cue_command, cue_message, cue_time, cli_after, cli_local, cli_sends, rep_after, rep_local, rep_sends}
 use Rattle.ab_replica.specs.Sites.{IsSetupOf}
+use Rattle.ab_loop.specs.declared.party_core.Commit.{Commit}
 use Rattle.ab_loop.specs.Cores.{Event}
-use Rattle.ab_loop.specs.Folds.{core_after, sends_in}
+use Rattle.ab_loop.specs.Folds.{commits_in, core_after, sends_in}
 use Rattle.ab_member.specs.Credentials.{Credentials, sealed_all}
 use Rattle.ab_member.specs.Replicas.{ReplicaMember, call_of, replica_rules, replica_step}
 use Rattle.ab_member.specs.Clients.{ClientMember, client_rules, client_step, cue_of}
@@ -109,7 +114,16 @@ pub record AllStartIn {P : Type 0} (k : Setup) (proto : Proto P) (w : Members P)
   pub replicas : (r : ℕ) → r < 3 * k.cluster.f + 1 → StartsIn k proto (w.replicas r) × ((w.replicas r).site.me ≡ r)
   pub clients : (c : ℕ) → c < k.cluster.clients → ((w.clients c).seat.cli ≡ first_cli) × ((w.clients c).seat.me ≡ c) × (k.cluster ≡ (w.clients c).seat.cluster)
 
--- the events of the members make a run: each party is where its own events lead it, and that is where the run leaves it
+-- client c's commit was seen, of a request with its stamp
+pub record IsSeen (c : ℕ) (commit : Commit) (seen : List Seen) : Type 0 where
+  pub request : Request
+  pub digest : List ℕ
+  pub there : Contains seen (Committed commit.instance c request commit.n digest commit.reply)
+  pub stamp : request.stamp ≡ commit.stamp
+
+-- the events of the members make a run: each party is where its own events lead it, and that is where the run leaves it; and what a
+-- correct client commits is seen in the run
 pub record AreRun {P : Type 0} (k : Setup) (proto : Proto P) (counted : P → Option ℕ) (w : Members P) (xs : List (Party × Event)) : Type 0 where
   pub replicas : (r : ℕ) → r < 3 * k.cluster.f + 1 → (run k proto (all_happens proto w xs)).reps r ≡ (core_after (replica_rules proto counted) (w.replicas r) (events_at_replica r xs)).site.rep
   pub clients : (c : ℕ) → c < k.cluster.clients → (run k proto (all_happens proto w xs)).clis c ≡ (core_after client_rules (w.clients c) (events_at_client c xs)).seat.cli
+  pub commits : (c : ℕ) → c < k.cluster.clients → is_faulty k.faulty (Client c) ≡ false → (commit : Commit) → Contains (commits_in client_rules (w.clients c) (events_at_client c xs)) commit → IsSeen c commit (run k proto (all_happens proto w xs)).seen

@@ -8,7 +8,8 @@ pub returns : goal.returns
 returns c =
     let cluster = c.args.cluster.now in
     let faulty : c.as_bytes.result.now ≡ codes "f " ++ decimal cluster.f = search rules in
-    let count : c.as_bytes-2.result.now ≡ codes "clients " ++ decimal cluster.clients = search rules in
+    let count : c.as_bytes-3.result.now ≡ codes "clients " ++ decimal cluster.clients = search rules in
+    let named : c.as_bytes-2.result.now ≡ plan_line cluster.plan = search rules in
     let old = c.args.out.now.items in
     let one = c.add_line.new.out.items in
     let two = c.add_line-2.new.out.items in
@@ -18,5 +19,5 @@ returns c =
     let third : List (List ℕ) = plan_line cluster.plan ∷ [] in
     let last : List (List ℕ) = (codes "clients " ++ decimal cluster.clients) ∷ [] in
     let e2 = added old one two front second c.in_ok-add_line.ensures (c.in_ok-add_line-2.ensures ∙ ap (λ t. one ++ text_of (t ∷ [])) faulty) in
-    let e3 = added old two three (front ++ second) third e2 (c.in_ok-add_line-3.ensures ∙ ap (λ t. two ++ text_of (t ∷ [])) c.plan_text.ensures) in
+    let e3 = added old two three (front ++ second) third e2 (c.in_ok-add_line-3.ensures ∙ ap (λ t. two ++ text_of (t ∷ [])) named) in
     added old three c.add_line-4.new.out.items (front ++ second ++ third) last e3 (c.in_ok-add_line-4.ensures ∙ ap (λ t. three ++ text_of (t ∷ [])) count)
