@@ -4,3 +4,4 @@ pub mod MemberLemmas
 pub mod CommitLemmas
 pub mod LocalLemmas
 pub mod JointLemmas
+pub mod FormedLemmas

@@ -3,12 +3,21 @@
 ghost use Rattle.std.specs.Prelude.{◌≡◌, ℕ, List, Option};
 ghost use Rattle.ab_num.specs.declared.party.Party.{Party};
 ghost use Rattle.ab_abs.specs.Ensembles.{Proto};
+ghost use Rattle.ab_abs.specs.Instances.{EachIsAbstract};
+ghost use Rattle.ab_abs.specs.Order.{Ordered};
+ghost use Rattle.ab_abs.specs.Promises.{ServesAll};
+ghost use Rattle.ab_run.specs.Premises.{RunPremises};
+ghost use Rattle.ab_run.specs.Runs.{first_cli, named_by, run};
 ghost use Rattle.ab_run.specs.Setups.{Setup};
-ghost use Rattle.ab_run.specs.Runs.{first_cli};
 ghost use Rattle.ab_loop.specs.Cores.{Event};
 ghost use Rattle.ab_member.specs.Replicas.{ReplicaMember as Member};
 ghost use Rattle.ab_member.specs.Clients.{ClientMember as Customer};
-ghost use Rattle.ab_member.specs.Locality.{AllStartIn, AreRun, IsLocalClient, IsLocalReplica, Members, StartsIn};
+ghost use Rattle.ab_member.specs.Locality.{AllStartIn, AreRun, IsLocalClient, IsLocalReplica, Members, StartsIn, all_happens};
+
+use ab_abs::Protocol;
+use ab_open::opened_messages_are_of_the_grammar;
+use ab_run::run_is_ordered;
+use ab_svc::Service;
 
 /// Where its events lead a replica and what it sends in them is what a run says of a replica to which
 /// the same comes. So in two runs with the same events at it and the same keys it is the same.
@@ -22,7 +31,25 @@ pub fn clients_are_local()
 {}
 
 /// The events of all parties of a cluster, in whichever order those of different parties come, are a
-/// run: it leaves each party where its own events lead it.
+/// run: it leaves each party where its own events lead it, and what a correct client commits is seen in
+/// it.
 pub fn members_make_a_run<P>()
     ensures { (k : Setup) (proto : Proto P) (counted : P → Option ℕ) (w : Members P) (xs : List (Party × Event)) → AllStartIn k proto w → AreRun k proto counted w xs }
 {}
+
+/// Whatever comes to the parties of a cluster, and in whichever order: where that run meets the
+/// premises, what is seen in it is ordered, and so is what correct clients commit, which is seen there.
+/// Each instance keeps its own promises.
+pub fn members_are_ordered<S: Service, P: Protocol<S>>()
+    ensures ordered { (k : Setup) (w : Members P) (xs : List (Party × Event))
+        → let events = all_happens P.proto w xs in
+        let v = run k P.proto events in
+        ServesAll P.serves k.cluster → RunPremises k P.proto events → Ordered S.machine v.seen (named_by k v) k.faulty }
+    ensures instances { (k : Setup) (w : Members P) (xs : List (Party × Event))
+        → let events = all_happens P.proto w xs in
+        let v = run k P.proto events in
+        ServesAll P.serves k.cluster → RunPremises k P.proto events → EachIsAbstract S.machine v.seen (named_by k v) k.faulty }
+{
+    opened_messages_are_of_the_grammar();
+    run_is_ordered::<S, P>();
+}

@@ -10,5 +10,5 @@ mod laws;
 mod replica_member;
 
 pub use client_member::ClientMember;
-pub use laws::{clients_are_local, members_make_a_run, replicas_are_local};
+pub use laws::{clients_are_local, members_are_ordered, members_make_a_run, replicas_are_local};
 pub use replica_member::ReplicaMember;

@@ -3,3 +3,4 @@ pub mod NamedLemmas
 pub mod StateLemmas
 pub mod OpenLemmas
 pub mod ContentLemmas
+pub mod ByteLemmas
