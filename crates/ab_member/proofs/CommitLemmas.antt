@@ -24,10 +24,11 @@ commit_here seen i s lt is =
 -- it is that of something seen
 pub commit_among : (seen : List Seen) (commit : Commit) → commit_in seen ≡ Some commit → (s : Seen) × Contains seen s × (commit_of s ≡ Some commit)
 commit_among [] commit is = absurd (none-some commit is)
-commit_among (s ∷ seen) commit is = go (commit_of s) refl is where
-  go : (o : Option Commit) → commit_of s ≡ o → first_of o (commit_in seen) ≡ Some commit → (x : Seen) × Contains (s ∷ seen) x × (commit_of x ≡ Some commit)
-  go None none later = let found = commit_among seen commit later in (found.0, Contains-tail s found.0 seen found.1, found.2)
-  go (Some c) some first = (s, Contains-head s seen, some ∙ first)
+commit_among (s ∷ seen) commit is = go (λ later. commit_among seen commit later) (commit_of s) refl is where
+  go : (commit_in seen ≡ Some commit → (x : Seen) × Contains seen x × (commit_of x ≡ Some commit))
+      → (o : Option Commit) → commit_of s ≡ o → first_of o (commit_in seen) ≡ Some commit → (x : Seen) × Contains (s ∷ seen) x × (commit_of x ≡ Some commit)
+  go rest None none later = let found = rest later in (found.0, Contains-tail s found.0 seen found.1, found.2)
+  go rest (Some c) some first = (s, Contains-head s seen, some ∙ first)
 
 -- ---- what a client's move shows is its own
 

@@ -1,5 +1,5 @@
 -- What parties take is in form, by whose keys it opens.
-use Rattle.std.proofs.Common.{◌≡◌, ℕ, Bool, true, false, IsTrue, List, [], ◌∷◌, ◌++◌, Option, None, Some, Result, Ok, Err, refl, ap, nat_lt}
+use Rattle.std.proofs.Common.{◌≡◌, ℕ, Bool, true, false, List, [], ◌∷◌, ◌++◌, Option, None, Some, Result, Ok, Err, refl, ap, nat_lt}
 use Rattle.std.specs.Prelude.{Contains, if◌then◌else◌}
 use Rattle.std.specs.List.{flat_map, list_all}
 use Rattle.std.specs.Option.{option_map, option_to_list}
@@ -15,7 +15,6 @@ use Rattle.ab_msg.specs.declared.message.Msg.{Msg}
 use Rattle.ab_msg.specs.Carried.{stated_history}
 use Rattle.ab_msg.specs.Claims.{claims}
 use Rattle.ab_msg.specs.Messages.{IsMessage}
-use Rattle.ab_check.specs.Checks.{Judge}
 use Rattle.ab_open.specs.declared.fault.OpenFault.{OpenFault}
 use Rattle.ab_open.specs.Opening.{opening}
 use Rattle.ab_open.proofs.ByteLemmas.{are_bytes}
@@ -37,12 +36,12 @@ is_ok : (o : Result Msg OpenFault) (m : Msg) → result_ok o ≡ Some m → o �
 is_ok (Ok n) m is = ap Ok (same_Some n m is)
 is_ok (Err fault) m is = absurd (none-some m is)
 
-module _ (k : Setup) (grammar : (judge : Judge) (f clients : ℕ) (me : Party) (bytes : List ℕ) (m : Msg) → IsBytes bytes → opening judge f clients me bytes ≡ Ok m → IsMessage m)
+module _ (k : Setup) (grammar : (c : Credentials) (bytes : List ℕ) (m : Msg) → IsBytes bytes → opening (judge_of c.ring c.keys) c.ring.f c.ring.clients c.ring.me bytes ≡ Ok m → IsMessage m)
     (histories : (f clients : ℕ) (me : Party) (m : Msg) → IsInBounds f clients → IsMessage m → (h : List Request) → Contains (flat_map stated_history (claims f me m)) h → IsHistory h) where
   of_grammar : (c : Credentials) (bytes : List ℕ) (m : Msg) → opened c bytes ≡ Some m → IsMessage m
   of_grammar c bytes m is = by (list_all (λ b. nat_lt b 256) bytes) refl is where
     by : (b : Bool) → list_all (λ b. nat_lt b 256) bytes ≡ b → (if b then result_ok (opening (judge_of c.ring c.keys) c.ring.f c.ring.clients c.ring.me bytes) else None) ≡ Some m → IsMessage m
-    by true are ok = grammar (judge_of c.ring c.keys) c.ring.f c.ring.clients c.ring.me bytes m (are_bytes bytes are) (is_ok (opening (judge_of c.ring c.keys) c.ring.f c.ring.clients c.ring.me bytes) m ok)
+    by true are ok = grammar c bytes m (are_bytes bytes are) (is_ok (opening (judge_of c.ring c.keys) c.ring.f c.ring.clients c.ring.me bytes) m ok)
     by false are none = absurd (none-some m none)
 
   opened_formed : (p : Party) (c : Credentials) (bytes : List ℕ) (m : Msg) → opened c bytes ≡ Some m → IsFormedFor k p m

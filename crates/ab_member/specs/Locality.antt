@@ -13,7 +13,7 @@ use Rattle.ab_abs.specs.declared.seen.Seen.TheVariants.{Committed}
 use Rattle.ab_abs.specs.Faults.{is_faulty}
 use Rattle.ab_abs.specs.Ensembles.{Proto, put}
 use Rattle.ab_abs.specs.Messages.{Call, took, timed}
-use Rattle.ab_run.specs.Setups.{Setup, replicas}
+use Rattle.ab_run.specs.Setups.{Setup}
 use Rattle.ab_run.specs.Replicas.{Rep}
 use Rattle.ab_run.specs.Clients.{Cli}
 use Rattle.ab_run.specs.Runs.{Event as Happening, invoke, to_replica, to_client, replica_time, client_time, first_cli, first_rep, run}
