@@ -6,3 +6,4 @@ pub mod SpelledLemmas
 pub mod RoundLemmas
 pub mod FeedLemmas
 pub mod WholeLemmas
+pub mod FormLemmas

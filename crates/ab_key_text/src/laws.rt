@@ -1,10 +1,12 @@
 //! What holds of key texts.
 
-ghost use Rattle.std.specs.Prelude.{◌≡◌, ℕ, List, Ok};
+ghost use Rattle.std.specs.Prelude.{◌≡◌, ℕ, List, Ok, IsTrue};
 ghost use Rattle.ab_num.specs.declared.party.Party.{Party as TheParty};
 ghost use Rattle.ab_num.specs.declared.plan.Plan.{Plan as ThePlan};
 ghost use Rattle.ab_num.specs.declared.plan.ServiceName.{ServiceName as Service};
 ghost use Rattle.ab_num.specs.declared.plan.Height.{Height as TheHeight};
+ghost use Rattle.ab_num.specs.Bounds.{IsInBounds};
+ghost use Rattle.ab_keys.specs.Keys.{is_party};
 ghost use Rattle.ab_text.specs.Lines.{lines_of};
 ghost use Rattle.ab_key_text.specs.Derived.{keys_of};
 ghost use Rattle.ab_key_text.specs.Keys.{IsWhole, IsPartyKeys, PartyKeys as TheKeys};
@@ -27,4 +29,11 @@ pub fn written_is_read()
 pub fn keys_are_whole()
     ensures read { (ls : List (List ℕ)) (n : Node) → node_in ls ≡ Ok n → IsWhole n.keys }
     ensures derived { (f clients : ℕ) (plan : ThePlan) (service : Service) (lms : TheHeight) (seed : List ℕ) (me : TheParty) → IsWhole (keys_of f clients plan service lms seed me) }
+{}
+
+/// The keys that a seed gives to a party of a cluster are in form. So what is written of them is read as
+/// these keys.
+pub fn derived_keys_are_in_form()
+    ensures { (f clients : ℕ) (plan : ThePlan) (service : Service) (lms : TheHeight) (seed : List ℕ) (me : TheParty) → IsInBounds f clients → IsTrue (is_party f clients me)
+        → IsPartyKeys (keys_of f clients plan service lms seed me) }
 {}

@@ -19,7 +19,7 @@ mod writing;
 pub use fault::{KeyFault, NodeFault};
 pub use hex_bytes::bytes_in;
 pub use keys::PartyKeys;
-pub use laws::{keys_are_whole, spelled_is_read, written_is_read};
+pub use laws::{derived_keys_are_in_form, keys_are_whole, spelled_is_read, written_is_read};
 pub use node::{Commands, read_node};
 pub use parts::party_in;
 pub use secret::Secret;
