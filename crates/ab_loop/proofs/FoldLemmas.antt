@@ -1,5 +1,5 @@
 -- A node is where its events lead its core.
-use Rattle.std.proofs.Common.{◌≡◌, ◌⊎◌, inl, inr, ℕ, ◌+◌, ◌-◌, ◌^◌, ◌≤◌, List, [], ◌∷◌, ◌++◌, length, Option, None, Some, Bool, true, false, cond, refl, ap, sym, subst, ◌∙◌, append_assoc, append-nil, length-append, arith}
+use Rattle.std.proofs.Common.{◌≡◌, ◌⊎◌, inl, inr, ℕ, zero, suc, ◌+◌, ◌-◌, ◌^◌, ◌≤◌, List, [], ◌∷◌, ◌++◌, length, Option, None, Some, Bool, true, false, cond, refl, ap, sym, subst, ◌∙◌, append_assoc, append-nil, length-append, arith}
 use Rattle.std.specs.Prelude.{Contains, slice_get}
 use Rattle.std.specs.List.{cons_option}
 use Rattle.std.proofs.lemmas.Bool.{cases_Bool}
@@ -14,7 +14,7 @@ use Rattle.ab_loop.specs.Cores.{Event, Rules, Sealed, invoke, message, timeout}
 use Rattle.ab_loop.specs.Outside.{capped}
 use Rattle.ab_loop.specs.Texts.{reply_text}
 use Rattle.ab_loop.specs.Nodes.{Node, Out, Turn, after_reply, and_then, command_step, datagram_step, datagrams_in, event_step, first_step, has_expired, joined_step, latest, new_node, next_deadline, no_step, parcel_of, parcels_of, reply_step, run_after, text_step, timer_step, turn_step, with_deadline, with_joiner}
-use Rattle.ab_loop.specs.Folds.{IsOfCore, commits_in, core_after, sends_in, spent_in}
+use Rattle.ab_loop.specs.Folds.{IsOfCore, commits_in, core_after, printed, printed_in, sends_in, spent_in}
 
 -- ---- lists of events and of messages
 
@@ -42,6 +42,12 @@ commits_in-append rules core (e ∷ a) b =
     let now = (rules.step core e).after in
     ap (λ rest. cons_option (rules.step core e).commit rest) (commits_in-append rules now a b)
     ∙ cons_option-append (rules.step core e).commit (commits_in rules now a) (commits_in rules (core_after rules now a) b)
+
+-- what stands in a list that may begin with one more
+pub option_cases : {A : Type 0} (o : Option A) (xs : List A) (x : A) → Contains (cons_option o xs) x → (o ≡ Some x) ⊎ Contains xs x
+option_cases None xs x has = inr has
+option_cases (Some y) xs x (zero, lt, is) = inl (ap Some is)
+option_cases (Some y) xs x (suc k, lt, is) = inr (k, omega arith, is)
 
 -- the later of two commits is the one before or what is new
 latest_in : (old new : Option Commit) (c : Commit) → latest old new ≡ Some c → (old ≡ Some c) ⊎ Contains (cons_option new []) c
@@ -193,15 +199,23 @@ module _ {C : Type 0} (rules : Rules C) (s : Setting) where
         let told = stays n (after_reply n) (reply_text c) within refl refl (λ d is. absurd (none-some d is)) refl refl refl in
         then_steps n (text_step (after_reply n) (reply_text c)) (command_step rules s t) within told (command_steps t (after_reply n) (capped_after n (text_step (after_reply n) (reply_text c)) told))
 
-  turn_steps : (turn : Turn) (n : Node C) → IsCapped n → Steps rules s n (turn_step rules s turn n)
-  unfolding turn_step
-  turn_steps turn n within =
+  -- up to its reply
+  abbrev until_reply : Turn → Node C → Out C
+  until_reply turn n = and_then (timer_step rules s turn.reading n) (datagram_step rules s turn.reading turn.got)
+
+  until_steps : (turn : Turn) (n : Node C) → IsCapped n → Steps rules s n (until_reply turn n)
+  until_steps turn n within =
       let t = turn.reading in
       let one = timer_step rules s t n in
       let first = timer_steps t n within in
-      let two = and_then one (datagram_step rules s t turn.got) in
-      let second = then_steps n one (datagram_step rules s t turn.got) within first (datagram_steps t turn.got one.node (capped_after n one first)) in
-      then_steps n two (reply_step rules s t) within second (reply_steps t two.node (capped_after n two second))
+      then_steps n one (datagram_step rules s t turn.got) within first (datagram_steps t turn.got one.node (capped_after n one first))
+
+  turn_steps : (turn : Turn) (n : Node C) → IsCapped n → Steps rules s n (turn_step rules s turn n)
+  unfolding turn_step
+  turn_steps turn n within =
+      let two = until_reply turn n in
+      let second = until_steps turn n within in
+      then_steps n two (reply_step rules s turn.reading) within second (reply_steps turn.reading two.node (capped_after n two second))
 
   run_steps : (n : Node C) (start : Out C) (turns : List Turn) → IsCapped n → Steps rules s n start → Steps rules s n (run_after rules s start turns)
   run_steps n start [] within st = st
@@ -215,11 +229,39 @@ module _ {C : Type 0} (rules : Rules C) (s : Setting) where
       let n = new_node s reading core commands in
       let within : IsCapped n = record { number = omega arith; events = omega arith; sent = omega arith; spent = omega arith } in
       let st = run_steps n (command_step rules s reading n) turns within (command_steps reading n within) in
-      record {
-        core = st.core;
-        datagrams = st.datagrams;
-        commit = λ c is. elim (st.commit c is) [ inl gone ↦ absurd (none-some c gone) | inr there ↦ there ];
-        events = omega (arith, st.events);
-        sent = omega (arith, st.sent);
-        spent = omega (arith, st.spent);
-      }
+      record { core = st.core; datagrams = st.datagrams; events = omega (arith, st.events); sent = omega (arith, st.sent); spent = omega (arith, st.spent) }
+
+  -- ---- what it prints
+
+  -- what was committed in events stays so with more of them
+  commits_stay : (core : C) (a b : List Event) (c : Commit) → Contains (commits_in rules core a) c → Contains (commits_in rules core (a ++ b)) c
+  commits_stay core a b c has =
+      subst (λ (cs : List Commit). Contains cs c) (sym (commits_in-append rules core a b)) (Contains-append_left (commits_in rules core a) (commits_in rules (core_after rules core a) b) c has)
+
+  prints : (n : Node C) (start : Out C) (turns : List Turn) → IsCapped n → Steps rules s n start → n.commit ≡ None
+      → (c : Commit) → Contains (printed_in rules s start turns) c → Contains (commits_in rules n.core (run_after rules s start turns).events) c
+  unfolding turn_step
+  prints n start [] within st none c gone = absurd (omega (arith, gone.1))
+  prints n start (turn ∷ before) within st none c has =
+      let rest = run_after rules s start before in
+      let from = run_steps n start before within st in
+      let two = until_reply turn rest.node in
+      let reached = then_steps n rest (until_reply turn) within from (until_steps turn rest.node (capped_after n rest from)) in
+      let reply = reply_step rules s turn.reading two.node in
+      elim (option_cases (printed rules s turn rest.node) (printed_in rules s start before) c has) [
+        | inl now ↦ elim (reached.commit c now) [
+          | inl old ↦ absurd (none-some c (sym none ∙ old))
+          | inr there ↦
+              subst (λ (es : List Event). Contains (commits_in rules n.core es) c) (append_assoc rest.events two.events reply.events)
+              (commits_stay n.core (rest.events ++ two.events) reply.events c there)
+        ]
+        | inr earlier ↦ commits_stay n.core rest.events (turn_step rules s turn rest.node).events c (prints n start before within st none c earlier)
+      ]
+
+  pub prints_commits : (reading : ℕ) (core : C) (commands : List (ArrayVec ℕ)) (turns : List Turn) (c : Commit) → Contains (printed_in rules s (first_step rules s reading core commands) turns) c
+      → Contains (commits_in rules core (run_after rules s (first_step rules s reading core commands) turns).events) c
+  unfolding first_step
+  prints_commits reading core commands turns =
+      let n = new_node s reading core commands in
+      let within : IsCapped n = record { number = omega arith; events = omega arith; sent = omega arith; spent = omega arith } in
+      prints n (command_step rules s reading n) turns within (command_steps reading n within) refl

@@ -1,11 +1,11 @@
 -- What a core does over a list of events.
-use Rattle.std.specs.Prelude.{◌≡◌, ℕ, ◌+◌, List, [], ◌∷◌, ◌++◌, length, Contains, Some, if◌then◌else◌}
+use Rattle.std.specs.Prelude.{◌≡◌, ℕ, ◌+◌, List, [], ◌∷◌, ◌++◌, length, Option, if◌then◌else◌}
 use Rattle.std.specs.List.{cons_option}
 use Rattle.ab_loop.specs.declared.party_core.Commit.{Commit}
 use Rattle.ab_loop.specs.declared.setting.Setting.{Setting}
 use Rattle.ab_loop.specs.Cores.{Event, Rules, Sealed}
 use Rattle.ab_loop.specs.Outside.{capped}
-use Rattle.ab_loop.specs.Nodes.{Out, datagrams_in, parcels_of}
+use Rattle.ab_loop.specs.Nodes.{Node, Out, Turn, and_then, datagram_step, datagrams_in, parcels_of, run_after, timer_step}
 
 -- where these events lead the core, the first of them first
 abbrev pub core_after : {C : Type 0} → Rules C → C → List Event → C
@@ -28,12 +28,19 @@ spent_in rules core [] = 0
 spent_in rules core (e ∷ es) = (if (rules.step core e).spent then 1 else 0) + spent_in rules (rules.step core e).after es
 
 -- A node that began with this core is where its events lead the core. Its datagrams are those of what the core sends in them, its
--- messages numbered from 1, the commit that it prints next was made in one of them, and its numbers count the events, the datagrams and the
--- spent events.
+-- messages numbered from 1, and its numbers count the events, the datagrams and the spent events.
 pub record IsOfCore {C : Type 0} (rules : Rules C) (s : Setting) (start : C) (o : Out C) : Type 0 where
   pub core : o.node.core ≡ core_after rules start o.events
   pub datagrams : o.effects.datagrams ≡ datagrams_in (parcels_of s 0 (sends_in rules start o.events))
-  pub commit : (c : Commit) → o.node.commit ≡ Some c → Contains (commits_in rules start o.events) c
   pub events : o.node.events ≡ capped (length o.events)
   pub sent : o.node.sent ≡ capped (length o.effects.datagrams)
   pub spent : o.node.spent ≡ capped (spent_in rules start o.events)
+
+-- the commit that a node prints in a turn: what is committed and not printed once timer and link had their say
+abbrev pub printed : {C : Type 0} → Rules C → Setting → Turn → Node C → Option Commit
+printed rules s turn node = (and_then (timer_step rules s turn.reading node) (datagram_step rules s turn.reading turn.got)).node.commit
+
+-- what it prints in these turns, the newest first
+abbrev pub printed_in : {C : Type 0} → Rules C → Setting → Out C → List Turn → List Commit
+printed_in rules s start [] = []
+printed_in rules s start (turn ∷ before) = cons_option (printed rules s turn (run_after rules s start before).node) (printed_in rules s start before)

@@ -1,7 +1,6 @@
 -- All parties of a cluster over the events of all.
-use Rattle.std.proofs.Common.{◌≡◌, ◌≢◌, ◌⊎◌, ℕ, ◌+◌, ◌*◌, ◌<◌, Bool, true, false, List, [], ◌∷◌, ◌++◌, reverse, Option, None, Some, refl, sym, ap, subst, ◌∙◌, inl, inr, arith, append_assoc, append-nil}
+use Rattle.std.proofs.Common.{◌≡◌, ◌≢◌, ℕ, ◌+◌, ◌*◌, ◌<◌, Bool, true, false, List, [], ◌∷◌, ◌++◌, reverse, Option, None, Some, refl, sym, ap, subst, ◌∙◌, inl, inr, arith, append_assoc, append-nil}
 use Rattle.std.specs.Prelude.{◌==◌, nat_lt, if◌then◌else◌, Contains}
-use Rattle.std.specs.List.{cons_option}
 use Rattle.std.specs.Option.{option_map, option_to_list}
 use Rattle.std.proofs.lemmas.Bool.{cases_Bool, eqb-true, eqb-false, ltb-true}
 use Rattle.std.proofs.lemmas.List.Elements.{Contains-append_left, Contains-append_right}
@@ -13,7 +12,6 @@ use Rattle.ab_abs.specs.declared.seen.Seen.TheVariants.{Committed}
 use Rattle.ab_abs.specs.Faults.{is_faulty}
 use Rattle.ab_abs.specs.Ensembles.{Proto, put}
 use Rattle.ab_abs.specs.Messages.{Call, took, timed}
-use Rattle.ab_abs.proofs.Lists.{Contains-cons_cases}
 use Rattle.ab_abs.proofs.Reach.{put_same, put_other}
 use Rattle.ab_run.specs.Setups.{Setup, replicas}
 use Rattle.ab_run.specs.Runs.{Event as Happening, Run, invoke, to_replica, to_client, replica_time, client_time, run}
@@ -28,13 +26,9 @@ use Rattle.ab_loop.specs.Folds.{commits_in, core_after}
 use Rattle.ab_member.specs.Replicas.{ReplicaMember, call_of, replica_after, replica_may_take, replica_rules, replica_step}
 use Rattle.ab_member.specs.Clients.{ClientMember, client_after, client_may_take, client_rules, client_step, cue_of}
 use Rattle.ab_member.specs.Locality.{AllStartIn, AreRun, IsSeen, Members, all_after, all_happens, call_event, cue_event, events_at_client, events_at_replica, happens, members_after}
+use Rattle.ab_loop.proofs.FoldLemmas.{option_cases}
 use Rattle.ab_member.proofs.CommitLemmas.{commit_among, own_commit}
 use Rattle.ab_member.proofs.LocalLemmas.{IsPlaced, after_is, cli_is, placed_after}
-
--- what stands in a list that may begin with one more
-option_cases : {A : Type 0} (o : Option A) (xs : List A) (x : A) → Contains (cons_option o xs) x → (o ≡ Some x) ⊎ Contains xs x
-option_cases None xs x has = inr has
-option_cases (Some y) xs x has = elim (Contains-cons_cases y xs x has) [ inl e ↦ inl (ap Some e) | inr more ↦ inr more ]
 
 module _ {P : Type 0} (k : Setup) (proto : Proto P) where
   -- the run has left these members where they are
