@@ -5,8 +5,10 @@ use Rattle.std.specs.Option.{option_map, option_to_list}
 use Rattle.std.proofs.lemmas.Bool.{cases_Bool, eqb-true, eqb-false, ltb-true}
 use Rattle.std.proofs.lemmas.List.Elements.{Contains-append_left, Contains-append_right}
 use Rattle.std.proofs.lemmas.Option.{none-some}
+use Rattle.ab_num.specs.declared.cluster.Cluster.{Cluster}
 use Rattle.ab_num.specs.declared.party.Party.{Party}
 use Rattle.ab_num.specs.declared.party.Party.TheVariants.{Replica, Client}
+use Rattle.ab_sign.specs.Signers.{pen_of}
 use Rattle.ab_abs.specs.declared.seen.Seen.{Seen}
 use Rattle.ab_abs.specs.declared.seen.Seen.TheVariants.{Committed}
 use Rattle.ab_abs.specs.Faults.{is_faulty}
@@ -14,7 +16,7 @@ use Rattle.ab_abs.specs.Ensembles.{Proto, put}
 use Rattle.ab_abs.specs.Messages.{Call, took, timed}
 use Rattle.ab_abs.proofs.Reach.{put_same, put_other}
 use Rattle.ab_run.specs.Setups.{Setup, replicas}
-use Rattle.ab_run.specs.Runs.{Event as Happening, Run, invoke, to_replica, to_client, replica_time, client_time, run}
+use Rattle.ab_run.specs.Runs.{Event as Happening, Run, invoke, to_replica, to_client, replica_time, client_time, first_rep, run}
 use Rattle.ab_run.specs.Local.{Cue, cue_command, cue_message, cue_time, cli_after, cli_marks, cli_shows, moves_at, rep_after, rep_shows}
 use Rattle.ab_run.proofs.Effects.{at_call, at_cue, called, cued, reps_stay, reps_apart, clis_stay, clis_apart}
 use Rattle.ab_run.proofs.Listed.{Contains-reverse}
@@ -25,7 +27,7 @@ use Rattle.ab_loop.specs.Cores.{Event}
 use Rattle.ab_loop.specs.Folds.{commits_in, core_after}
 use Rattle.ab_member.specs.Replicas.{ReplicaMember, call_of, replica_after, replica_may_take, replica_rules, replica_step}
 use Rattle.ab_member.specs.Clients.{ClientMember, client_after, client_may_take, client_rules, client_step, cue_of}
-use Rattle.ab_member.specs.Locality.{AllStartIn, AreRun, IsSeen, Members, all_after, all_happens, call_event, cue_event, events_at_client, events_at_replica, happens, members_after}
+use Rattle.ab_member.specs.Locality.{AllStartIn, AreFirst, AreRun, IsSeen, Members, all_after, all_happens, call_event, cue_event, events_at_client, events_at_replica, happens, members_after, setup_among}
 use Rattle.ab_loop.proofs.FoldLemmas.{option_cases}
 use Rattle.ab_member.proofs.CommitLemmas.{commit_among, own_commit}
 use Rattle.ab_member.proofs.LocalLemmas.{IsPlaced, after_is, cli_is, placed_after}
@@ -286,3 +288,28 @@ module _ {P : Type 0} (k : Setup) (proto : Proto P) where
         clients = λ c lt. subst (λ (hs : List Happening). (run k proto hs).clis c ≡ ((all_after proto w xs).clients c).seat.cli) (append-nil (all_happens proto w xs)) (last.clients c lt) ∙ ap (λ m. m.seat.cli) (client_comes c xs w);
         commits = λ c lt good commit has. subst (λ (hs : List Happening). IsSeen c commit (run k proto hs).seen) (append-nil (all_happens proto w xs)) (commits_seen c lt good xs w [] first commit has);
       }
+
+-- ---- before their first events
+
+pub first_start : {P : Type 0} (proto : Proto P) (c : Cluster) (faulty : List Party) (signatures : ℕ) (w : Members P) → AreFirst proto c signatures w → AllStartIn (setup_among c faulty signatures w) proto w
+first_start proto c faulty signatures w are =
+    let k = setup_among c faulty signatures w in
+    record {
+      replicas = λ r lt.
+          let m = w.replicas r in
+          let first = are.replicas r lt in
+          let me : m.site.me ≡ r = ap (λ x. x.site.me) first.1 in (
+            record {
+              first = ap (λ x. x.site.rep) first.1 ∙ ap (λ j. first_rep k proto j) (sym me);
+              setup = record {
+                cluster = sym (ap (λ x. x.site.cluster) first.1);
+                signatures = sym (ap (λ x. x.site.signatures) first.1 ∙ first.2);
+                sig = ap (λ j. (pen_of (w.replicas j).credentials.keys m.site.me 0).sig) me;
+              };
+            },
+            me,
+          );
+      clients = λ q lt.
+          let first = are.clients q lt in
+          (ap (λ x. x.seat.cli) first.1, ap (λ x. x.seat.me) first.1, sym (ap (λ x. x.seat.cluster) first.1));
+    }

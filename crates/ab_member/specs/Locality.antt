@@ -3,11 +3,13 @@
 use Rattle.std.specs.Prelude.{◌≡◌, ℕ, ◌+◌, ◌*◌, ◌<◌, ◌==◌, if◌then◌else◌, false, List, [], ◌∷◌, ◌++◌, Contains, reverse, Option}
 use Rattle.std.specs.List.{cons_option, filter_map}
 use Rattle.std.specs.Option.{option_map, option_to_list}
+use Rattle.ab_num.specs.declared.cluster.Cluster.{Cluster}
 use Rattle.ab_num.specs.declared.party.Party.{Party}
 use Rattle.ab_num.specs.declared.party.Party.TheVariants.{Replica, Client}
 use Rattle.ab_hist.specs.declared.request.Request.{Request}
+use Rattle.ab_key_text.specs.Keys.{PartyKeys}
 use Rattle.ab_msg.specs.declared.message.Out.{Out}
-use Rattle.ab_sign.specs.Signers.{pen_of}
+use Rattle.ab_sign.specs.Signers.{leaves_of, pen_of}
 use Rattle.ab_abs.specs.declared.seen.Seen.{Seen}
 use Rattle.ab_abs.specs.declared.seen.Seen.TheVariants.{Committed}
 use Rattle.ab_abs.specs.Faults.{is_faulty}
@@ -22,9 +24,9 @@ use Rattle.ab_replica.specs.Sites.{IsSetupOf}
 use Rattle.ab_loop.specs.declared.party_core.Commit.{Commit}
 use Rattle.ab_loop.specs.Cores.{Event}
 use Rattle.ab_loop.specs.Folds.{commits_in, core_after, sends_in}
-use Rattle.ab_member.specs.Credentials.{Credentials, sealed_all}
-use Rattle.ab_member.specs.Replicas.{ReplicaMember, call_of, replica_rules, replica_step}
-use Rattle.ab_member.specs.Clients.{ClientMember, client_rules, client_step, cue_of}
+use Rattle.ab_member.specs.Credentials.{Credentials, credentials_in, sealed_all}
+use Rattle.ab_member.specs.Replicas.{ReplicaMember, call_of, first_replica, replica_rules, replica_step}
+use Rattle.ab_member.specs.Clients.{ClientMember, client_rules, client_step, cue_of, first_client}
 
 -- ---- one replica
 
@@ -113,6 +115,15 @@ events_at_client c ((Client d, e) ∷ xs) = if d == c then e ∷ events_at_clien
 pub record AllStartIn {P : Type 0} (k : Setup) (proto : Proto P) (w : Members P) : Type 0 where
   pub replicas : (r : ℕ) → r < 3 * k.cluster.f + 1 → StartsIn k proto (w.replicas r) × ((w.replicas r).site.me ≡ r)
   pub clients : (c : ℕ) → c < k.cluster.clients → ((w.clients c).seat.cli ≡ first_cli) × ((w.clients c).seat.me ≡ c) × (k.cluster ≡ (w.clients c).seat.cluster)
+
+-- the members before their first events, each with keys of its own, and each replica with as many signatures
+pub record AreFirst {P : Type 0} (proto : Proto P) (c : Cluster) (signatures : ℕ) (w : Members P) : Type 0 where
+  pub replicas : (r : ℕ) → r < 3 * c.f + 1 → (keys : PartyKeys) × (w.replicas r ≡ first_replica proto c keys r) × (leaves_of (credentials_in keys).keys r ≡ signatures)
+  pub clients : (q : ℕ) → q < c.clients → (keys : PartyKeys) × (w.clients q ≡ first_client c keys q)
+
+-- the setup of their run, where these of them are faulty
+abbrev pub setup_among : {P : Type 0} → Cluster → List Party → ℕ → Members P → Setup
+setup_among c faulty signatures w = record { cluster = c; faulty = faulty; signatures = signatures; sig = λ r. (pen_of (w.replicas r).credentials.keys r 0).sig }
 
 -- client c's commit was seen, of a request with its stamp
 pub record IsSeen (c : ℕ) (commit : Commit) (seen : List Seen) : Type 0 where

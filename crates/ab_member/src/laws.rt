@@ -1,6 +1,7 @@
 //! What ties members and runs.
 
 ghost use Rattle.std.specs.Prelude.{◌≡◌, ℕ, List, Option};
+ghost use Rattle.ab_num.specs.declared.cluster.Cluster.{Cluster as TheCluster};
 ghost use Rattle.ab_num.specs.declared.party.Party.{Party};
 ghost use Rattle.ab_abs.specs.Ensembles.{Proto};
 ghost use Rattle.ab_abs.specs.Instances.{EachIsAbstract};
@@ -12,7 +13,7 @@ ghost use Rattle.ab_run.specs.Setups.{Setup};
 ghost use Rattle.ab_loop.specs.Cores.{Event};
 ghost use Rattle.ab_member.specs.Replicas.{ReplicaMember as Member};
 ghost use Rattle.ab_member.specs.Clients.{ClientMember as Customer};
-ghost use Rattle.ab_member.specs.Locality.{AllStartIn, AreRun, IsLocalClient, IsLocalReplica, Members, StartsIn, all_happens};
+ghost use Rattle.ab_member.specs.Locality.{AllStartIn, AreFirst, AreRun, IsLocalClient, IsLocalReplica, Members, StartsIn, all_happens, setup_among};
 
 use ab_abs::Protocol;
 use ab_open::opened_messages_are_of_the_grammar;
@@ -28,6 +29,12 @@ pub fn replicas_are_local<P>()
 /// The same of a client.
 pub fn clients_are_local()
     ensures { (k : Setup) (m : Customer) (events : List Event) → k.cluster ≡ m.seat.cluster → m.seat.cli ≡ first_cli → IsLocalClient k m events }
+{}
+
+/// The parties of a cluster, each before its first event, stand where a run begins, whoever of them is
+/// faulty.
+pub fn first_members_start_a_run<P>()
+    ensures { (proto : Proto P) (c : TheCluster) (faulty : List Party) (signatures : ℕ) (w : Members P) → AreFirst proto c signatures w → AllStartIn (setup_among c faulty signatures w) proto w }
 {}
 
 /// The events of all parties of a cluster, in whichever order those of different parties come, are a

@@ -10,5 +10,8 @@ mod laws;
 mod replica_member;
 
 pub use client_member::ClientMember;
-pub use laws::{clients_are_local, members_are_ordered, members_make_a_run, replicas_are_local};
+pub use laws::{
+    clients_are_local, first_members_start_a_run, members_are_ordered, members_make_a_run,
+    replicas_are_local,
+};
 pub use replica_member::ReplicaMember;
