@@ -26,7 +26,7 @@ use Rattle.ab_order.specs.Protos.{told, viewed, client_in, answer_out, backup}
 use Rattle.ab_order.proofs.BackupLaws.{keep_cases}
 use Rattle.ab_pbft.specs.Rules.{Pbft, pbft, base_of}
 use Rattle.ab_pbft.proofs.OrderlyOrderer.{pbft_orderly}
-use Rattle.ab_shelf.specs.Signing.{Signing, signing, signer_of, deeds_by, first_post}
+use Rattle.ab_shelf.specs.Signing.{Signing, signing, author_of, deeds_by, first_post}
 use Rattle.ab_receivers.proofs.Known.{AreKnown, IsInputNamed, IsMemoryKnown, begun_known, event_known, orders_known}
 use Rattle.ab_receivers.proofs.Lists.{drop_behind}
 use Rattle.ab_receivers.proofs.Naming.{Names}
@@ -153,7 +153,7 @@ module _ {S : Type 0} (machine : Machine S) (c : Cluster) where
         elim (Contains-append_cases first (signing.sends pen v.order call ++ later) o has) [
           | inl at_once ↦ first_within o at_once
           | inr rest ↦ elim (Contains-append_cases (signing.sends pen v.order call) later o rest) [
-            | inl ordering ↦ posts_within c (signer_of v.order) knows.cluster (deeds_by v.order call) (first_post pen v.order call) (λ p none. absurd (none_of p none)) o ordering
+            | inl ordering ↦ posts_within c (author_of v.order) knows.cluster (deeds_by v.order call) (first_post pen v.order call) (λ p none. absurd (none_of p none)) o ordering
             | inr executed ↦ later_within o executed
           ]
         ]

@@ -9,7 +9,7 @@ use Rattle.ab_msg.specs.declared.message.Out.{Out}
 use Rattle.ab_abs.proofs.Statements.{one_of, none_of}
 use Rattle.ab_slots.specs.declared.deed.Deed.{Deed}
 use Rattle.ab_slots.specs.declared.deed.Deed.TheVariants.{Signs, Prepares, Changes, Enters, Offers, Leads}
-use Rattle.ab_shelf.specs.declared.signer.Signer.{Signer}
+use Rattle.ab_shelf.specs.declared.author.Author.{Author}
 use Rattle.ab_shelf.specs.Posts.{Post, to_others, posts, posts_all}
 use Rattle.ab_receivers.proofs.Within.{IsWithin, AreWithin, replica_within}
 
@@ -25,7 +25,7 @@ others_within c (suc n) me says few o has =
     at true last = absurd (none_of o last)
     at false last = subst (λ (z : Out). IsWithin c z.to) (one_of (record { to = Replica n; msg = says n }) o last) (replica_within c n (omega (arith, few)))
 
-module _ (c : Cluster) (by : Signer) (same : by.cluster ≡ c) where
+module _ (c : Cluster) (by : Author) (same : by.cluster ≡ c) where
   more_within : (sent : List Out) (says : ℕ → Msg) → AreWithin c sent → AreWithin c (sent ++ to_others (3 * by.cluster.f + 1) by.me says)
   more_within sent says before o has =
       elim (Contains-append_cases sent (to_others (3 * by.cluster.f + 1) by.me says) o has) [
