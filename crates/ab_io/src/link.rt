@@ -8,7 +8,7 @@ ghost use Rattle.ab_io.specs.Datagrams.{FitsIn, Gives, left_after, with_sent};
 use crate::fault::{Failed, Refused};
 
 /// How many bytes of a datagram are given at most: one more than the longest piece of a message has with its header,
-/// so that a longer datagram is none.
+/// so that what is longer than a piece isn't taken for one.
 pub const LONGEST_DATAGRAM: usize = 8209;
 
 /// What came.

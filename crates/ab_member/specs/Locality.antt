@@ -116,7 +116,7 @@ pub record AllStartIn {P : Type 0} (k : Setup) (proto : Proto P) (w : Members P)
   pub replicas : (r : ℕ) → r < 3 * k.cluster.f + 1 → StartsIn k proto (w.replicas r) × ((w.replicas r).site.me ≡ r)
   pub clients : (c : ℕ) → c < k.cluster.clients → ((w.clients c).seat.cli ≡ first_cli) × ((w.clients c).seat.me ≡ c) × (k.cluster ≡ (w.clients c).seat.cluster)
 
--- the members before their first events, each with keys of its own, and each replica with as many signatures
+-- the members before their first events, each with some keys, and each replica with as many signatures
 pub record AreFirst {P : Type 0} (proto : Proto P) (c : Cluster) (signatures : ℕ) (w : Members P) : Type 0 where
   pub replicas : (r : ℕ) → r < 3 * c.f + 1 → (keys : PartyKeys) × (w.replicas r ≡ first_replica proto c keys r) × (leaves_of (credentials_in keys).keys r ≡ signatures)
   pub clients : (q : ℕ) → q < c.clients → (keys : PartyKeys) × (w.clients q ≡ first_client c keys q)
