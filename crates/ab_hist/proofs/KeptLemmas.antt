@@ -30,7 +30,7 @@ slice_get-take (suc n) (x ∷ xs) (suc i) h = slice_get-take n xs i (omega arith
 take_within : {X : Type 0} → (xs : List X) (i n : ℕ) → i < n → take (i + 1) (take n xs) ≡ take (i + 1) xs
 take_within xs i n h = grind (arith, common_steps)
 
-history-take : (h : List Request) (n : ℕ) → IsHistory h → IsHistory (take n h)
+pub history-take : (h : List Request) (n : ℕ) → IsHistory h → IsHistory (take n h)
 history-take h n history i j d lt within =
     let short : j < length h = omega (arith, length-take n h) in
     let low : j < n = omega (arith, length-take n h) in

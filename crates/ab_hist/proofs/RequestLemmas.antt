@@ -1,5 +1,5 @@
 -- Requests that are equal, and their places.
-use Rattle.std.proofs.Common.{◌≡◌, ℕ, zero, suc, ◌+◌, ◌-◌, ◌<◌, List, [], ◌∷◌, ◌++◌, length, drop, take-append-drop, map, get_or, Contains, Bool, true, false, ◌||◌, Some, None, ap, sym, ◌∙◌, arith, refl, inl, inr, take, subst, true≢false, IsTrue, slice_get, if◌then◌else◌}
+use Rattle.std.proofs.Common.{◌≡◌, ℕ, zero, suc, ◌+◌, ◌-◌, ◌<◌, ◌≤◌, List, [], ◌∷◌, ◌++◌, length, drop, take-append-drop, map, get_or, Contains, Bool, true, false, ◌||◌, Some, None, ap, sym, ◌∙◌, arith, refl, inl, inr, take, subst, true≢false, IsTrue, slice_get, if◌then◌else◌}
 use Rattle.std.specs.Bool.{Decides}
 use Rattle.std.specs.List.{position, list_any, list_all}
 use Rattle.std.specs.Option.{option_map}
@@ -129,6 +129,24 @@ place_in-none (x ∷ xs) m absent =
     let other : request_eq x m ≡ false = false_from_ne_true (request_eq x m) (λ e. absent (0, omega arith, (request_eq-Decides x m).0 e)) in
     ap (λ b. if b then Some 1 else option_map suc (place_in xs m)) other
     ∙ ap (option_map suc) (place_in-none xs m (λ at. absent (contains_more x xs m at)))
+
+-- what stands in the front of a list stands in the list
+pub contains_front : (n : ℕ) (h : List Request) (m : Request) → Contains (take n h) m → Contains h m
+contains_front n h m (k, lt, e) =
+    let low : k < n = omega (arith, length-take n h) in
+    (k, omega (arith, length-take n h), sym (get_or-take n h k m low) ∙ e)
+
+-- a request that stands at place p of a history isn't among fewer of its entries
+pub not_in_front : (n : ℕ) (h : List Request) (m : Request) (p : ℕ) → IsHistory h → 1 ≤ p → slice_get h (p - 1) ≡ Some m → n < p → Contains (take n h) m → ⊥
+not_in_front n h m p history first there beyond (k, lt, e) =
+    let low : k < n = omega (arith, length-take n h) in
+    let short : k < length h = omega (arith, length-take n h) in
+    let within : p - 1 < length h = slice_get_within h (p - 1) m there in
+    let here : get_or h k m ≡ m = sym (get_or-take n h k m low) ∙ e in
+    let behind : get_or h (p - 1) m ≡ m = get_or_from_slice_get h (p - 1) m m there in
+    let same : get_or h k m ≡ get_or h (p - 1) m = here ∙ sym behind in
+    let one : k ≡ p - 1 = same_place h k (p - 1) m history short within (ap (λ x. x.client) same) (ap (λ x. x.stamp) same) in
+    omega arith
 
 tail_history : (x : Request) (xs : List Request) → IsHistory (x ∷ xs) → IsHistory xs
 tail_history x xs history i j d lt within = history (suc i) (suc j) d (omega arith) (omega arith)

@@ -4,3 +4,4 @@ pub mod Histories
 pub mod Digests
 pub mod Indexes
 pub mod Kept
+pub mod Shared

@@ -1,18 +1,18 @@
 //! Histories.
 
-ghost use Rattle.std.specs.Prelude.{◌≡◌, ◌+◌, ◌-◌, ◌<◌, ◌≤◌, ◌↔◌, [], ◌∷◌, ◌++◌, length, take, slice_get, map, IsTrue, Some, OnOk, OnErr, IsErrOf, IfOk, IfSome, IfNone, Contains, vec_len};
-ghost use Rattle.std.specs.Vec.{vec_capacity};
+ghost use Rattle.std.specs.Prelude.{◌≡◌, ◌-◌, ◌<◌, ◌≤◌, ◌↔◌, [], ◌∷◌, ◌++◌, length, take, slice_get, IsTrue, IsFalse, Some, OnOk, OnErr, IsErrOf, IfOk, IfSome, IfNone, Contains};
 ghost use mathlib.Core.List.{IsPrefix};
-ghost use Rattle.ab_hist.specs.Requests.{key_of};
 ghost use Rattle.ab_hist.specs.Digests.{digest_of};
-ghost use Rattle.ab_hist.specs.Histories.{IsHistory, IsNext, CanPush, place_in, can_push as test_push};
+ghost use Rattle.ab_hist.specs.Histories.{IsHistory, IsNext, CanPush, may_follow, place_in, can_push as test_push};
+ghost use Rattle.std.specs.Option.{option_map};
+ghost use Rattle.ab_hist.specs.Shared.{kept_entries, IsShared};
 
-use crate::digest::link;
-use crate::index::Index;
+use crate::entries::Entries;
 use crate::request::Request;
 use ab_num::OutOfMemory;
 use std::alloc::{AllocError, Global};
 use std::marker::Model;
+use std::rc::Rc;
 
 /// How many requests a history may hold.
 const CAPACITY: usize = 1024;
@@ -25,34 +25,30 @@ pub enum PushFault {
     OutOfMemory,
 }
 
-/// A list of requests in which the stamps of each client rise. A digest is kept for each place, and
-/// an index of the entries, so that no call but `copy`, `is_prefix_of` and `cut` walks the list.
+/// A list of requests in which the stamps of each client rise: the first of some entries. Copies share the entries, until
+/// one of them gets another. No call but `is_prefix_of` walks the list, and `push` where the entries are shared.
 pub struct History {
-    requests: Vec<Request>,
-    digests: Vec<[u8; 32]>,
-    index: Index,
+    kept: Option<Rc<Entries>>,
+    len: usize,
 }
 
 impl Drop for History {
     fn drop(self) {
-        let History {
-            requests: _,
-            digests: _,
-            index: _,
-        } = self;
+        let History { kept: _, len: _ } = self;
     }
 }
 
 impl Model for History {
-    ghost use Rattle.std.specs.Prelude.{List};
+    ghost use Rattle.std.specs.Prelude.{List, take};
     ghost use Rattle.ab_hist.specs.declared.request.Request.{Request as Entry};
-    ghost use Rattle.ab_hist.specs.Kept.{IsKept};
+    ghost use Rattle.std.specs.Option.{option_map};
+    ghost use Rattle.ab_hist.specs.Shared.{kept_entries, IsShared};
 
     ghost Value = { List Entry };
 
-    ghost view = { λ h. h.requests.items };
+    ghost view = { λ h. take h.len (kept_entries (option_map (λ rc. rc.value) h.kept)) };
 
-    ghost invariant = { λ h. IsKept h.requests.items h.digests.items h.index };
+    ghost invariant = { λ h. IsShared (kept_entries (option_map (λ rc. rc.value) h.kept)) h.len };
 }
 
 impl From<AllocError> for PushFault {
@@ -66,56 +62,73 @@ impl From<AllocError> for PushFault {
     }
 }
 
-/// Adds an entry where there is room for it.
-fn add(requests: &mut Vec<Request>, digests: &mut Vec<[u8; 32]>, m: Request, digest: [u8; 32])
-    requires room { (vec_len requests.old < vec_capacity requests.old)
-        × (vec_len digests.old < vec_capacity digests.old) }
-    ensures requests { requests.new.items ≡ requests.old.items ++ m ∷ [] }
-    ensures digests { digests.new.items ≡ digests.old.items ++ digest ∷ [] }
+/// Entries that copies can share.
+fn shared(alloc: Global, entries: Entries) -> Result<Rc<Entries>, AllocError>
+    ensures { IfOk result (λ kept. kept.value ≡ entries) }
 {
-    match digests.push(digest) {
-        Ok(()) => {}
-        Err(_) => unreachable!(),
-    }
-    match requests.push(m) {
-        Ok(()) => {}
-        Err(_) => unreachable!(),
+    Ok(Rc::new(alloc, entries)?)
+}
+
+/// The first `n` entries, which nothing shares.
+fn own(alloc: Global, kept: &Option<Rc<Entries>>, n: usize) -> Result<Entries, AllocError>
+    requires { n ≤ length (kept_entries (option_map (λ rc. rc.value) kept.now)) }
+    ensures { IfOk result (λ entries. entries ≡ take n (kept_entries (option_map (λ rc. rc.value) kept.now))) }
+{
+    let mut entries = match kept {
+        Some(kept) => kept.copy(alloc)?,
+        None => Entries::new(alloc),
+    };
+    entries.cut(n);
+    Ok(entries)
+}
+
+/// Keeps the first `n` entries and adds one, where nothing else shares them. It is answered whether that is so.
+fn push_own(kept: &mut Option<Rc<Entries>>, n: usize, m: &Request) -> Result<bool, AllocError>
+    requires within { n ≤ length (kept_entries (option_map (λ rc. rc.value) kept.old)) }
+    requires next { CanPush (take n (kept_entries (option_map (λ rc. rc.value) kept.old))) m.now }
+    ensures own { IfOk result (λ is_own. IsTrue is_own → kept_entries (option_map (λ rc. rc.value) kept.new) ≡ take n (kept_entries (option_map (λ rc. rc.value) kept.old)) ++ m.now ∷ []) }
+    ensures shared { IfOk result (λ is_own. IsFalse is_own → kept.new ≡ kept.old) }
+    ensures err { OnErr result (kept_entries (option_map (λ rc. rc.value) kept.new) ≡ take n (kept_entries (option_map (λ rc. rc.value) kept.old))) }
+{
+    let Some(kept) = kept else {
+        return Ok(false);
+    };
+    match Rc::get_mut(kept) {
+        Some(entries) => {
+            entries.cut(n);
+            entries.push(m.copy())?;
+            Ok(true)
+        }
+        None => Ok(false),
     }
 }
 
-/// The same requests.
-fn copy_requests(alloc: Global, requests: &[Request]) -> Result<Vec<Request>, AllocError>
-    ensures { IfOk result (λ v. v.items ≡ requests.now) }
+/// Keeps the first `n` entries and adds one, in a copy where anything else shares them.
+fn grow(
+    alloc: Global,
+    kept: &mut Option<Rc<Entries>>,
+    n: usize,
+    m: Request,
+) -> Result<(), AllocError>
+    requires shared { IsShared (kept_entries (option_map (λ rc. rc.value) kept.old)) n }
+    requires next { CanPush (take n (kept_entries (option_map (λ rc. rc.value) kept.old))) m }
+    ensures ok { OnOk result (kept_entries (option_map (λ rc. rc.value) kept.new) ≡ take n (kept_entries (option_map (λ rc. rc.value) kept.old)) ++ m ∷ []) }
+    ensures err { OnErr result (IsShared (kept_entries (option_map (λ rc. rc.value) kept.new)) n × (take n (kept_entries (option_map (λ rc. rc.value) kept.new)) ≡ take n (kept_entries (option_map (λ rc. rc.value) kept.old)))) }
 {
-    let mut made = Vec::with_capacity(alloc, requests.len())?;
-    for m in requests {
-        made.push(m.copy())?;
+    if !push_own(kept, n, &m)? {
+        let mut entries = own(alloc, kept, n)?;
+        entries.push(m)?;
+        *kept = Some(shared(alloc, entries)?);
     }
-    Ok(made)
-}
-
-/// The index of a history.
-fn index_of(alloc: Global, requests: &[Request]) -> Result<Index, AllocError>
-    requires { IsHistory requests.now }
-    ensures { IfOk result (λ index. index ≡ map key_of requests.now) }
-{
-    let mut index = Index::new(alloc);
-    for m in requests {
-        index.push(m)?;
-    }
-    Ok(index)
+    Ok(())
 }
 
 impl History {
     /// A history without entries.
-    pub fn new(alloc: Global) -> History
+    pub fn new(_alloc: Global) -> History
         ensures { result ≡ [] }
     {
-        History {
-            requests: Vec::new(alloc),
-            digests: Vec::new(alloc),
-            index: Index::new(alloc),
-        }
+        History { kept: None, len: 0 }
     }
 
     pub fn len(&self) -> usize
@@ -123,14 +136,17 @@ impl History {
         ensures few { result ≤ 1024 }
         ensures history { IsHistory self.now }
     {
-        self.requests.len()
+        self.len
     }
 
     /// The entries, in their order.
     pub fn entries(&self) -> &[Request]
         ensures { result.now ≡ self.now }
     {
-        self.requests.as_slice()
+        match &self.kept {
+            Some(kept) => &kept.requests()[..self.len],
+            None => &[],
+        }
     }
 
     /// The entry at place `n`.
@@ -138,7 +154,7 @@ impl History {
         requires { (1 ≤ n) × (n ≤ length self.now) }
         ensures { slice_get self.now (n - 1) ≡ Some result.now }
     {
-        &self.requests[n - 1]
+        &self.entries()[n - 1]
     }
 
     /// The digest of the first `n` entries.
@@ -147,7 +163,10 @@ impl History {
         requires { n ≤ length self.now }
         ensures { result ≡ digest_of (take n self.now) }
     {
-        if n == 0 { [0; 32] } else { self.digests[n - 1] }
+        match &self.kept {
+            Some(kept) => kept.digest_at(n),
+            None => [0; 32],
+        }
     }
 
     /// Whether `m` may come next.
@@ -161,15 +180,21 @@ impl History {
     fn may_push(&self, m: &Request) -> bool
         ensures { IsTrue result ↔ CanPush self.now m.now }
     {
-        self.requests.len() < CAPACITY && self.is_later(m)
+        self.len < CAPACITY && self.is_later(m)
     }
 
-    /// Whether the stamp of `m` is above the latest one of its client.
+    /// Whether the stamp of `m` is above the latest one of its client. Where entries were cut off that others share, the list is walked.
     fn is_later(&self, m: &Request) -> bool
         ensures { IsTrue result ↔ IsNext self.now m.now }
     {
-        match self.index.latest(m.client) {
-            Some(stamp) => stamp < m.stamp,
+        match &self.kept {
+            Some(kept) => {
+                if self.len == kept.len() {
+                    kept.is_later(m)
+                } else {
+                    self.entries().iter().all(|e| may_follow(m, e))
+                }
+            }
             None => true,
         }
     }
@@ -180,12 +205,11 @@ impl History {
         ensures found { IfSome result (λ n. (1 ≤ n) × (slice_get self.now (n - 1) ≡ Some m.now)) }
         ensures none { IfNone result (¬ Contains self.now m.now) }
     {
-        let place = self.index.index_of(m)?;
-        if self.requests[place] == *m {
-            Some(place + 1)
-        } else {
-            None
-        }
+        let Some(kept) = &self.kept else {
+            return None;
+        };
+        let place = kept.place_of(m)?;
+        if place <= self.len { Some(place) } else { None }
     }
 
     /// Whether `h` begins with these entries.
@@ -193,44 +217,41 @@ impl History {
         ensures front { IsTrue result ↔ (take (length self.now) h.now ≡ self.now) }
         ensures prefix { IsTrue result ↔ IsPrefix self.now h.now }
     {
-        match h.requests.get(..self.requests.len()) {
-            Some(front) => front == self.requests.as_slice(),
+        match h.entries().get(..self.len) {
+            Some(front) => front == self.entries(),
             None => false,
         }
     }
 
     /// Adds an entry.
-    pub fn push(&mut self, _alloc: Global, m: Request) -> Result<(), PushFault>
+    pub fn push(&mut self, alloc: Global, m: Request) -> Result<(), PushFault>
         ensures ok { OnOk result (CanPush self.old m × (self.new ≡ self.old ++ m ∷ [])) }
         ensures full { IsErrOf result PushFault.Full ↔ (1024 ≤ length self.old) }
         ensures repeat { IsErrOf result PushFault.Repeat ↔ ((length self.old < 1024) × (IsNext self.old m → ⊥)) }
         ensures err { OnErr result (self.new ≡ self.old) }
     {
-        if self.len() >= CAPACITY {
+        if self.len >= CAPACITY {
             return Err(PushFault::Full);
         }
-        if !self.can_push(&m) {
+        if !self.is_later(&m) {
             return Err(PushFault::Repeat);
         }
-        let digest = link(&self.digest_at(self.len()), &m);
-        self.requests.reserve(1)?;
-        self.digests.reserve(1)?;
-        self.index.push(&m)?;
-        add(&mut self.requests, &mut self.digests, m, digest);
+        grow(alloc, &mut self.kept, self.len, m)?;
+        self.len += 1;
         Ok(())
     }
 
     /// An equal history.
-    pub fn copy(&self, alloc: Global) -> Result<History, OutOfMemory>
+    pub fn copy(&self, _alloc: Global) -> Result<History, OutOfMemory>
         ensures { IfOk result (λ h. h ≡ self.now) }
     {
-        let requests = copy_requests(alloc, &self.requests)?;
-        let digests = Vec::from_slice(alloc, &self.digests)?;
-        let index = index_of(alloc, &self.requests)?;
+        let kept = match &self.kept {
+            Some(kept) => Some(kept.clone()?),
+            None => None,
+        };
         Ok(History {
-            requests,
-            digests,
-            index,
+            kept,
+            len: self.len,
         })
     }
 
@@ -239,8 +260,13 @@ impl History {
         requires { n ≤ length self.old }
         ensures { self.new ≡ take n self.old }
     {
-        self.requests.truncate(n);
-        self.digests.truncate(n);
-        self.index.cut(n);
+        self.len = n;
     }
+}
+
+/// Whether `m` may follow an entry.
+fn may_follow(m: &Request, e: &Request) -> bool
+    ensures { result ≡ may_follow m.now e.now }
+{
+    e.client != m.client || e.stamp < m.stamp
 }

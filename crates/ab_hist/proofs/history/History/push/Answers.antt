@@ -1,25 +1,14 @@
-use Rattle.std.proofs.Common.{◌≡◌, ap, sym, ◌∙◌, ◌<◌, length, take, map, arith, subst}
-use Rattle.std.specs.List.{list_any}
-use Rattle.std.proofs.lemmas.List.{take_all}
-use Rattle.ab_hist.specs.Requests.{key_of, is_key_of}
-use Rattle.ab_hist.specs.Digests.{link, digest_of}
-use Rattle.ab_hist.specs.Histories.{IsNext, CanPush}
-use Rattle.ab_hist.proofs.RequestLemmas.{fresh_key}
-use Rattle.ab_hist.proofs.KeptLemmas.{IsKept-push}
+use Rattle.std.proofs.Common.{◌<◌, ap, arith, length, subst, sym}
+use Rattle.std.proofs.lemmas.List.{length-take}
+use Rattle.std.specs.Option.{option_map}
+use Rattle.ab_hist.specs.Histories.{CanPush}
+use Rattle.ab_hist.specs.Shared.{kept_entries}
+use Rattle.ab_hist.proofs.SharedLemmas.{IsShared-push}
 use Rattle.ab_hist.proofs.history.History.push.Goals as goal
-
-pub push-requires : goal.push-requires
-push-requires c =
-    let can : CanPush c.args.self.now c.args.m = c.can_push.ensures.says.0 c.if-not-can_push.false in
-    ap (list_any (is_key_of c.args.m)) (c.self.invariant.in_order ∙ ap (map key_of) c.self.view_is) ∙ fresh_key c.args.self.now c.args.m can.1
 
 pub invariant_of-self-2 : goal.invariant_of-self-2
 invariant_of-self-2 c =
-    let can : CanPush c.args.self.now c.args.m = c.can_push.ensures.says.0 c.if-not-can_push.false in
-    let chained : c.link-digest.result ≡ link c.digest_at.result c.args.m = c.link-digest.ensures in
-    let whole : take c.len-2.result c.args.self.now ≡ c.args.self.now = take_all c.len-2.result c.args.self.now (omega (arith, c.len-2.ensures.len)) in
-    let digest : c.link-digest.result ≡ link (digest_of c.self.inside.requests.items) c.args.m = chained ∙ ap (λ d. link d c.args.m) (c.digest_at.ensures ∙ ap digest_of (whole ∙ sym c.self.view_is)) in
-    let next : IsNext c.self.inside.requests.items c.args.m = subst (λ h. IsNext h c.args.m) (sym c.self.view_is) can.1 in
-    let room : length c.self.inside.requests.items < 1024 = subst (λ h. length h < 1024) (sym c.self.view_is) can.0 in
-    rw (c.add.ensures.requests, c.add.ensures.digests, c.in_ok-push.ensures.ok, c.in_ok-reserve.ensures.items, c.in_ok-reserve-2.ensures.items, digest)
-    (IsKept-push _ _ _ c.args.m c.self.invariant room next)
+    let room : length c.args.self.now < 1024 =
+    omega (arith, ap length c.self.view_is, length-take c.self.inside.len (kept_entries (option_map (λ rc. rc.value) c.self.inside.kept)), c.if-self-ge-CAPACITY.false) in
+    let can : CanPush c.args.self.now c.args.m = (room, c.is_later.ensures.0 c.if-not-is_later.false) in
+    rw c.in_ok-grow.ensures.ok (IsShared-push _ c.self.inside.len c.self.invariant c.args.m (subst (λ h. CanPush h c.args.m) (sym c.self.view_is) can))

@@ -3,7 +3,7 @@ use Rattle.ab_hist.specs.Requests.{key_of}
 use Rattle.ab_hist.specs.Histories.{IsHistory}
 use Rattle.ab_hist.specs.Indexes.{latest_of}
 use Rattle.ab_hist.proofs.IndexLemmas.{later_Some, later_None}
-use Rattle.ab_hist.proofs.history.History.is_later.Goals as goal
+use Rattle.ab_hist.proofs.entries.Entries.is_later.Goals as goal
 
 pub returns-in-Some : goal.returns-in-Some
 returns-in-Some c =
