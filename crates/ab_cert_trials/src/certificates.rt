@@ -76,7 +76,7 @@ fn abort(alloc: Global, r: u8, i: u32, clients: &[u16]) -> Result<Signed, OutOfM
             instance: i,
             history: history(alloc, clients)?,
         },
-        sig: Sig::of(Vec::new(alloc)),
+        sig: Sig::of(alloc, Vec::new(alloc))?,
     })
 }
 

@@ -8,7 +8,7 @@ ghost use Rattle.ab_hist.specs.Histories.{IsHistory, IsNext, CanPush, place_in};
 
 use crate::digest::link;
 use crate::index::Index;
-use crate::request::Request;
+use crate::request::{Request, copy_requests};
 use std::alloc::{AllocError, Global};
 use std::marker::Model;
 
@@ -57,17 +57,6 @@ fn add(requests: &mut Vec<Request>, digests: &mut Vec<[u8; 32]>, m: Request, dig
         Ok(()) => {}
         Err(_) => unreachable!(),
     }
-}
-
-/// The same requests.
-fn copy_requests(alloc: Global, requests: &[Request]) -> Result<Vec<Request>, AllocError>
-    ensures { IfOk result (λ v. v.items ≡ requests.now) }
-{
-    let mut made = Vec::with_capacity(alloc, requests.len())?;
-    for m in requests {
-        made.push(m.copy())?;
-    }
-    Ok(made)
 }
 
 /// The index of a history.

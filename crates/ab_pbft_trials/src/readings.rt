@@ -21,15 +21,15 @@ fn request(client: u16) -> Request {
     }
 }
 
-fn signed(alloc: Global, maker: u8, content: Content) -> Signed {
-    Signed {
+fn signed(alloc: Global, maker: u8, content: Content) -> Result<Signed, OutOfMemory> {
+    Ok(Signed {
         maker,
         content,
-        sig: Sig::of(Vec::new(alloc)),
-    }
+        sig: Sig::of(alloc, Vec::new(alloc))?,
+    })
 }
 
-fn prepare(alloc: Global, maker: Party, instance: u32) -> Msg {
+fn prepare(rt: &impl Abort, alloc: Global, maker: Party, instance: u32) -> Msg {
     let content = Content::Prepare {
         maker,
         instance,
@@ -38,7 +38,7 @@ fn prepare(alloc: Global, maker: Party, instance: u32) -> Msg {
         x: [7; 32],
     };
     Msg::Prepare {
-        prepare: signed(alloc, 0, content),
+        prepare: signed(alloc, 0, content).expect(rt, "memory"),
     }
 }
 
@@ -80,7 +80,7 @@ fn cert(alloc: Global, names: [u8; 3]) -> Result<Offer, OutOfMemory> {
             instance: 1,
             history,
         };
-        aborts.push(signed(alloc, names[usize::from(r)], content))?;
+        aborts.push(signed(alloc, names[usize::from(r)], content)?)?;
     }
     Ok(Offer::Base(AbortCert::of(aborts)))
 }
@@ -109,7 +109,7 @@ fn prepares(alloc: Global, by: u8, lists: usize) -> Result<Prepares, OutOfMemory
     let mut prepares = Vec::new(alloc);
     for _ in 0..lists {
         let mut signers = Vec::new(alloc);
-        signers.push((by, Sig::of(Vec::new(alloc))))?;
+        signers.push((by, Sig::of(alloc, Vec::new(alloc))?))?;
         prepares.push(SlotPrepares::of(signers))?;
     }
     Ok(Prepares::of(prepares))
@@ -142,7 +142,7 @@ fn view_change(alloc: Global, value: Value, by: u8, lists: usize) -> Result<Proo
         entries,
     };
     Ok(Proof {
-        change: signed(alloc, 2, content),
+        change: signed(alloc, 2, content)?,
         values,
         prepares,
     })
@@ -175,7 +175,7 @@ fn is_other(rt: &impl Abort, alloc: Global, c: &Cluster, i: u32, m: Msg) -> bool
 fn what_is_of_others_tells_nothing(rt: HostRuntime) {
     let alloc = rt.alloc();
     let c = Cluster::new(1, 1, Plan::Backup).expect(&rt, "a cluster");
-    let ours = told(&rt, alloc, &c, 1, prepare(alloc, Party::Replica(3), 1));
+    let ours = told(&rt, alloc, &c, 1, prepare(&rt, alloc, Party::Replica(3), 1));
     let is_ours = matches!(
         &ours,
         Input::Prepare {
@@ -187,9 +187,9 @@ fn what_is_of_others_tells_nothing(rt: HostRuntime) {
     );
     drop(ours);
     assert!(rt; is_ours);
-    assert!(rt; is_other(&rt, alloc, &c, 1, prepare(alloc, Party::Replica(3), 2)));
-    assert!(rt; is_other(&rt, alloc, &c, 1, prepare(alloc, Party::Replica(4), 1)));
-    assert!(rt; is_other(&rt, alloc, &c, 1, prepare(alloc, Party::Client(3), 1)));
+    assert!(rt; is_other(&rt, alloc, &c, 1, prepare(&rt, alloc, Party::Replica(3), 2)));
+    assert!(rt; is_other(&rt, alloc, &c, 1, prepare(&rt, alloc, Party::Replica(4), 1)));
+    assert!(rt; is_other(&rt, alloc, &c, 1, prepare(&rt, alloc, Party::Client(3), 1)));
 }
 
 #[test]

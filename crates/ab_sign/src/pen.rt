@@ -55,7 +55,7 @@ impl<'a> Pen<'a> {
     {
         let text = content_bytes(alloc, c)?;
         let sig = self.signers.sign_at(alloc, self.replica, self.used, &text)?;
-        Ok(Sig::of(sig))
+        Sig::of(alloc, sig)
     }
 }
 

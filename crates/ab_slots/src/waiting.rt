@@ -1,6 +1,6 @@
 //! The requests that wait, the last one of each client, by ascending client.
 
-ghost use Rattle.std.specs.Prelude.{◌≡◌, ◌<◌, ◌≤◌, IsTrue, IfOk, OnOk, length, nat_lt, slice_get};
+ghost use Rattle.std.specs.Prelude.{◌≡◌, ◌<◌, ◌≤◌, IsTrue, OnOk, length, nat_lt, slice_get};
 ghost use Rattle.std.specs.List.{take_while};
 ghost use Rattle.ab_order.specs.Backups.{keep as keep_last};
 ghost use Rattle.ab_pbft.specs.Rules.{first_fit as first_that_fits};
@@ -70,15 +70,4 @@ pub fn lacks_some(list: &History, kept: &[Request]) -> bool
     ensures { result ≡ lacks_some list.now kept.now }
 {
     kept.iter().any(|m| list.place_of(m).is_none())
-}
-
-/// The same requests.
-pub fn copy_requests(alloc: Global, kept: &[Request]) -> Result<Vec<Request>, OutOfMemory>
-    ensures { IfOk result (λ v. v.items ≡ kept.now) }
-{
-    let mut copies = Vec::with_capacity(alloc, kept.len())?;
-    'kept: for m in kept {
-        copies.push(m.copy())?;
-    }
-    Ok(copies)
 }

@@ -44,9 +44,10 @@ impl Notary for Blank {
         if self.left == 0 {
             return Err(SignFault::Spent);
         }
+        let sig = Sig::of(alloc, Vec::new(alloc))?;
         self.left -= 1;
         self.used += 1;
-        Ok(Sig::of(Vec::new(alloc)))
+        Ok(sig)
     }
 }
 

@@ -11,13 +11,13 @@ ghost use Rattle.ab_lock.specs.Votes.{next_sign, next_prepare, next_execute};
 ghost use Rattle.ab_turn.specs.Turns.{memory_of, without_votes_below};
 ghost use Rattle.ab_slots.specs.Waits.{waits};
 
-use ab_hist::Request;
+use ab_hist::{Request, copy_requests};
 use ab_msg::copy_each;
 use ab_num::OutOfMemory;
 use ab_slots::certs::copy_certs;
 use ab_slots::kept::Kept;
 use ab_slots::vote::{Vote, is_enough};
-use ab_slots::waiting::{copy_requests, lacks_some};
+use ab_slots::waiting::lacks_some;
 use ab_slots::{Cert, Slots, slot_digest};
 use std::alloc::Global;
 

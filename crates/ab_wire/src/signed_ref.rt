@@ -114,10 +114,11 @@ impl<'a> SignedRef<'a> {
     {
         let content = self.content.own(alloc)?;
         let sig = Vec::from_slice(alloc, self.sig)?;
+        let sig = Sig::of(alloc, sig)?;
         Ok(Signed {
             maker: self.maker,
             content,
-            sig: Sig::of(sig),
+            sig,
         })
     }
 }
