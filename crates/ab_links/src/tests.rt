@@ -104,10 +104,10 @@ fn digests_made_up_collide(rt: HostRuntime) {
 /// Whether nothing is found as a history is added, and then with one request more.
 fn bases_grow(alloc: Global, digests: &mut Digests) -> Option<bool> {
     let mut whole = history(alloc, b"put a 2")?;
-    let first = digests.add_history(&whole, 0) == Ok(false);
+    let first = digests.add_history(alloc, &whole, 0) == Ok(false);
     let pushed = whole.push(alloc, request(2, 7, b"del a")).is_ok();
-    let longer = digests.add_history(&whole, 3) == Ok(false);
-    let again = digests.add_history(&whole, 4) == Ok(false);
+    let longer = digests.add_history(alloc, &whole, 3) == Ok(false);
+    let again = digests.add_history(alloc, &whole, 4) == Ok(false);
     drop(whole);
     Some(first && pushed && longer && again)
 }
