@@ -6,7 +6,7 @@ use Rattle.std.proofs.lemmas.List.{length-set, length-map, length-replicate}
 use Rattle.ab_num.specs.declared.party.Party.TheVariants.{Replica}
 use Rattle.ab_hist.specs.declared.request.Request.{Request}
 use Rattle.ab_mac.proofs.Sha256Lemmas.{length-sha256}
-use Rattle.ab_hist.specs.Digests.{request_digest}
+use Rattle.ab_hist.specs.Digests.{digest_of_base, request_digest}
 use Rattle.ab_msg.specs.declared.content.Content.TheVariants.{ViewChange}
 use Rattle.ab_msg.specs.declared.value.Value.{Value}
 use Rattle.ab_msg.specs.declared.value.Value.TheVariants.{Base, Request as Order}
@@ -30,7 +30,7 @@ use Rattle.ab_drafts.proofs.Lists.{nth_set}
 -- ---- digests of slots
 
 length-base_digest : (h : List Request) → length (base_digest h) ≡ 32
-unfolding base_digest
+unfolding base_digest digest_of_base
 length-base_digest h = length-sha256 _
 
 length-request_digest : (m : Request) → length (request_digest m) ≡ 32

@@ -4,8 +4,7 @@ ghost use Rattle.std.specs.Prelude.{◌≡◌, ◌-◌, ◌<◌, ◌≤◌, ◌�
 ghost use mathlib.Core.List.{IsPrefix};
 ghost use Rattle.ab_hist.specs.Digests.{digest_of};
 ghost use Rattle.ab_hist.specs.Histories.{IsHistory, IsNext, CanPush, may_follow, place_in, can_push as test_push};
-ghost use Rattle.std.specs.Option.{option_map};
-ghost use Rattle.ab_hist.specs.Shared.{kept_entries, IsShared};
+ghost use Rattle.ab_hist.specs.Shared.{kept_in, IsShared};
 
 use crate::entries::Entries;
 use crate::request::Request;
@@ -41,14 +40,13 @@ impl Drop for History {
 impl Model for History {
     ghost use Rattle.std.specs.Prelude.{List, take};
     ghost use Rattle.ab_hist.specs.declared.request.Request.{Request as Entry};
-    ghost use Rattle.std.specs.Option.{option_map};
-    ghost use Rattle.ab_hist.specs.Shared.{kept_entries, IsShared};
+    ghost use Rattle.ab_hist.specs.Shared.{kept_in, IsShared};
 
     ghost Value = { List Entry };
 
-    ghost view = { λ h. take h.len (kept_entries (option_map (λ rc. rc.value) h.kept)) };
+    ghost view = { λ h. take h.len (kept_in h.kept) };
 
-    ghost invariant = { λ h. IsShared (kept_entries (option_map (λ rc. rc.value) h.kept)) h.len };
+    ghost invariant = { λ h. IsShared (kept_in h.kept) h.len };
 }
 
 impl From<AllocError> for PushFault {
@@ -71,8 +69,8 @@ fn shared(alloc: Global, entries: Entries) -> Result<Rc<Entries>, AllocError>
 
 /// The first `n` entries, which nothing shares.
 fn own(alloc: Global, kept: &Option<Rc<Entries>>, n: usize) -> Result<Entries, AllocError>
-    requires { n ≤ length (kept_entries (option_map (λ rc. rc.value) kept.now)) }
-    ensures { IfOk result (λ entries. entries ≡ take n (kept_entries (option_map (λ rc. rc.value) kept.now))) }
+    requires { n ≤ length (kept_in kept.now) }
+    ensures { IfOk result (λ entries. entries ≡ take n (kept_in kept.now)) }
 {
     let mut entries = match kept {
         Some(kept) => kept.copy(alloc)?,
@@ -84,11 +82,11 @@ fn own(alloc: Global, kept: &Option<Rc<Entries>>, n: usize) -> Result<Entries, A
 
 /// Keeps the first `n` entries and adds one, where nothing else shares them. It is answered whether that is so.
 fn push_own(kept: &mut Option<Rc<Entries>>, n: usize, m: &Request) -> Result<bool, AllocError>
-    requires within { n ≤ length (kept_entries (option_map (λ rc. rc.value) kept.old)) }
-    requires next { CanPush (take n (kept_entries (option_map (λ rc. rc.value) kept.old))) m.now }
-    ensures own { IfOk result (λ is_own. IsTrue is_own → kept_entries (option_map (λ rc. rc.value) kept.new) ≡ take n (kept_entries (option_map (λ rc. rc.value) kept.old)) ++ m.now ∷ []) }
+    requires within { n ≤ length (kept_in kept.old) }
+    requires next { CanPush (take n (kept_in kept.old)) m.now }
+    ensures own { IfOk result (λ is_own. IsTrue is_own → kept_in kept.new ≡ take n (kept_in kept.old) ++ m.now ∷ []) }
     ensures shared { IfOk result (λ is_own. IsFalse is_own → kept.new ≡ kept.old) }
-    ensures err { OnErr result (kept_entries (option_map (λ rc. rc.value) kept.new) ≡ take n (kept_entries (option_map (λ rc. rc.value) kept.old))) }
+    ensures err { OnErr result (kept_in kept.new ≡ take n (kept_in kept.old)) }
 {
     let Some(kept) = kept else {
         return Ok(false);
@@ -110,10 +108,10 @@ fn grow(
     n: usize,
     m: Request,
 ) -> Result<(), AllocError>
-    requires shared { IsShared (kept_entries (option_map (λ rc. rc.value) kept.old)) n }
-    requires next { CanPush (take n (kept_entries (option_map (λ rc. rc.value) kept.old))) m }
-    ensures ok { OnOk result (kept_entries (option_map (λ rc. rc.value) kept.new) ≡ take n (kept_entries (option_map (λ rc. rc.value) kept.old)) ++ m ∷ []) }
-    ensures err { OnErr result (IsShared (kept_entries (option_map (λ rc. rc.value) kept.new)) n × (take n (kept_entries (option_map (λ rc. rc.value) kept.new)) ≡ take n (kept_entries (option_map (λ rc. rc.value) kept.old)))) }
+    requires shared { IsShared (kept_in kept.old) n }
+    requires next { CanPush (take n (kept_in kept.old)) m }
+    ensures ok { OnOk result (kept_in kept.new ≡ take n (kept_in kept.old) ++ m ∷ []) }
+    ensures err { OnErr result (IsShared (kept_in kept.new) n × (take n (kept_in kept.new) ≡ take n (kept_in kept.old))) }
 {
     if !push_own(kept, n, &m)? {
         let mut entries = own(alloc, kept, n)?;

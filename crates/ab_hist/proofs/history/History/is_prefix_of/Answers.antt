@@ -4,9 +4,8 @@ use Rattle.std.proofs.lemmas.List.{length-take}
 use Rattle.std.specs.Cmp.Lexicographic.{pointwise}
 use Rattle.std.specs.List.{slice_range}
 use Rattle.ab_hist.specs.declared.request.Request.{Request}
-use Rattle.std.specs.Option.{option_map}
 use Rattle.ab_hist.specs.Requests.{request_eq}
-use Rattle.ab_hist.specs.Shared.{kept_entries}
+use Rattle.ab_hist.specs.Shared.{kept_in}
 use Rattle.ab_hist.proofs.RequestLemmas.{prefix_says, prefix_from_front, front_from_prefix}
 use Rattle.ab_hist.proofs.history.History.is_prefix_of.Goals as goal
 
@@ -17,7 +16,7 @@ front_is xs n = grind (arith, common_steps)
 pub returns-in-Some : goal.returns-in-Some
 returns-in-Some c =
     let len : c.self.inside.len ≡ length c.args.self.now =
-    omega (arith, ap length c.self.view_is, length-take c.self.inside.len (kept_entries (option_map (λ rc. rc.value) c.self.inside.kept)), c.self.invariant.within) in
+    omega (arith, ap length c.self.view_is, length-take c.self.inside.len (kept_in c.self.inside.kept), c.self.invariant.within) in
     let front : c.in-Some.front.now ≡ take (length c.args.self.now) c.args.h.now =
     c.in-Some.ensures.lookup.0.2 ∙ front_is c.entries.result.now c.self.inside.len
     ∙ (λ j. take (len j) (c.entries.ensures j)) in
