@@ -1,7 +1,6 @@
 -- The entries that a history shares, when it changes.
 use Rattle.std.proofs.Common.{◌≡◌, ℕ, ◌+◌, ◌-◌, ◌<◌, ◌≤◌, Contains, Some, None, slice_get, subst, List, [], ◌∷◌, ◌++◌, length, take, arith, ◌∙◌, sym, ap, length-append}
-use Rattle.std.specs.Prelude.{Result, Ok, Err, OnErr}
-use Rattle.std.proofs.lemmas.List.{length-take, take_all}
+use Rattle.std.proofs.lemmas.List.{length-take}
 use Rattle.std.proofs.lemmas.List.Quantifiers.{all_pairs_push}
 use Rattle.ab_hist.specs.declared.request.Request.{Request}
 use Rattle.ab_hist.specs.Histories.{IsHistory, Precedes, CanPush, place_in}
@@ -9,23 +8,9 @@ use Rattle.ab_hist.specs.Shared.{IsShared}
 use Rattle.ab_hist.proofs.KeptLemmas.{history-take, slice_get-take}
 use Rattle.ab_hist.proofs.RequestLemmas.{contains_front, not_in_front, place_in-none, place_in-at}
 
-pub at_err : {A E : Type 0} {P : Type 0} (r : Result A E) → P → OnErr r P
-at_err (Ok x) p = tt
-at_err (Err e) p = p
-
 module _ (entries : List Request) (n : ℕ) (is : IsShared entries n) where
   len_front : length (take n entries) ≡ n
   len_front = omega (arith, length-take n entries, is.within)
-
-  pub IsShared-take : IsShared (take n entries) n
-  IsShared-take = record {
-    history = history-take entries n is.history;
-    few = omega (arith, len_front, is.few, is.within);
-    within = omega (arith, len_front);
-  }
-
-  pub take_front : take n (take n entries) ≡ take n entries
-  take_front = take_all n (take n entries) (omega (arith, len_front))
 
   module _ (m : Request) (can : CanPush (take n entries) m) where
     len_more : length (take n entries ++ m ∷ []) ≡ n + 1
@@ -37,9 +22,6 @@ module _ (entries : List Request) (n : ℕ) (is : IsShared entries n) where
       few = omega (arith, len_more, len_front, can.0);
       within = omega (arith, len_more);
     }
-
-    pub take_more : take (n + 1) (take n entries ++ m ∷ []) ≡ take n entries ++ m ∷ []
-    take_more = take_all (n + 1) (take n entries ++ m ∷ []) (omega (arith, len_more))
 
 -- where a request stands in the history h, which is the first n of the entries
 module _ (entries h : List Request) (n : ℕ) (view : take n entries ≡ h) (m : Request) where

@@ -80,27 +80,6 @@ fn own(alloc: Global, kept: &Option<Rc<Entries>>, n: usize) -> Result<Entries, A
     Ok(entries)
 }
 
-/// Keeps the first `n` entries and adds one, where nothing else shares them. It is answered whether that is so.
-fn push_own(kept: &mut Option<Rc<Entries>>, n: usize, m: &Request) -> Result<bool, AllocError>
-    requires within { n ≤ length (kept_in kept.old) }
-    requires next { CanPush (take n (kept_in kept.old)) m.now }
-    ensures own { IfOk result (λ is_own. IsTrue is_own → kept_in kept.new ≡ take n (kept_in kept.old) ++ m.now ∷ []) }
-    ensures shared { IfOk result (λ is_own. IsFalse is_own → kept.new ≡ kept.old) }
-    ensures err { OnErr result (kept_in kept.new ≡ take n (kept_in kept.old)) }
-{
-    let Some(kept) = kept else {
-        return Ok(false);
-    };
-    match Rc::get_mut(kept) {
-        Some(entries) => {
-            entries.cut(n);
-            entries.push(m.copy())?;
-            Ok(true)
-        }
-        None => Ok(false),
-    }
-}
-
 /// Keeps the first `n` entries and adds one, in a copy where anything else shares them.
 fn grow(
     alloc: Global,
@@ -113,11 +92,15 @@ fn grow(
     ensures ok { OnOk result (kept_in kept.new ≡ take n (kept_in kept.old) ++ m ∷ []) }
     ensures err { OnErr result (IsShared (kept_in kept.new) n × (take n (kept_in kept.new) ≡ take n (kept_in kept.old))) }
 {
-    if !push_own(kept, n, &m)? {
-        let mut entries = own(alloc, kept, n)?;
-        entries.push(m)?;
-        *kept = Some(shared(alloc, entries)?);
+    if let Some(shared) = kept {
+        if let Some(entries) = Rc::get_mut(shared) {
+            entries.cut(n);
+            return entries.push(m);
+        }
     }
+    let mut entries = own(alloc, kept, n)?;
+    entries.push(m)?;
+    *kept = Some(shared(alloc, entries)?);
     Ok(())
 }
 
