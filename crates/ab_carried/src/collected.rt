@@ -85,7 +85,8 @@ impl Carried {
         match given {
             ValuesRef::Nothing => Ok(()),
             ValuesRef::Slots { base, requests } => {
-                self.histories.push(base.own(alloc)?)?;
+                let base = base.own_like(alloc, self.histories.last())?;
+                self.histories.push(base)?;
                 self.add_requests(alloc, again(requests))
             }
         }

@@ -9,7 +9,7 @@ ghost use Rattle.ab_open.specs.Stating.{IsClaim, bytes_of, claimed};
 use crate::stated_bytes::StatedBytes;
 use ab_check::{LinkRef, prepare_text, request_text, said_text};
 use ab_content::{ContentRef, RequestRef};
-use ab_hist::array_of;
+use ab_hist::{History, array_of};
 use ab_msg::Content;
 use ab_num::{OutOfMemory, Party};
 use std::alloc::Global;
@@ -104,13 +104,17 @@ impl<'a> ClaimRef<'a> {
         }
     }
 
-    /// The same content, with parts of its own.
-    pub(crate) fn own(self, alloc: Global) -> Result<Content, OutOfMemory>
+    /// The same content, with parts of its own, and with a copy of that history where it states an equal one.
+    pub(crate) fn own_like(
+        self,
+        alloc: Global,
+        like: Option<&History>,
+    ) -> Result<Content, OutOfMemory>
         requires { IsClaim self }
         ensures { IfOk result (λ c. c ≡ claimed self.entry) }
     {
         match self {
-            ClaimRef::Received { content, .. } => content.own(alloc),
+            ClaimRef::Received { content, .. } => content.own_like(alloc, like),
             ClaimRef::Asked { instance, request } => Ok(Content::Req {
                 maker: Party::Client(request.client),
                 instance,

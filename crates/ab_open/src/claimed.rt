@@ -4,6 +4,7 @@ ghost use Rattle.std.specs.Prelude.{◌≡◌, IfOk, map};
 ghost use Rattle.ab_open.specs.Claimed.{by_maker};
 
 use crate::claim_refs::ClaimRefs;
+use ab_hist::History;
 use ab_msg::Content;
 use ab_num::{OutOfMemory, Party};
 use std::alloc::Global;
@@ -26,6 +27,14 @@ impl Model for Claims {
     ghost view = { λ c. c.claims.items };
 }
 
+/// The history of the last of these contents, if that is an ABORT.
+fn last_history(claims: &[(Party, Content)]) -> Option<&History> {
+    match &claims.last()?.1 {
+        Content::Abort { history, .. } => Some(history),
+        _ => None,
+    }
+}
+
 impl Claims {
     /// Each maker with its content, in the order of checking.
     pub fn as_slice(&self) -> &[(Party, Content)]
@@ -41,14 +50,14 @@ impl Claims {
         self.claims
     }
 
-    /// A copy of each of these.
+    /// A copy of each of these. An ABORT with the history of the content before it shares that.
     pub(crate) fn of(alloc: Global, given: ClaimRefs<'_>) -> Result<Claims, OutOfMemory>
         ensures { IfOk result (λ c. c ≡ map by_maker given.entry) }
     {
         let mut claims = Vec::new(alloc);
         'claims: for claim in given {
             let maker = claim.maker();
-            let content = claim.own(alloc)?;
+            let content = claim.own_like(alloc, last_history(claims.as_slice()))?;
             claims.push((maker, content))?;
         }
         Ok(Claims { claims })
