@@ -1,6 +1,6 @@
 //! Histories.
 
-ghost use Rattle.std.specs.Prelude.{◌≡◌, ◌-◌, ◌<◌, ◌≤◌, ◌↔◌, [], ◌∷◌, ◌++◌, length, take, slice_get, IsTrue, IsFalse, Some, OnOk, OnErr, IsErrOf, IfOk, IfSome, IfNone, Contains};
+ghost use Rattle.std.specs.Prelude.{◌≡◌, ◌-◌, ◌<◌, ◌≤◌, ◌↔◌, [], ◌∷◌, ◌++◌, length, take, slice_get, IsTrue, Some, OnOk, OnErr, IsErrOf, IfOk, IfSome, IfNone, Contains};
 ghost use mathlib.Core.List.{IsPrefix};
 ghost use Rattle.ab_hist.specs.Digests.{digest_of};
 ghost use Rattle.ab_hist.specs.Histories.{IsHistory, IsNext, CanPush, may_follow, place_in, can_push as test_push};
@@ -25,7 +25,8 @@ pub enum PushFault {
 }
 
 /// A list of requests in which the stamps of each client rise: the first of some entries. Copies share the entries, until
-/// one of them gets another. No call but `is_prefix_of` walks the list, and `push` where the entries are shared.
+/// one of them gets another. No call walks the list but `is_prefix_of`; `push`, where the entries are shared; and `can_push`,
+/// where some of them were cut off and none came since.
 pub struct History {
     kept: Option<Rc<Entries>>,
     len: usize,
