@@ -2,6 +2,7 @@
 
 ghost use Rattle.std.specs.Prelude.{◌≡◌, ◌+◌, ◌<◌, ◌≤◌, [], IfOk, IsErrOf};
 ghost use Rattle.ab_msg.specs.Pens.{moved};
+ghost use Rattle.ab_abs.specs.Signers.{SignsNothing};
 ghost use Rattle.ab_pbft.specs.Rules.{done_by};
 ghost use Rattle.ab_slots.specs.Inputs.{input_of};
 ghost use Rattle.ab_turn.specs.Turns.{memory_of, Shows};
@@ -121,6 +122,7 @@ impl Pbft {
         ensures ok { IfOk result (λ made. posts_all (author_of self.now) deeds.now (record { pen = N.pen n.old; shelf = shelf; sent = [] }) ≡ record { pen = N.pen n.new; shelf = made.0; sent = made.1 }) }
         ensures left { IfOk result (λ _. N.remains n.new + signings (author_of self.now) deeds.now ≡ N.remains n.old) }
         ensures spent { IsErrOf result StepFault.Spent → N.remains n.old < signings (author_of self.now) deeds.now }
+        ensures unused { IsErrOf result StepFault.Spent → SignsNothing (N.pen n.old) (N.remains n.old) (N.pen n.new) (N.remains n.new) }
     {
         let mut outs = Vec::new(alloc);
         shelf.post_all(alloc, &self.author(), deeds, n, &mut outs)?;
@@ -139,6 +141,7 @@ impl Pbft {
         ensures sends { IfOk result (λ made. made.1 ≡ (post_of (N.pen n.old) self.now shelf (input_of input)).sent) }
         ensures pen { IfOk result (λ _. (N.pen n.new ≡ moved (N.pen n.old) (signs_of self.now (input_of input))) × (N.remains n.new + signs_of self.now (input_of input) ≡ N.remains n.old)) }
         ensures spent { IsErrOf result StepFault.Spent → N.remains n.old < signs_of self.now (input_of input) }
+        ensures unused { IsErrOf result StepFault.Spent → SignsNothing (N.pen n.old) (N.remains n.old) (N.pen n.new) (N.remains n.new) }
     {
         let turn = self.turned(alloc, input)?;
         let left = self.left_after(&turn);

@@ -184,13 +184,6 @@ impl Setup {
         has(self.faulty.as_slice(), party)
     }
 
-    /// The height of the replicas' signature trees.
-    pub fn lms(&self) -> Height
-        ensures { result ≡ self.now.lms }
-    {
-        self.lms
-    }
-
     /// How many signatures each replica can make.
     pub(crate) fn signatures(&self) -> u64
         ensures { result ≡ signatures_of self.now }

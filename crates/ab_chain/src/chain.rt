@@ -14,7 +14,7 @@ ghost use Rattle.ab_chain.specs.Rules.{position_at, answer_of, agreed, goes, idl
 
 use crate::route::Route;
 use crate::trial::Trial;
-use ab_abs::{Book, Entry, Protocol, ReplyRule, StepFault, Vote};
+use ab_abs::{Book, Entry, Protocol, StepFault, Vote};
 use ab_content::ContentRef;
 use ab_form::ListRef;
 use ab_hist::{History, Request, array_of, copy_reply};
@@ -432,14 +432,6 @@ impl<S: Service> Protocol<S> for Chain<S> {
 
     fn first(&self) -> Option<&History> {
         None
-    }
-
-    fn need(c: &Cluster, _i: u32) -> u8 {
-        2 * c.f + 1
-    }
-
-    fn reply_rule(_c: &Cluster, _i: u32) -> ReplyRule {
-        ReplyRule::Tail
     }
 
     fn timer(&self) -> Option<u64> {

@@ -21,10 +21,10 @@ use Rattle.ab_abs.specs.declared.rule.ReplyRule.TheVariants as rules
 use Rattle.ab_abs.specs.declared.seen.Seen.{Seen}
 use Rattle.ab_abs.specs.declared.seen.Seen.TheVariants.{Committed}
 use Rattle.ab_abs.specs.Votes.{has_voted, voted, same_vote, all_voted, is_full_by}
-use Rattle.ab_abs.specs.Kinds.{rule_of}
+use Rattle.ab_abs.specs.Kinds.{rule_of, counts_responses}
 use Rattle.ab_run.specs.declared.phase.Phase.{Phase}
 use Rattle.ab_run.specs.declared.phase.Phase.TheVariants.{Idle, Waiting, Panicking}
-use Rattle.ab_run.specs.Clients.{Move, move_vote, move_commit, vote_claim, if_open, counting, counts_responses, hears_response}
+use Rattle.ab_run.specs.Clients.{Move, move_vote, move_commit, vote_claim, if_open, counting, hears_response}
 use Rattle.ab_run.specs.Local.{cue_message, marks_in_moves}
 use Rattle.ab_client.specs.Clients.{Seat, alone, is_waiting, moves_on, marks}
 use Rattle.ab_client.specs.Moved.{IsLastVote, IsMoved, is_answer}

@@ -10,6 +10,7 @@ ghost use Rattle.ab_wire.specs.Views.{aborts};
 ghost use Rattle.ab_run.specs.Replicas.{cert_instance};
 ghost use Rattle.ab_run.specs.Clients.{keep, own_cert, same_list};
 
+use ab_abs::needs_equal;
 use ab_extract::{CertFault, certificates_with_histories_are_sound, check, is_same};
 use ab_form::{ListRef, Part, own_list};
 use ab_hist::History;
@@ -161,13 +162,11 @@ pub(crate) fn own_cert(
     ensures { IfOk result (λ cert. cert ≡ own_cert kind v.now kept.now) }
 {
     let all = with_kept(alloc, v, kept)?;
-    match kind {
-        Kind::Quorum | Kind::ZLight | Kind::Chain => Ok(AbortCert::of(all)),
-        Kind::Backup => {
-            let some = alike(alloc, v, &all)?;
-            Ok(AbortCert::of(some))
-        }
+    if needs_equal(kind) {
+        let some = alike(alloc, v, &all)?;
+        return Ok(AbortCert::of(some));
     }
+    Ok(AbortCert::of(all))
 }
 
 /// Keeps an ABORT among those of other replicas.

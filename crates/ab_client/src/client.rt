@@ -14,9 +14,8 @@ ghost use Rattle.ab_client.specs.Moved.{IsLastVote, IsMoved, is_answer, open_req
 mod answers;
 mod switching;
 
-use crate::rules::reply_rule;
 use crate::sending::requests;
-use ab_abs::{Marks, Seen, Votes};
+use ab_abs::{Marks, Seen, Votes, reply_rule};
 use ab_hist::Request;
 use ab_msg::{AbortCert, Outs, Signed};
 use ab_num::{Cluster, OutOfMemory};
@@ -127,7 +126,7 @@ impl Client {
             phase: Phase::Idle,
             stamp: 0,
             last: None,
-            votes: Votes::new(reply_rule(cluster, 1), cluster.replicas()),
+            votes: Votes::new(reply_rule(cluster.kind(1), cluster.f), cluster.replicas()),
             kept: Vec::new(alloc),
         }
     }

@@ -4,7 +4,6 @@
 mod certs;
 mod client;
 mod laws;
-mod rules;
 mod sending;
 
 pub use client::{Client, InvokeFault};

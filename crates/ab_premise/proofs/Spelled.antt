@@ -1,7 +1,7 @@
 -- What correct parties make in a run has bytes.
 use Rattle.std.proofs.Common.{◌≡◌, ℕ, suc, ◌+◌, ◌<◌, ◌≤◌, true, false, Bool, Some, None, Option, List, [], ◌∷◌, ◌++◌, length, refl, sym, ap, subst, inl, inr, arith, append-nil}
 use Rattle.std.proofs.lemmas.Grind.{flat_map-append}
-use Rattle.std.specs.Prelude.{All, Contains, nat_le, nat_lt, ◌==◌, ◌&&◌, ◌^◌, if◌then◌else◌, flat_map, map}
+use Rattle.std.specs.Prelude.{All, Contains, nat_le, nat_lt, ◌==◌, ◌&&◌, not, ◌^◌, if◌then◌else◌, flat_map, map}
 use Rattle.arrayvec.specs.ArrayVec.{ArrayVec}
 use Rattle.std.proofs.lemmas.Bool.{cases_Bool, cases_eq, and_parts, ltb-true}
 use Rattle.std.specs.List.{list_any}
@@ -25,7 +25,7 @@ use Rattle.ab_msg.specs.Contents.{IsContent, spell_content}
 use Rattle.ab_msg.specs.Messages.{IsMessage}
 use Rattle.ab_abs.specs.declared.ballot.Ballot.{Ballot}
 use Rattle.ab_abs.specs.Faults.{is_faulty}
-use Rattle.ab_abs.specs.Kinds.{rule_in}
+use Rattle.ab_abs.specs.Kinds.{rule_in, counts_responses}
 use Rattle.ab_abs.specs.Votes.{has_voted, is_full_by}
 use Rattle.ab_abs.specs.Messages.{Call, took, timed, IsFormed}
 use Rattle.ab_abs.specs.Certificates.{history_of}
@@ -38,7 +38,7 @@ use Rattle.ab_abs.proofs.Lists.{flat_map_cases, Contains-filter_cases}
 use Rattle.ab_links.proofs.ListLemmas.{Contains-cons_cases}
 use Rattle.ab_run.specs.Setups.{Setup, replicas, within, last_instance}
 use Rattle.ab_run.specs.Replicas.{Rep, Turn, turn_enter, turn_call, turn_halt, turn_sign, turn_bring, turn_abort, after_turn, made_in_turn, state_at, pen_of, cert_instance, here, due, is_spent, turns}
-use Rattle.ab_run.specs.Clients.{Cli, Move, move_ask, move_vote, move_commit, move_keep, move_take, move_panic, move_again, asking, after_move, made_in_move, hears, hears_response, hears_tail, counting, keeping, taking, taking_with, own_cert, kind_at, panics, panics_in, if_open, moves, vote_claim, is_abort_of, is_chain}
+use Rattle.ab_run.specs.Clients.{Cli, Move, move_ask, move_vote, move_commit, move_keep, move_take, move_panic, move_again, asking, after_move, made_in_move, hears, hears_response, hears_tail, counting, keeping, taking, taking_with, own_cert, kind_at, panics, panics_in, if_open, moves, vote_claim, is_abort_of}
 use Rattle.ab_run.specs.declared.phase.Phase.{Phase}
 use Rattle.ab_run.specs.declared.phase.Phase.TheVariants.{Idle, Waiting, Panicking}
 use Rattle.ab_run.specs.Runs.{Event, invoke, to_replica, to_client, replica_time, client_time, Run, run, step, start}
@@ -205,7 +205,7 @@ module _ (k : Setup) (c n : ℕ) where
   hears_fine : (s : Cli) (waits : Bool) (q : Request) (m : Msg) → IsOwned c q → AllFine c n (hears k c s waits q m)
   hears_fine s waits q (msg.Resp t tag) owned = response_fine s waits q t
   hears_fine s waits q (msg.Chain i r x d reply tags) owned =
-      fine_if c n ((waits && is_chain (kind_at k s)) && ((i == s.at) && ((r.client == c) && (r.stamp == s.stamp)))) (hears_tail q x d reply (tail_claims k.cluster.f i r x d reply)) []
+      fine_if c n ((waits && not (counts_responses (kind_at k s))) && ((i == s.at) && ((r.client == c) && (r.stamp == s.stamp)))) (hears_tail q x d reply (tail_claims k.cluster.f i r x d reply)) []
       (tail_fine c n q x d reply (tail_claims k.cluster.f i r x d reply)) tt
   hears_fine s waits q (msg.Abort abort) owned = fine_if c n (is_abort_of s.at abort.content) (keeping k s q abort) [] (keeping_fine s q abort owned) tt
   hears_fine s waits q (msg.Init cert) owned = taking_fine s q (cert_instance cert) cert (history_of k.cluster (cert_instance cert) cert) owned

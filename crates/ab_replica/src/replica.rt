@@ -1,6 +1,6 @@
 //! A replica over all instances.
 
-ghost use Rattle.std.specs.Prelude.{◌≡◌, ℕ, ◌+◌, ◌*◌, ◌<◌, ◌≤◌, List, [], ◌∷◌, false, if◌then◌else◌, length, IfOk, OnErr, IsErrOf};
+ghost use Rattle.std.specs.Prelude.{◌≡◌, ℕ, ◌+◌, ◌*◌, ◌<◌, ◌≤◌, List, [], ◌∷◌, false, true, if◌then◌else◌, length, IfOk, OnErr, IsErrOf};
 ghost use Rattle.std.specs.Option.{option_map};
 ghost use Rattle.ab_hist.specs.declared.request.Request.{Request};
 ghost use Rattle.ab_msg.specs.declared.signed.Signed.{Signed as SignedContent};
@@ -9,6 +9,7 @@ ghost use Rattle.ab_wire.specs.Views.{IsReceived, message};
 ghost use Rattle.ab_abs.specs.Promises.{ServesAll};
 ghost use Rattle.ab_abs.specs.Ensembles.{entry_of};
 ghost use Rattle.ab_abs.specs.Messages.{took, timed, offered};
+ghost use Rattle.ab_abs.specs.Signers.{SignsNothing};
 ghost use Rattle.ab_run.specs.Setups.{Setup};
 ghost use Rattle.ab_run.specs.Runs.{first_rep};
 ghost use Rattle.ab_run.specs.Replicas.{aborting, halting, here, late, taken, turn_call};
@@ -166,7 +167,7 @@ impl<S: Service, P: Protocol<S>> Replica<S, P> {
     }
 
     /// Takes a message that was read from bytes. After an `Err` it is as before; `n` may then have made
-    /// signatures that nobody has seen, and so it may where the event is spent.
+    /// signatures that nobody has seen. A spent event leaves `n` as it was.
     pub fn on<'a, N: Notary>(
         &mut self,
         alloc: Global,
@@ -177,6 +178,7 @@ impl<S: Service, P: Protocol<S>> Replica<S, P> {
         requires pen { IsPenOf (N.pen n.old) (N.remains n.old) self.old }
         ensures hears { (k : Setup) → IsSetupOf k self.old (N.pen n.old) → IfOk result (λ e. Hears P.proto k self.old (took (message m.entry)) self.new e.outs e.marks.items e.spent) }
         ensures pen { IfOk result (λ e. e.spent ≡ false → IsPenAfter (N.pen n.old) (N.pen n.new) (N.remains n.new) self.new) }
+        ensures unused { IfOk result (λ e. e.spent ≡ true → SignsNothing (N.pen n.old) (N.remains n.old) (N.pen n.new) (N.remains n.new)) }
         ensures err { OnErr result (self.new ≡ self.old) }
     {
         let next = crossing_in(alloc, &self.cluster, self.instance, &m)?;
@@ -191,6 +193,7 @@ impl<S: Service, P: Protocol<S>> Replica<S, P> {
         requires { IsPenOf (N.pen n.old) (N.remains n.old) self.old }
         ensures hears { (k : Setup) → IsSetupOf k self.old (N.pen n.old) → IfOk result (λ e. Hears P.proto k self.old timed self.new e.outs e.marks.items e.spent) }
         ensures pen { IfOk result (λ e. e.spent ≡ false → IsPenAfter (N.pen n.old) (N.pen n.new) (N.remains n.new) self.new) }
+        ensures unused { IfOk result (λ e. e.spent ≡ true → SignsNothing (N.pen n.old) (N.remains n.old) (N.pen n.new) (N.remains n.new)) }
         ensures err { OnErr result (self.new ≡ self.old) }
     {
         let left = n.left();
@@ -237,6 +240,7 @@ impl<S: Service, P: Protocol<S>> Replica<S, P> {
         requires pen { IsPenOf (N.pen n.old) (N.remains n.old) self.old }
         ensures does { (j : ℕ) (cert : List SignedContent) (h : List Request) → next ≡ record { instance = j + 1; entry = entry_of h (Some cert) } → IfOk result (λ e. Does P.proto (N.pen n.old) self.old (entering (setup_of self.old (N.pen n.old)) P.proto self.old.me self.old.rep (message m.entry) j cert h) self.new e.outs e.marks.items e.spent) }
         ensures pen { IfOk result (λ e. e.spent ≡ false → IsPenAfter (N.pen n.old) (N.pen n.new) (N.remains n.new) self.new) }
+        ensures unused { IfOk result (λ e. e.spent ≡ true → SignsNothing (N.pen n.old) (N.remains n.old) (N.pen n.new) (N.remains n.new)) }
         ensures err { OnErr result (self.new ≡ self.old) }
     {
         let mut there = self.entered(alloc, next)?;
@@ -268,6 +272,7 @@ impl<S: Service, P: Protocol<S>> Replica<S, P> {
         requires pen { IsPenOf (N.pen n.old) (N.remains n.old) self.old }
         ensures does { IfOk result (λ e. Arrives P.proto (N.pen n.old) self.old (taken (setup_of self.old (N.pen n.old)) P.proto self.old.rep (message m.entry)) self.new e.outs e.marks.items e.spent) }
         ensures pen { IfOk result (λ e. e.spent ≡ false → IsPenAfter (N.pen n.old) (N.pen n.new) (N.remains n.new) self.new) }
+        ensures unused { IfOk result (λ e. e.spent ≡ true → SignsNothing (N.pen n.old) (N.remains n.old) (N.pen n.new) (N.remains n.new)) }
     {
         let (instance, me) = (self.instance, self.me);
         let base = self.entry.base.copy(alloc)?;
@@ -294,6 +299,7 @@ impl<S: Service, P: Protocol<S>> Replica<S, P> {
         ensures does { IfOk result (λ e. Does P.proto (N.pen n.old) self.old (taken (setup_of self.old (N.pen n.old)) P.proto self.old.rep (message m.entry)) self.new e.outs e.marks.items e.spent) }
         ensures few { IfOk result (λ e. length e.marks.items ≤ 2) }
         ensures pen { IfOk result (λ e. e.spent ≡ false → IsPenAfter (N.pen n.old) (N.pen n.new) (N.remains n.new) self.new) }
+        ensures unused { IfOk result (λ e. e.spent ≡ true → SignsNothing (N.pen n.old) (N.remains n.old) (N.pen n.new) (N.remains n.new)) }
         ensures err { OnErr result (self.new ≡ self.old) }
     {
         match m.instance() {
@@ -329,6 +335,7 @@ impl<S: Service, P: Protocol<S>> Replica<S, P> {
         ensures does { IfOk result (λ e. Does P.proto (N.pen n.old) self.old (here (setup_of self.old (N.pen n.old)) P.proto self.old.rep (message m.entry)) self.new e.outs e.marks.items e.spent) }
         ensures few { IfOk result (λ e. length e.marks.items ≤ 2) }
         ensures pen { IfOk result (λ e. e.spent ≡ false → IsPenAfter (N.pen n.old) (N.pen n.new) (N.remains n.new) self.new) }
+        ensures unused { IfOk result (λ e. e.spent ≡ true → SignsNothing (N.pen n.old) (N.remains n.old) (N.pen n.new) (N.remains n.new)) }
         ensures err { OnErr result (self.new ≡ self.old) }
     {
         match purpose_of(&m) {
@@ -353,6 +360,7 @@ impl<S: Service, P: Protocol<S>> Replica<S, P> {
         ensures does { IfOk result (λ e. Does P.proto (N.pen n.old) self.old (if (P.proto.state self.old.rep.value).stopped then aborting (setup_of self.old (N.pen n.old)) P.proto client self.old.rep else turn_call (took (message m.entry)) ∷ []) self.new e.outs e.marks.items e.spent) }
         ensures few { IfOk result (λ e. length e.marks.items ≤ 2) }
         ensures pen { IfOk result (λ e. e.spent ≡ false → IsPenAfter (N.pen n.old) (N.pen n.new) (N.remains n.new) self.new) }
+        ensures unused { IfOk result (λ e. e.spent ≡ true → SignsNothing (N.pen n.old) (N.remains n.old) (N.pen n.new) (N.remains n.new)) }
         ensures err { OnErr result (self.new ≡ self.old) }
     {
         if self.value.stopped() {
@@ -374,6 +382,7 @@ impl<S: Service, P: Protocol<S>> Replica<S, P> {
         ensures does { IfOk result (λ e. Does P.proto (N.pen n.old) self.old (halting (setup_of self.old (N.pen n.old)) P.proto client self.old.rep) self.new e.outs e.marks.items e.spent) }
         ensures few { IfOk result (λ e. length e.marks.items ≤ 2) }
         ensures pen { IfOk result (λ e. e.spent ≡ false → IsPenAfter (N.pen n.old) (N.pen n.new) (N.remains n.new) self.new) }
+        ensures unused { IfOk result (λ e. e.spent ≡ true → SignsNothing (N.pen n.old) (N.remains n.old) (N.pen n.new) (N.remains n.new)) }
         ensures err { OnErr result (self.new ≡ self.old) }
     {
         if self.value.stopped() {
@@ -403,6 +412,7 @@ impl<S: Service, P: Protocol<S>> Replica<S, P> {
         ensures does { IfOk result (λ e. Does P.proto (N.pen n.old) self.old (turn_call (took (message m.entry)) ∷ []) self.new e.outs e.marks.items e.spent) }
         ensures few { IfOk result (λ e. length e.marks.items ≤ 2) }
         ensures pen { IfOk result (λ e. e.spent ≡ false → IsPenAfter (N.pen n.old) (N.pen n.new) (N.remains n.new) self.new) }
+        ensures unused { IfOk result (λ e. e.spent ≡ true → SignsNothing (N.pen n.old) (N.remains n.old) (N.pen n.new) (N.remains n.new)) }
         ensures err { OnErr result (self.new ≡ self.old) }
     {
         let left = n.left();
@@ -431,6 +441,7 @@ impl<S: Service, P: Protocol<S>> Replica<S, P> {
         ensures does { IfOk result (λ e. Does P.proto (N.pen n.old) self.old (turn_call (took (message m.entry)) ∷ []) self.new e.outs e.marks.items e.spent) }
         ensures few { IfOk result (λ e. length e.marks.items ≤ 2) }
         ensures pen { IfOk result (λ e. e.spent ≡ false → IsPenAfter (N.pen n.old) (N.pen n.new) (N.remains n.new) self.new) }
+        ensures unused { IfOk result (λ e. e.spent ≡ true → SignsNothing (N.pen n.old) (N.remains n.old) (N.pen n.new) (N.remains n.new)) }
         ensures err { OnErr result (self.new ≡ self.old) }
     {
         let left = n.left();
@@ -463,6 +474,7 @@ impl<S: Service, P: Protocol<S>> Replica<S, P> {
     fn signed_abort<N: Notary>(&self, alloc: Global, n: &mut N) -> Result<Signed, SignFault>
         ensures ok { IfOk result (λ s. (s ≡ record { maker = self.now.me; content = Content.Abort (Party.Replica self.now.me) self.now.rep.at (P.proto.state self.now.rep.value).log; sig = (N.pen n.old).sig (Content.Abort (Party.Replica self.now.me) self.now.rep.at (P.proto.state self.now.rep.value).log) (N.pen n.old).used }) × (N.pen n.new ≡ moved (N.pen n.old) 1) × (N.remains n.new + 1 ≡ N.remains n.old)) }
         ensures spent { IsErrOf result SignFault.Spent → N.remains n.old ≡ 0 }
+        ensures unused { IsErrOf result SignFault.Spent → SignsNothing (N.pen n.old) (N.remains n.old) (N.pen n.new) (N.remains n.new) }
     {
         let content = Content::Abort {
             maker: Party::Replica(self.me),
@@ -488,6 +500,7 @@ impl<S: Service, P: Protocol<S>> Replica<S, P> {
         ensures does { IfOk result (λ e. Does P.proto (N.pen n.old) self.old (aborting (setup_of self.old (N.pen n.old)) P.proto client self.old.rep) self.new e.outs e.marks.items e.spent) }
         ensures few { IfOk result (λ e. length e.marks.items ≤ 2) }
         ensures pen { IfOk result (λ e. e.spent ≡ false → IsPenAfter (N.pen n.old) (N.pen n.new) (N.remains n.new) self.new) }
+        ensures unused { IfOk result (λ e. e.spent ≡ true → SignsNothing (N.pen n.old) (N.remains n.old) (N.pen n.new) (N.remains n.new)) }
         ensures err { OnErr result (self.new ≡ self.old) }
     {
         match &self.abort {

@@ -1,11 +1,13 @@
 -- What is posted deed by deed.
 use Rattle.std.proofs.Common.{◌≡◌, ℕ, ◌+◌, ◌<◌, ◌≤◌, List, [], ◌∷◌, ◌++◌, refl, sym, ap, ◌∙◌, arith, length, take, get_or}
+use Rattle.std.specs.Prelude.{cond, count_by}
 use Rattle.std.proofs.lemmas.Grind.{flat_map-append}
 use Rattle.std.proofs.lemmas.List.{append-nil, length-append, take_more}
 use Rattle.std.proofs.lemmas.List.Folds.{length-flat_map-take}
 use Rattle.ab_slots.specs.declared.deed.Deed.{Deed}
+use Rattle.ab_slots.specs.declared.deed.Deed.TheVariants.{Signs, Prepares, Changes, Enters, Offers, Leads}
 use Rattle.ab_shelf.specs.declared.author.Author.{Author}
-use Rattle.ab_shelf.specs.Posts.{Post, posts, posts_all, signed_by, signed_in_all, signings}
+use Rattle.ab_shelf.specs.Posts.{Post, is_signed, posts, posts_all, signed_by, signed_in_all, signings}
 
 module _ (by : Author) where
   posts_both : (xs ys : List Deed) (p : Post) → posts_all by (xs ++ ys) p ≡ posts_all by ys (posts_all by xs p)
@@ -17,6 +19,19 @@ module _ (by : Author) where
 
   signings_one : (d : Deed) → signings by (d ∷ []) ≡ length (signed_by by d)
   signings_one d = ap length (append-nil (signed_by by d))
+
+  signed_as : (d : Deed) → length (signed_by by d) ≡ cond (is_signed d) 1 0
+  signed_as (Signs view slot x) = refl
+  signed_as (Prepares view slot value) = refl
+  signed_as (Changes view entries) = refl
+  signed_as (Enters view) = refl
+  signed_as (Offers view slot value) = refl
+  signed_as (Leads view) = refl
+
+  -- so many of them are signed
+  pub signings_as : (deeds : List Deed) → signings by deeds ≡ count_by is_signed deeds
+  signings_as [] = refl
+  signings_as (d ∷ deeds) = length-append (signed_by by d) (signed_in_all by deeds) ∙ (λ j. signed_as d j + signings_as deeds j)
 
   module _ (deeds : List Deed) (i : ℕ) (d : Deed) (lt : i < length deeds) (there : d ≡ get_or deeds i d) where
     taken : take (i + 1) deeds ≡ take i deeds ++ d ∷ []

@@ -1,5 +1,5 @@
 -- What a replica sends for what it does, and what that leaves of its shelf and its signatures.
-use Rattle.std.specs.Prelude.{ℕ, zero, suc, ◌+◌, ◌*◌, ◌==◌, if◌then◌else◌, List, [], ◌∷◌, ◌++◌, length, flat_map, replicate, unwrap_or}
+use Rattle.std.specs.Prelude.{ℕ, zero, suc, ◌+◌, ◌*◌, ◌==◌, Bool, true, false, if◌then◌else◌, List, [], ◌∷◌, ◌++◌, length, flat_map, replicate, unwrap_or}
 use Rattle.ab_num.specs.declared.party.Party.TheVariants.{Replica}
 use Rattle.ab_msg.specs.declared.content.Content.{Content}
 use Rattle.ab_msg.specs.declared.content.Content.TheVariants.{PrePrepare, Prepare, Commit, ViewChange, NewView}
@@ -55,6 +55,12 @@ abbrev pub own_change_of : Author → Shelf → Pen → ℕ → List (ℕ × Lis
 own_change_of by s pen view entries =
     let content = ViewChange (Replica by.me) by.instance view entries in
     own_proof by.me content (certified_front s.certified) (pen.sig content pen.used)
+
+-- whether a deed is signed, whoever does it
+abbrev pub is_signed : Deed → Bool
+is_signed (Signs view slot x) = true
+is_signed (Changes view entries) = true
+is_signed _ = false
 
 -- ---- along what it does
 

@@ -3,8 +3,10 @@
 ghost use Rattle.std.specs.Prelude.{◌≡◌, ◌+◌, ◌*◌, ◌<◌, ◌↔◌, ◌++◌, IfOk, OnOk, IsErrOf, length};
 ghost use Rattle.ab_num.specs.declared.party.Party.TheVariants.{Replica};
 ghost use Rattle.ab_msg.specs.Pens.{moved};
+ghost use Rattle.ab_abs.specs.Signers.{SignsNothing};
+ghost use Rattle.ab_shelf.specs.declared.author.Author.{Author as Signer};
 ghost use Rattle.ab_shelf.specs.Shelves.{with_ballot, with_certified, left_for};
-ghost use Rattle.ab_shelf.specs.Posts.{posts, posts_all, posts_prepare, posts_change, own_change_of, signed_by, signings, to_others, commit_message, lead_message};
+ghost use Rattle.ab_shelf.specs.Posts.{posts, posts_all, posts_prepare, posts_change, own_change_of, is_signed, signed_by, signings, to_others, commit_message, lead_message};
 
 use crate::author::Author;
 use crate::changes::{own_proof, proofs_for};
@@ -95,6 +97,23 @@ fn lead_of(alloc: Global, by: &Author, shelf: &Shelf, view: u32) -> Result<Msg, 
         tag: NO_TAG,
         changes,
     })
+}
+
+/// Whether it is signed.
+fn is_signed(deed: &Deed) -> bool
+    ensures { result ≡ is_signed deed.now }
+{
+    match deed {
+        Deed::Signs { .. } | Deed::Changes { .. } => true,
+        _ => false,
+    }
+}
+
+/// How often these are signed, whoever does them.
+fn signings(deeds: &[Deed]) -> usize
+    ensures { (by : Signer) → result ≡ signings by deeds.now }
+{
+    deeds.iter().filter(|d| is_signed(d)).count()
 }
 
 /// A content with the next signature.
@@ -275,7 +294,7 @@ impl Shelf {
 
     /// Signs and adds what is sent for a deed, and keeps what is to be kept of it. Spent comes only of a deed
     /// that signs where `n` can't. After an `Err` the value may be anything.
-    pub fn post<N: Notary>(
+    fn post<N: Notary>(
         &mut self,
         alloc: Global,
         by: &Author,
@@ -307,7 +326,7 @@ impl Shelf {
     }
 
     /// The same for each of these deeds, one after another.
-    pub fn post_all<N: Notary>(
+    fn post_each<N: Notary>(
         &mut self,
         alloc: Global,
         by: &Author,
@@ -323,5 +342,25 @@ impl Shelf {
             self.post(alloc, by, deed, n, outs)?;
         }
         Ok(())
+    }
+
+    /// The same, if `n` can sign each of them. Else it is Spent, and nothing is signed.
+    pub fn post_all<N: Notary>(
+        &mut self,
+        alloc: Global,
+        by: &Author,
+        deeds: &[Deed],
+        n: &mut N,
+        outs: &mut Vec<Out>,
+    ) -> Result<(), StepFault>
+        ensures ok { OnOk result (posts_all by.now deeds.now (record { pen = N.pen n.old; shelf = self.old; sent = outs.old.items }) ≡ record { pen = N.pen n.new; shelf = self.new; sent = outs.new.items }) }
+        ensures left { OnOk result (N.remains n.new + signings by.now deeds.now ≡ N.remains n.old) }
+        ensures spent { IsErrOf result StepFault.Spent ↔ (N.remains n.old < signings by.now deeds.now) }
+        ensures unused { IsErrOf result StepFault.Spent → SignsNothing (N.pen n.old) (N.remains n.old) (N.pen n.new) (N.remains n.new) }
+    {
+        if n.left() < signings(deeds) as u64 {
+            return Err(StepFault::Spent);
+        }
+        self.post_each(alloc, by, deeds, n, outs)
     }
 }

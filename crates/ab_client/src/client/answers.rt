@@ -18,8 +18,7 @@ ghost use Rattle.ab_client.specs.Clients.{is_waiting, alone, moves_on};
 ghost use Rattle.ab_client.specs.Moved.{IsMoved};
 
 use super::Client;
-use crate::rules::{counts_responses, is_chain};
-use ab_abs::{Ballot, Marks, Seen};
+use ab_abs::{Ballot, Marks, Seen, counts_responses};
 use ab_content::{ContentRef, RequestRef};
 use ab_hist::{Reply, array_of, copy_reply};
 use ab_num::Party;
@@ -145,7 +144,7 @@ impl Client {
         ensures { (tags : List TagBetween) →
             IsMoved self.old (moves_on self.old (cue_message (msg.Chain instance (shown_request request.entry) n d.now (option_map reply_of reply.entry) tags))) self.new [] result.items }
     {
-        let counts = is_chain(self.cluster.kind(self.instance));
+        let counts = !counts_responses(self.cluster.kind(self.instance));
         if !self.awaits(counts, instance, request.client, request.stamp) {
             return Marks::new_in(alloc);
         }

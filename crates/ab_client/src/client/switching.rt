@@ -15,9 +15,8 @@ ghost use Rattle.ab_client.specs.Moved.{IsMoved};
 
 use super::{Client, nothing};
 use crate::certs::{history_of, is_kept, keep, own_cert, timely};
-use crate::rules::reply_rule;
 use crate::sending::{asking_again, entering, panicking};
-use ab_abs::{Marks, Seen, Votes};
+use ab_abs::{Marks, Seen, Votes, reply_rule};
 use ab_form::ListRef;
 use ab_hist::{History, Request};
 use ab_msg::{AbortCert, Outs, Signed};
@@ -37,7 +36,7 @@ impl Client {
         self.cert = Some(cert);
         self.phase = Phase::Waiting;
         self.votes = Votes::new(
-            reply_rule(&self.cluster, self.instance),
+            reply_rule(self.cluster.kind(self.instance), self.cluster.f),
             self.cluster.replicas(),
         );
         self.kept.clear();

@@ -1,7 +1,7 @@
 use Rattle.std.proofs.Common.{◌≡◌, true, sym, ap, ◌∙◌}
 use Rattle.std.specs.Prelude.{◌==◌, ◌&&◌}
 use Rattle.ab_num.specs.Places.{kind_of}
-use Rattle.ab_run.specs.Clients.{counts_responses}
+use Rattle.ab_abs.specs.Kinds.{counts_responses}
 use Rattle.ab_client.specs.Clients.{Seat, is_waiting}
 use Rattle.ab_client.proofs.AnswerLemmas.{response_counted}
 use Rattle.ab_client.proofs.client.Client.on_vote.Goals as goal

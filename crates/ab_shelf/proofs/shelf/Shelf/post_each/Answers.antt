@@ -1,7 +1,7 @@
 use Rattle.std.proofs.Common.{◌<◌, arith, length}
 use Rattle.std.proofs.lemmas.Result.{err_from_is_err_and}
 use Rattle.ab_shelf.proofs.PostLemmas.{one_more, signs_more, signs_most}
-use Rattle.ab_shelf.proofs.shelf.Shelf.post_all.Goals as goal
+use Rattle.ab_shelf.proofs.shelf.Shelf.post_each.Goals as goal
 
 pub returns-in_err-post-clause-spent : goal.returns-in_err-post-clause-spent
 returns-in_err-post-clause-spent g c =

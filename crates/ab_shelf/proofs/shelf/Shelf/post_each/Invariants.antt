@@ -1,6 +1,6 @@
 use Rattle.std.proofs.Common.{◌≡◌, ◌+◌, take}
 use Rattle.ab_shelf.specs.Posts.{posts_all, signings}
-use Rattle.ab_shelf.proofs.shelf.Shelf.post_all.Given as goal
+use Rattle.ab_shelf.proofs.shelf.Shelf.post_each.Given as goal
 
 abbrev pub invariant-deeds : goal.invariant-deeds
 invariant-deeds g l = record {
