@@ -8,7 +8,7 @@ ghost use Rattle.ab_msg.specs.Carried.{stated_history, stated_request, value_his
 ghost use Rattle.ab_msg.specs.Certs.{AreSlotValues};
 ghost use Rattle.ab_wire.specs.Views.{IsReceived, message, proofs, values};
 
-use ab_check::again;
+use ab_check::copy_of;
 use ab_content::RequestRef;
 use ab_form::{ListRef, own_list};
 use ab_hist::{History, Request};
@@ -87,7 +87,7 @@ impl Carried {
             ValuesRef::Slots { base, requests } => {
                 let base = base.own_like(alloc, self.histories.last())?;
                 self.histories.push(base)?;
-                self.add_requests(alloc, again(requests))
+                self.add_requests(alloc, copy_of(requests))
             }
         }
     }
@@ -115,7 +115,7 @@ impl Carried {
     {
         match m {
             MsgRef::ViewChange { change } => self.add_values(alloc, &change.values),
-            MsgRef::NewView { changes, .. } => self.add_changes(alloc, again(changes)),
+            MsgRef::NewView { changes, .. } => self.add_changes(alloc, copy_of(changes)),
             _ => Ok(()),
         }
     }

@@ -1,5 +1,4 @@
 -- Lemmas of this crate.
-pub mod CheckLemmas
-pub mod ClaimLemmas
-pub mod ChainLemmas
+pub mod ListLemmas
 pub mod MessageLemmas
+pub mod ClaimLemmas

@@ -1,24 +1,28 @@
-//! Tags and signatures of received messages, checked in their order over the bytes that were received.
+//! What a party checks of a message, as one list that takes no memory, and tags and signatures checked in
+//! its order over the bytes that were received.
 #![tactic(auto)]
 
 mod chain;
-mod chains;
-mod changes;
+mod check_ref;
 mod checker;
+mod checking;
+mod checks;
+mod claim_ref;
+mod copied;
 mod laws;
-mod messages;
-mod signed;
-mod slots;
-mod tags;
+mod listing;
+mod passed;
+mod prepared;
+mod stated_bytes;
 mod text;
 
-pub use chain::{LinkRef, again, check_before, said_text};
-pub use chains::{check_client, check_replica};
-pub use changes::{check_changes, check_proof};
+pub use chain::LinkRef;
+pub use check_ref::{CheckRef, TokenRef};
 pub use checker::Checker;
+pub use checking::check;
+pub use checks::Checks;
+pub use claim_ref::ClaimRef;
+pub use copied::copy_of;
 pub use laws::claims_are_checked;
-pub use messages::check;
-pub use signed::{check_aborts, check_signed};
-pub use slots::{check_slot, check_slots};
-pub use tags::{check_asked, check_offer, check_tag};
-pub use text::{Text, prepare_text, request_text};
+pub use listing::checks_in;
+pub use stated_bytes::StatedBytes;

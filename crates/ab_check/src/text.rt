@@ -27,7 +27,7 @@ pub(crate) fn add(text: &mut Text, bytes: &[u8])
 
 /// The 45 bytes of a PREPARE by a replica.
 #[tactic(auto, unfolding(ab_form::specs::Formats::u8_bytes, ab_form::specs::Formats::u16_bytes, ab_form::specs::Formats::u32_bytes))]
-pub fn prepare_text(replica: u8, instance: u32, view: u32, slot: u8, x: &[u8; 32]) -> Text
+pub(crate) fn prepare_text(replica: u8, instance: u32, view: u32, slot: u8, x: &[u8; 32]) -> Text
     ensures { result.items ≡ spell_content (PrepareContent (Replica replica) instance view slot x.now) }
 {
     let mut text = Text::new();
@@ -42,7 +42,7 @@ pub fn prepare_text(replica: u8, instance: u32, view: u32, slot: u8, x: &[u8; 32
 
 /// The at most 148 bytes by which a client states its request.
 #[tactic(auto, unfolding(ab_form::specs::Formats::u8_bytes, ab_form::specs::Formats::u16_bytes, ab_form::specs::Formats::u32_bytes, ab_form::specs::Formats::u64_bytes))]
-pub fn request_text(instance: u32, m: &RequestRef<'_>) -> Text
+pub(crate) fn request_text(instance: u32, m: &RequestRef<'_>) -> Text
     requires { length m.now.command.now ≤ 128 }
     ensures { result.items ≡ spell_content (asked instance (request m.now)) }
 {

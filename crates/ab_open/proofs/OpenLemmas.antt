@@ -1,11 +1,13 @@
 -- When a message opens.
-use Rattle.std.proofs.Common.{◌≡◌, ◌≢◌, ℕ, suc, Bool, true, false, cond, IsTrue, List, [], ◌∷◌, Option, Result, Ok, Err, refl, sym, ap, ◌∙◌, All}
+use Rattle.std.proofs.Common.{◌≡◌, ◌≢◌, ℕ, suc, ◌+◌, ◌*◌, Bool, true, false, cond, IsTrue, List, [], ◌∷◌, Option, Result, Ok, Err, refl, sym, ap, ◌∙◌, All}
 use Rattle.std.specs.List.{AllByRecursion, Contains}
-use Rattle.std.proofs.lemmas.Bool.{false≢true}
+use Rattle.std.proofs.lemmas.Bool.{false≢true, ltb-true}
 use Rattle.std.proofs.lemmas.List.Elements.{All-from_recursion, All-contains}
 use Rattle.ab_num.specs.declared.party.Party.{Party}
+use Rattle.ab_num.specs.declared.party.Party.TheVariants.{Replica, Client}
 use Rattle.ab_num.specs.Parties.{party_eq}
 use Rattle.ab_num.proofs.PartyLemmas.{party_eq-refl}
+use Rattle.ab_keys.specs.Keys.{is_party}
 use Rattle.ab_form.specs.declared.bad.Bad.{Bad}
 use Rattle.ab_form.specs.Formats.{IsBytes}
 use Rattle.ab_msg.specs.declared.message.Msg.{Msg}
@@ -16,9 +18,15 @@ use Rattle.ab_msg.specs.Contents.{spell_content}
 use Rattle.ab_msg.specs.Messages.{IsMessage, spell_message}
 use Rattle.ab_read.specs.Messages.{message_of}
 use Rattle.ab_read.proofs.MessageLemmas.{message-law}
+use Rattle.ab_check.specs.Chains.{IsPlaced}
 use Rattle.ab_check.specs.Checks.{Check, Judge, Token, by_tag, checks, checked_from, checks_of, is_refused, is_right, outcome}
 use Rattle.ab_open.specs.declared.fault.OpenFault.TheVariants as fault
 use Rattle.ab_open.specs.Opening.{takes, verdict, judged, opening}
+
+-- a party of a cluster has a place
+pub placed : (f clients : ℕ) (me : Party) → IsTrue (is_party f clients me) → IsPlaced f me
+placed f clients (Replica r) h = ltb-true r (3 * f + 1) h
+placed f clients (Client c) h = tt
 
 -- ---- what follows where it opened
 

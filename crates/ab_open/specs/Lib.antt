@@ -1,5 +1,4 @@
 -- The definitions that the contracts of this crate cite.
 pub mod Named
 pub mod Claimed
-pub mod Stating
 pub mod Opening

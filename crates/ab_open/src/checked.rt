@@ -2,13 +2,10 @@
 
 ghost use Rattle.std.specs.Prelude.{◌≡◌, IsTrue};
 ghost use Rattle.ab_keys.specs.Keys.{is_party};
-ghost use Rattle.ab_msg.specs.Claims.{claims};
+ghost use Rattle.ab_check.specs.Checks.{checks_of};
 ghost use Rattle.ab_wire.specs.Views.{IsReceived, message};
-ghost use Rattle.ab_open.specs.Claimed.{spelled_claims};
 
-use crate::claim_refs::ClaimRefs;
-use crate::claiming::claims_of;
-use crate::stated::Stated;
+use ab_check::{Checks, checks_in, copy_of};
 use ab_num::{Cluster, Party};
 use ab_wire::MsgRef;
 use std::marker::Model;
@@ -64,21 +61,12 @@ impl<'a> Checked<'a> {
         self.me
     }
 
-    /// The contents that were checked, in their order.
-    #[tactic(auto, using(crate::proofs::StateLemmas::placed))]
-    pub(crate) fn claims(&self, k: &Cluster) -> ClaimRefs<'a>
+    /// What it checked of the message in its cluster, in order.
+    #[tactic(auto, using(crate::proofs::OpenLemmas::placed))]
+    pub fn checks(&self, k: &Cluster) -> Checks<'a>
         requires { IsTrue (is_party k.now.f k.now.clients self.now.me) }
-        ensures { result ≡ claims k.now.f self.now.me self.now.msg }
+        ensures { result ≡ checks_of k.now.f self.now.me self.now.msg }
     {
-        claims_of(k, self.me, &self.msg)
-    }
-
-    /// The makers of the contents that were checked in its cluster, in their order, each with the bytes
-    /// of its content.
-    pub fn stated(&self, k: &Cluster) -> Stated<'a>
-        requires { IsTrue (is_party k.now.f k.now.clients self.now.me) }
-        ensures { result ≡ spelled_claims k.now.f self.now.me self.now.msg }
-    {
-        Stated::of(self.claims(k))
+        checks_in(k, self.me, copy_of(&self.msg))
     }
 }

@@ -3,7 +3,7 @@
 ghost use Rattle.std.specs.Prelude.{◌≡◌, IfOk, map};
 ghost use Rattle.ab_open.specs.Claimed.{by_maker};
 
-use crate::claim_refs::ClaimRefs;
+use ab_check::Checks;
 use ab_hist::History;
 use ab_msg::Content;
 use ab_num::{OutOfMemory, Party};
@@ -50,14 +50,16 @@ impl Claims {
         self.claims
     }
 
-    /// A copy of each of these. An ABORT with the history of the content before it shares that.
-    pub(crate) fn of(alloc: Global, given: ClaimRefs<'_>) -> Result<Claims, OutOfMemory>
-        ensures { IfOk result (λ c. c ≡ map by_maker given.entry) }
+    /// A copy of the content of each of these. An ABORT with the history of the content before it shares that.
+    pub(crate) fn of(alloc: Global, given: Checks<'_>) -> Result<Claims, OutOfMemory>
+        ensures { IfOk result (λ c. c ≡ map (λ k. by_maker k.content) given.entry) }
     {
         let mut claims = Vec::new(alloc);
-        'claims: for claim in given {
-            let maker = claim.maker();
-            let content = claim.own_like(alloc, last_history(claims.as_slice()))?;
+        'checks: for check in given {
+            let maker = check.claim.maker();
+            let content = check
+                .claim
+                .own_like(alloc, last_history(claims.as_slice()))?;
             claims.push((maker, content))?;
         }
         Ok(Claims { claims })

@@ -2,20 +2,12 @@
 #![tactic(auto)]
 
 mod checked;
-mod claim_ref;
-mod claim_refs;
 mod claimed;
-mod claiming;
-mod copied;
 mod fault;
 mod laws;
 mod naming;
 mod opening;
 mod owning;
-mod passed;
-mod prepared;
-mod stated;
-mod stated_bytes;
 mod taking;
 
 pub use checked::Checked;
@@ -26,5 +18,3 @@ pub use laws::{
 };
 pub use opening::open;
 pub use owning::claims;
-pub use stated::Stated;
-pub use stated_bytes::StatedBytes;

@@ -12,7 +12,7 @@ ghost use Rattle.ab_wire.specs.Changes.{prepares_at, proof_at};
 ghost use Rattle.ab_wire.specs.Views.{aborts as shown_aborts, offered, proof, values as shown_values};
 ghost use Rattle.ab_open.specs.Named.{aborts_name, change_names, clients_of, offer_names, signers_of, values_name};
 
-use ab_check::again;
+use ab_check::copy_of;
 use ab_content::{ContentRef, HistoryRef, RequestRef, SignerRef};
 use ab_form::ListRef;
 use ab_keys::is_party;
@@ -81,7 +81,7 @@ pub(crate) fn has_offer<'a>(k: &Cluster, offer: &OfferRef<'a>) -> bool
     ensures { result ≡ list_all (is_party k.now.f k.now.clients) (offer_names (offered offer.now)) }
 {
     match offer {
-        OfferRef::Base(aborts) => has_aborts(k, again(aborts)),
+        OfferRef::Base(aborts) => has_aborts(k, copy_of(aborts)),
         OfferRef::Request { request, .. } => has_client(k, request.client),
     }
 }
@@ -112,7 +112,7 @@ fn has_prepares<'a>(k: &Cluster, prepares: ListRef<'a, PreparesRef<'a>>) -> bool
 fn has_slots<'a>(k: &Cluster, base: &HistoryRef<'_>, requests: &ListRef<'a, RequestRef<'a>>) -> bool
     ensures { result ≡ (list_all (is_party k.now.f k.now.clients) (clients_of (listed any_request_at requests.now.count requests.now.bytes.now)) && list_all (is_party k.now.f k.now.clients) (clients_of (history base.now))) }
 {
-    has_clients(k, again(requests)) && has_history(k, base)
+    has_clients(k, copy_of(requests)) && has_history(k, base)
 }
 
 fn has_values<'a>(k: &Cluster, values: &ValuesRef<'a>) -> bool
@@ -128,7 +128,7 @@ pub(crate) fn has_change<'a>(k: &Cluster, v: &ProofRef<'a>) -> bool
     ensures { result ≡ list_all (is_party k.now.f k.now.clients) (change_names (proof v.now)) }
 {
     has_parties(k, &v.change.content)
-        && has_prepares(k, again(&v.prepares))
+        && has_prepares(k, copy_of(&v.prepares))
         && has_values(k, &v.values)
 }
 

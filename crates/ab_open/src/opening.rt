@@ -13,7 +13,7 @@ use ab_read::read;
 use std::alloc::Global;
 
 /// Opens bytes that came to a party of a cluster. Memory is taken only for what the checker remembers.
-#[tactic(auto, using(crate::proofs::StateLemmas::placed))]
+#[tactic(auto, using(crate::proofs::OpenLemmas::placed))]
 pub fn open<'a, C: Checker>(
     alloc: Global,
     k: &Cluster,

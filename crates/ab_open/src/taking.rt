@@ -10,7 +10,7 @@ ghost use Rattle.ab_open.specs.Named.{aborts_name, change_names, offer_names};
 ghost use Rattle.ab_open.specs.Opening.{takes};
 
 use crate::naming::{has_aborts, has_change, has_changes, has_client, has_offer, has_parties};
-use ab_check::again;
+use ab_check::copy_of;
 use ab_content::{ContentRef, RequestRef};
 use ab_form::ListRef;
 use ab_num::{Cluster, Party};
@@ -85,7 +85,7 @@ fn has_value<'a>(k: &Cluster, content: &ContentRef<'_>, offer: &OfferRef<'a>) ->
 fn has_cert<'a>(k: &Cluster, cert: &ListRef<'a, SignedRef<'a>>) -> bool
     ensures { result ≡ list_all (is_party k.now.f k.now.clients) (aborts_name (aborts cert.now)) }
 {
-    has_aborts(k, again(cert))
+    has_aborts(k, copy_of(cert))
 }
 
 /// The parties of a NEW-VIEW and of its view changes.
@@ -96,7 +96,7 @@ fn has_new_view<'a>(
 ) -> bool
     ensures { result ≡ (list_all (is_party k.now.f k.now.clients) (parties_of_content (shown content.now)) && list_all (is_party k.now.f k.now.clients) (flat_map change_names (proofs changes.now))) }
 {
-    has_parties(k, content) && has_changes(k, again(changes))
+    has_parties(k, content) && has_changes(k, copy_of(changes))
 }
 
 /// Whether a cluster has all whom a message names.

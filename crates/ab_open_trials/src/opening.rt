@@ -61,7 +61,7 @@ fn a_chain_wants_a_reply_at_its_client(rt: HostRuntime) {
 }
 
 #[test]
-fn a_chain_states_what_its_positions_check(rt: HostRuntime) {
+fn what_is_checked_of_a_chain_is_told(rt: HostRuntime) {
     let alloc = rt.alloc();
     let k = Cluster::new(1, 1, Plan::Chain).expect(&rt, "a cluster");
     let me = Party::Replica(1);
@@ -73,10 +73,10 @@ fn a_chain_states_what_its_positions_check(rt: HostRuntime) {
         .expect(&rt, "it opens");
     let all = claims(alloc, &k, &checked).expect(&rt, "memory");
     assert!(rt; all.as_slice().len() == 2);
-    let mut stated = checked.stated(&k);
-    let (first, asked) = stated.next().expect(&rt, "the client's request");
-    assert!(rt; first == Party::Client(0) && asked.as_slice().len() == 21);
-    let (second, passed) = stated.next().expect(&rt, "the tag of position 1");
-    assert!(rt; second == Party::Replica(0) && passed.as_slice().len() == 52);
-    assert!(rt; stated.next().is_none());
+    let mut checks = checked.checks(&k);
+    let asked = checks.next().expect(&rt, "the client's request").claim;
+    assert!(rt; asked.maker() == Party::Client(0) && asked.text().as_slice().len() == 21);
+    let passed = checks.next().expect(&rt, "the tag of position 1").claim;
+    assert!(rt; passed.maker() == Party::Replica(0) && passed.text().as_slice().len() == 52);
+    assert!(rt; checks.next().is_none());
 }
