@@ -16,7 +16,6 @@ use ab_io::{Clock, Link, Sink, Source};
 use ab_kv::Kv;
 use ab_loop::ServeFault;
 use ab_node::{Stop, serve_text};
-use ab_receivers::packets_go_to_parties;
 use ab_replay::{AnyProtocol, replay};
 use ab_storm_run::{StormFault, storm};
 use ab_text::one_reading;
@@ -98,7 +97,6 @@ fn serve_storm<O: Sink, E: Sink>(
       network = network;
     }) }
 {
-    packets_go_to_parties::<Kv>();
     let stormed = match storm::<Kv, AnyProtocol<Kv>>(alloc, asked) {
         Ok(stormed) => stormed,
         Err(StormFault::TooManyPackets) => {

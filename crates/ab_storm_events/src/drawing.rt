@@ -7,7 +7,7 @@ ghost use Rattle.ab_world.specs.Runs.{outcome};
 ghost use Rattle.ab_world.specs.Steps.{stepped};
 ghost use Rattle.ab_storm_run.specs.declared.running.StormFault.TheVariants.{OutOfMemory as NoMemory};
 ghost use Rattle.ab_storm_run.specs.Standing.{Goes};
-ghost use Rattle.ab_storm_run.specs.Runs.{drawn_at, drawn_events, storm_setup, IsClusterOf, SendsWithin, StepCause, EndCause, StormCause};
+ghost use Rattle.ab_storm_run.specs.Runs.{drawn_at, drawn_events, storm_setup, IsClusterOf, StepCause, EndCause, StormCause};
 ghost use Rattle.ab_storm_events.specs.Drawn.{Draws};
 
 use ab_abs::Protocol;
@@ -39,7 +39,7 @@ fn step<S: Service, P: Protocol<S>>(
     world: &mut World<S, P>,
     kept: &mut Items<Event>,
 ) -> Result<(), StormFault>
-    requires goes { Goes P.proto storm.old world.old }
+    requires goes { Goes storm.old world.old }
     requires few { world.old.cast.events < 100000 }
     ensures ok { OnOk result (stepped P.proto world.old (drawn_at storm.old world.old).0 ≡ Ok world.new) }
     ensures kept { OnOk result (kept.new ≡ kept.old ++ (drawn_at storm.old world.old).0 ∷ []) }
@@ -62,7 +62,7 @@ fn draw_events<S: Service, P: Protocol<S>>(
     events: u32,
 ) -> Result<Items<Event>, StormFault>
     requires few { events ≤ 100000 }
-    requires goes { Goes P.proto storm.old world.old }
+    requires goes { Goes storm.old world.old }
     requires begins { world.old.cast.events ≡ 0 }
     ensures ok { OnOk result (outcome P.proto 1 world.old (drawn_events P.proto events storm.old world.old) ≡ Ok world.new) }
     ensures kept { IfOk result (λ kept. kept ≡ drawn_events P.proto events storm.old world.old) }
@@ -83,7 +83,6 @@ fn events_over<S: Service, P: Protocol<S>>(
     setup: Setup,
 ) -> Result<Items<Event>, StormFault>
     requires served { (i : ℕ) → 1 ≤ i → IsTrue (P.serves (kind_of asked.now.plan i)) }
-    requires sends { SendsWithin P.proto asked.now }
     requires few { asked.now.events ≤ 100000 }
     requires setup { setup ≡ storm_setup setup.cluster }
     requires sized { IsClusterOf setup.cluster asked.now }
@@ -96,14 +95,12 @@ fn events_over<S: Service, P: Protocol<S>>(
 }
 
 /// The events of the storm that is asked for, as `ab_storm_run::storm` draws them: in a cluster with the service S, trees of
-/// height 10 and no faulty party, whose replicas go by P, which serves each kind of the plan and sends to parties of the
-/// cluster alone.
+/// height 10 and no faulty party, whose replicas go by P, which serves each kind of the plan.
 pub fn storm_events<S: Service, P: Protocol<S>>(
     alloc: Global,
     asked: &StormCommand,
 ) -> Result<Items<Event>, StormFault>
     requires served { (i : ℕ) → 1 ≤ i → IsTrue (P.serves (kind_of asked.now.plan i)) }
-    requires sends { SendsWithin P.proto asked.now }
     requires few { asked.now.events ≤ 100000 }
     ensures ok { IfOk result (λ kept. Draws P.proto asked.now kept) }
     ensures cause { IfErr result (λ e. StormCause P.proto e asked.now) }

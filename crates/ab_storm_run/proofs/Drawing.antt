@@ -1,11 +1,11 @@
--- What a storm draws happens, where packets go to parties of the cluster.
-use Rattle.std.proofs.Common.{◌≡◌, ℕ, zero, suc, ◌+◌, ◌-◌, ◌*◌, ◌≤◌, ◌<◌, ◌==◌, Bool, true, false, Option, None, Some, List, [], ◌∷◌, ◌++◌, Result, Ok, Err, length, refl, sym, ap, ◌∙◌, subst, arith}
-use Rattle.std.specs.Prelude.{◌&&◌, Contains, nat_lt, nat_le, if◌then◌else◌, slice_get}
+-- What a storm draws happens.
+use Rattle.std.proofs.Common.{◌≡◌, ℕ, zero, suc, ◌+◌, ◌-◌, ◌*◌, ◌≤◌, ◌<◌, ◌==◌, Bool, true, false, Option, None, Some, List, [], Result, Ok, Err, length, refl, sym, ap, ◌∙◌, subst, arith}
+use Rattle.std.specs.Prelude.{◌&&◌, All, IsTrue, nat_lt, nat_le, if◌then◌else◌, slice_get}
 use Rattle.std.specs.List.{range_with_len}
 use Rattle.std.specs.Option.{option_map}
 use Rattle.std.proofs.lemmas.Bool.{lt-ltb, le-leb}
 use Rattle.std.proofs.lemmas.List.{ext_get_or}
-use Rattle.std.proofs.lemmas.List.Elements.{Contains-get_or}
+use Rattle.std.proofs.lemmas.List.Elements.{All-get_or}
 use Rattle.std.proofs.lemmas.List.FromFn.{get_or-range_with_len, length-range_with_len, get_or-map-range_with_len, length-map-range_with_len}
 use Rattle.std.proofs.lemmas.Option.{slice_get-map, slice_get_within, get_or_from_slice_get}
 use Rattle.arrayvec.specs.ArrayVec.{ArrayVec}
@@ -29,12 +29,11 @@ use Rattle.ab_cast.specs.Casts.{is_free}
 use Rattle.ab_world.specs.declared.fault.WorldFault.{WorldFault}
 use Rattle.ab_world.specs.declared.fault.WorldFault.TheVariants.{EventLimit, PacketLimit, BadCommand}
 use Rattle.ab_world.specs.Steps.{Happening, Given, ask, hand, ring, refuse_command, asked_at, asked, handed, rung, delivered, happening, ready_in, ready, after, within_limit, stepped_by, stepped}
-use Rattle.ab_world.specs.Runs.{outcome}
 use Rattle.ab_world.specs.Worlds.{World, start}
 use Rattle.ab_world.proofs.SeatLemmas.{length-first_seats, length-first_sites}
+use Rattle.ab_world.proofs.SentLemmas.{IsWithin, start_sends, step_sends}
 use Rattle.ab_storm_run.specs.Standing.{Goes}
-use Rattle.ab_storm_run.specs.Runs.{SendsToParties, idle_of, drawn_at, storm_of, storm_setup}
-use Rattle.ab_storm_run.proofs.Leading.{leads_on}
+use Rattle.ab_storm_run.specs.Runs.{idle_of, drawn_at, storm_of, storm_setup}
 use Rattle.ab_storm_run.proofs.Stepping.{Keeps, given_keeps}
 
 -- ---- idle clients
@@ -73,11 +72,11 @@ own_there x p is = ap (λ b. if b then numbered_place x p None else None) is
 within_command : (n : ℕ) → 1 ≤ n → n ≤ 128 → (nat_le 1 n && nat_le n 128) ≡ true
 within_command n some few = λ j. le-leb 1 n some j && le-leb n 128 few j
 
-get_contains : {A : Type 0} (xs : List A) (n : ℕ) (x : A) → slice_get xs n ≡ Some x → Contains xs x
-get_contains xs n x e = subst (Contains xs) (get_or_from_slice_get xs n x x e) (Contains-get_or xs n x (slice_get_within xs n x e))
+each_at : {A : Type 0} (Q : A → Type 0) (xs : List A) (n : ℕ) (x : A) → All Q xs → slice_get xs n ≡ Some x → Q x
+each_at Q xs n x all e = subst Q (get_or_from_slice_get xs n x x e) (All-get_or Q xs n x (slice_get_within xs n x e) all)
 
 module _ {P : Type 0} (w : World P) (all : length w.cast.clients ≡ w.cast.setup.cluster.clients)
-    (sent : (p : Packet) → Contains w.packets p → is_party w.cast.setup.cluster.f w.cast.setup.cluster.clients p.to ≡ true) where
+    (sent : All (λ (p : Packet). IsTrue (is_party w.cast.setup.cluster.f w.cast.setup.cluster.clients p.to)) w.packets) where
   abbrev x : Setup
   x = w.cast.setup
 
@@ -113,7 +112,7 @@ module _ {P : Type 0} (w : World P) (all : length w.cast.clients ≡ w.cast.setu
 
   found_goes : (n : ℕ) (o : Option Packet) → slice_get w.packets n ≡ o → n < length w.packets → Gives (delivered x o None)
   found_goes n None at lt = absurd (past_end w.packets n at lt)
-  found_goes n (Some p) at lt = record { party = p.to; given = hand p.bytes; gives = ap (handed p.bytes) (own_there x p.to (sent p (get_contains w.packets n p at))) }
+  found_goes n (Some p) at lt = record { party = p.to; given = hand p.bytes; gives = ap (handed p.bytes) (own_there x p.to (each_at (λ (q : Packet). IsTrue (is_party x.cluster.f x.cluster.clients q.to)) w.packets n p sent at)) }
 
   delivers : (n : ℕ) (core : Option CoreName) → core ≡ None → 1 ≤ n → n ≤ length w.packets → Gives (delivered x (nth w.packets n) core)
   delivers zero core e some few = absurd (omega (arith, some))
@@ -177,8 +176,8 @@ module _ (packets : ℕ) (idle : List Bool) where
 -- ---- one event
 
 -- what is given by an event that is drawn
-draws : {P : Type 0} (proto : Proto P) (s : Storm) (w : World P) → Goes proto s w → Gives (happening w (drawn_at s w).0)
-draws proto s w goes = happens w goes.clients (goes.sends goes.led.0 w goes.led.1) (drawn_at s w).0 (subst (λ (c : Cluster). CanHappen c (length w.packets) (idle_of w) (drawn_at s w).0) goes.cluster (next_can s (length w.packets) (idle_of w)))
+draws : {P : Type 0} (s : Storm) (w : World P) → Goes s w → Gives (happening w (drawn_at s w).0)
+draws s w goes = happens w goes.clients goes.parties (drawn_at s w).0 (subst (λ (c : Cluster). CanHappen c (length w.packets) (idle_of w) (drawn_at s w).0) goes.cluster (next_can s (length w.packets) (idle_of w)))
 
 ready_now : {P : Type 0} (w : World P) (e : Event) → w.ended ≡ None → w.cast.events < 100000 → ready w e ≡ happening w e
 ready_now w e goes few = ap (ready_in w e) goes ∙ ap (λ b. if b then happening w e else Err EventLimit) (lt-ltb w.cast.events 100000 few)
@@ -193,12 +192,12 @@ module _ {P : Type 0} where
   limit_faults w f true e = absurd (cc (e))
   limit_faults w f false e = cc (e)
 
-module _ {P : Type 0} (proto : Proto P) (s : Storm) (w : World P) (here : Goes proto s w) (few : w.cast.events < 100000) where
+module _ {P : Type 0} (proto : Proto P) (s : Storm) (w : World P) (here : Goes s w) (few : w.cast.events < 100000) where
   abbrev event : Event
   event = (drawn_at s w).0
 
   given_now : Gives (happening w event)
-  given_now = draws proto s w here
+  given_now = draws s w here
 
   abbrev happened : Happening
   happened = record { place = own_place given_now.party; given = given_now.given }
@@ -212,7 +211,7 @@ module _ {P : Type 0} (proto : Proto P) (s : Storm) (w : World P) (here : Goes p
 
   -- what one event more leaves
   pub record GoesOver (v : World P) : Type 0 where
-    pub goes : Goes proto (drawn_at s w).1 v
+    pub goes : Goes (drawn_at s w).1 v
     pub setup : v.cast.setup ≡ w.cast.setup
     pub events : v.cast.events ≤ w.cast.events + 1
 
@@ -220,21 +219,20 @@ module _ {P : Type 0} (proto : Proto P) (s : Storm) (w : World P) (here : Goes p
   pub goes_on : (v : World P) → stepped proto w event ≡ Ok v → GoesOver v
   goes_on v e =
       let keeps = subst (λ (u : World P). Keeps proto w u) (limit_ends (after proto w happened) v _ (sym taken ∙ e)) (given_keeps proto w given_now.party given_now.given) in
-      let more = here.led.0 ++ event ∷ [] in
+      let sends = step_sends proto w.cast.setup w v event (record { setup = refl; parties = here.parties }) e in
       record {
         goes = record {
           cluster = next_same (length w.packets) (idle_of w) s ∙ here.cluster ∙ sym (ap (λ (y : Setup). y.cluster) keeps.setup);
           replicas = keeps.replicas ∙ here.replicas ∙ sym (ap (λ (y : Setup). 3 * y.cluster.f + 1) keeps.setup);
           clients = keeps.clients ∙ here.clients ∙ sym (ap (λ (y : Setup). y.cluster.clients) keeps.setup);
           ended = keeps.ended ∙ here.ended;
-          sends = subst (λ (y : Setup). SendsToParties proto y) (sym keeps.setup) here.sends;
-          led = (more, subst (λ (y : Setup). outcome proto 1 (start proto y) more ≡ Ok v) (sym keeps.setup) (leads_on proto here.led.0 1 (start proto w.cast.setup) w v event here.led.1 e));
+          parties = subst (λ (y : Setup). All (IsWithin y) v.packets) (sym keeps.setup) sends.parties;
         };
         setup = keeps.setup;
         events = keeps.events;
       }
 
 -- a storm goes over its cluster before the first event
-pub storm_goes : {P : Type 0} (proto : Proto P) (c : Cluster) (seed : ℕ) → SendsToParties proto (storm_setup c) → Goes proto (storm_of c seed) (start proto (storm_setup c))
-storm_goes proto c seed sends =
-    record { cluster = refl; replicas = length-first_sites (storm_setup c) proto (3 * c.f + 1); clients = length-first_seats c c.clients; ended = refl; sends = sends; led = ([], refl) }
+pub storm_goes : {P : Type 0} (proto : Proto P) (c : Cluster) (seed : ℕ) → Goes (storm_of c seed) (start proto (storm_setup c))
+storm_goes proto c seed =
+    record { cluster = refl; replicas = length-first_sites (storm_setup c) proto (3 * c.f + 1); clients = length-first_seats c c.clients; ended = refl; parties = (start_sends proto (storm_setup c)).parties }

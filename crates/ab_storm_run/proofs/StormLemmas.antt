@@ -19,9 +19,8 @@ use Rattle.ab_world.specs.Worlds.{World, start}
 use Rattle.ab_storm_run.specs.declared.running.StormFault.{StormFault}
 use Rattle.ab_storm_run.specs.declared.running.StormFault.TheVariants.{TooManyPackets, OutOfMemory}
 use Rattle.ab_storm_run.specs.Standing.{Goes}
-use Rattle.ab_storm_run.specs.Runs.{end_of, idle_of, drawn_at, drawn_behind, drawn_events, storm_setup, storm_of, run_in, IsClusterOf, StormsTo, SendsToParties, SendsWithin, StepCause, EndCause, StormCause}
+use Rattle.ab_storm_run.specs.Runs.{end_of, idle_of, drawn_at, drawn_behind, drawn_events, storm_setup, storm_of, run_in, IsClusterOf, StormsTo, StepCause, EndCause, StormCause}
 use Rattle.ab_storm_run.proofs.Drawing.{refused_for, goes_on, storm_goes}
-use Rattle.ab_storm_run.proofs.Leading.{err_ok}
 
 -- ---- clusters of one size
 
@@ -64,6 +63,9 @@ module _ {P : Type 0} (proto : Proto P) where
   ok_err : (w : World P) (n : ℕ) (f : WorldFault) → ◌≡◌ {A = Result (World P) (ℕ × WorldFault)} (Ok w) (Err (n, f)) → ⊥
   ok_err w n f is = cc (is)
 
+  err_ok : (w : World P) (n : ℕ) (f : WorldFault) → ◌≡◌ {A = Result (World P) (ℕ × WorldFault)} (Err (n, f)) (Ok w) → ⊥
+  err_ok w n f is = cc (is)
+
   abbrev fault_in : WorldFault → Result (World P) (ℕ × WorldFault) → WorldFault
   fault_in f (Ok w) = f
   fault_in f (Err e) = e.1
@@ -74,10 +76,10 @@ module _ {P : Type 0} (proto : Proto P) where
   -- ---- event by event
 
   -- a fault that comes of an event that was drawn ends the storm
-  refusal_ends : (s : Storm) (w : World P) (f : WorldFault) → Goes proto s w → w.cast.events < 100000 → stepped proto w (drawn_at s w).0 ≡ Err f → IsSome (end_of f)
+  refusal_ends : (s : Storm) (w : World P) (f : WorldFault) → Goes s w → w.cast.events < 100000 → stepped proto w (drawn_at s w).0 ≡ Err f → IsSome (end_of f)
   refusal_ends s w f goes few is = subst (λ (g : WorldFault). IsSome (end_of g)) (sym (refused_for proto s w goes few f is)) refl
 
-  pub fault_ends : (s : Storm) (w : World P) (f : WorldFault) → Goes proto s w → w.cast.events < 100000 → WorldCause proto f w (drawn_at s w).0 → IsSome (end_of f)
+  pub fault_ends : (s : Storm) (w : World P) (f : WorldFault) → Goes s w → w.cast.events < 100000 → WorldCause proto f w (drawn_at s w).0 → IsSome (end_of f)
   fault_ends s w PacketLimit goes few cause = refl
   fault_ends s w NoMemory goes few cause = refl
   fault_ends s w EventLimit goes few cause = refusal_ends s w EventLimit goes few cause
@@ -127,16 +129,16 @@ module _ {P : Type 0} (proto : Proto P) where
   pub record GoesOn (n i : ℕ) (t : Storm) (w v : World P) (whole : Result (World P) (ℕ × WorldFault)) : Type 0 where
     pub rest : outcome proto (i + 1 + 1) v (drawn_events proto (n - (i + 1)) t v) ≡ whole
     pub events : v.cast.events ≤ w.cast.events + 1
-    pub goes : Goes proto t v
+    pub goes : Goes t v
 
-  pub goes_next : (n i : ℕ) (s t : Storm) (w v : World P) (whole : Result (World P) (ℕ × WorldFault)) → i < n → Goes proto s w → w.cast.events < 100000 → t ≡ (drawn_at s w).1
+  pub goes_next : (n i : ℕ) (s t : Storm) (w v : World P) (whole : Result (World P) (ℕ × WorldFault)) → i < n → Goes s w → w.cast.events < 100000 → t ≡ (drawn_at s w).1
       → stepped proto w (drawn_at s w).0 ≡ Ok v → outcome proto (i + 1) w (drawn_events proto (n - i) s w) ≡ whole → GoesOn n i t w v whole
   goes_next n i s t w v whole lt goes few next takes so =
       let over = goes_on proto s w goes few v takes in
       record {
         rest = ap (λ (u : Storm). outcome proto (i + 1 + 1) v (drawn_events proto (n - (i + 1)) u v)) next ∙ sym (run_goes_on n i s w v lt takes) ∙ so;
         events = over.events;
-        goes = subst (λ (u : Storm). Goes proto u v) (sym next) over.goes;
+        goes = subst (λ (u : Storm). Goes u v) (sym next) over.goes;
       }
 
   -- what ends an event ends the run
@@ -164,14 +166,14 @@ module _ {P : Type 0} (proto : Proto P) where
 
   -- ---- refusals
 
-  refused_by : (n i : ℕ) (s : Storm) (w : World P) → Goes proto s w → w.cast.events < 100000 → (e : ℕ) (f : WorldFault) (r : Result (World P) WorldFault) → stepped proto w (drawn_at s w).0 ≡ r
+  refused_by : (n i : ℕ) (s : Storm) (w : World P) → Goes s w → w.cast.events < 100000 → (e : ℕ) (f : WorldFault) (r : Result (World P) WorldFault) → stepped proto w (drawn_at s w).0 ≡ r
       → ((v : World P) → stepped proto w (drawn_at s w).0 ≡ Ok v → outcome proto (i + 1) v (drawn_events proto n (drawn_at s w).1 v) ≡ Err (e, f) → f ≡ PacketLimit)
       → Rest n i s w r ≡ Err (e, f) → f ≡ PacketLimit
   refused_by n i s w goes few e f (Ok v) takes more stops = more v takes stops
   refused_by n i s w goes few e f (Err g) takes more stops = sym (fault_same i e g f stops) ∙ refused_for proto s w goes few g takes
 
   -- over a world with few events, each refusal is for the limit of bytes
-  drawn_refused : (n i : ℕ) (s : Storm) (w : World P) → Goes proto s w → w.cast.events + n ≤ 100000 → (e : ℕ) (f : WorldFault) → outcome proto i w (drawn_events proto n s w) ≡ Err (e, f) → f ≡ PacketLimit
+  drawn_refused : (n i : ℕ) (s : Storm) (w : World P) → Goes s w → w.cast.events + n ≤ 100000 → (e : ℕ) (f : WorldFault) → outcome proto i w (drawn_events proto n s w) ≡ Err (e, f) → f ≡ PacketLimit
   drawn_refused zero i s w goes few e f is = absurd (ok_err w e f is)
   drawn_refused (suc n) i s w goes few e f is =
       let some : w.cast.events < 100000 = omega (arith, few) in
@@ -179,9 +181,9 @@ module _ {P : Type 0} (proto : Proto P) where
       (λ v. λ takes rest. let over = goes_on proto s w goes some v takes in drawn_refused n (i + 1) (drawn_at s w).1 v over.goes (omega (arith, few, over.events)) e f rest)
       is
 
-  pub refused_for_limit : (k : StormCommand) (n : ℕ) (f : WorldFault) → k.events ≤ 100000 → SendsWithin proto k → StormsTo proto k (Err (n, f)) → f ≡ PacketLimit
-  refused_for_limit k n f few sends to =
-      drawn_refused k.events 1 (storm_of to.cluster k.seed) (start proto (storm_setup to.cluster)) (storm_goes proto to.cluster k.seed (sends to.cluster to.sized)) (omega (arith, few)) n f to.runs
+  pub refused_for_limit : (k : StormCommand) (n : ℕ) (f : WorldFault) → k.events ≤ 100000 → StormsTo proto k (Err (n, f)) → f ≡ PacketLimit
+  refused_for_limit k n f few to =
+      drawn_refused k.events 1 (storm_of to.cluster k.seed) (start proto (storm_setup to.cluster)) (storm_goes proto to.cluster k.seed) (omega (arith, few)) n f to.runs
 
 -- ---- the storm that is asked for
 
@@ -190,8 +192,8 @@ module _ {P : Type 0} (proto : Proto P) (c : Cluster) (x : Setup) (w : World P) 
   starts_so : w ≡ start proto (storm_setup c)
   starts_so = starts ∙ ap (start proto) sets
 
-  pub begins_going : SendsToParties proto (storm_setup c) → Goes proto s w
-  begins_going sends = subst (λ (v : World P). Goes proto s v) (sym starts_so) (subst (λ (u : Storm). Goes proto u (start proto (storm_setup c))) (sym from) (storm_goes proto c seed sends))
+  pub begins_going : Goes s w
+  begins_going = subst (λ (v : World P). Goes s v) (sym starts_so) (subst (λ (u : Storm). Goes u (start proto (storm_setup c))) (sym from) (storm_goes proto c seed))
 
   pub begins_early : w.cast.events ≡ 0
   begins_early = ap (λ (v : World P). v.cast.events) starts_so

@@ -1,9 +1,8 @@
 -- Storms that are run: events that are drawn one after another, each from where the world stands then.
-use Rattle.std.specs.Prelude.{◌≡◌, ◌↔◌, ⊤, ℕ, zero, suc, Bool, IsTrue, List, [], ◌∷◌, Contains, length, map, slice_get, Option, None, Some, Result, Ok, Err}
+use Rattle.std.specs.Prelude.{◌≡◌, ◌↔◌, ⊤, ℕ, zero, suc, Bool, IsTrue, List, [], ◌∷◌, length, map, slice_get, Option, None, Some, Result, Ok, Err}
 use Rattle.std.specs.List.{range_with_len}
 use Rattle.ab_num.specs.declared.cluster.Cluster.{Cluster}
 use Rattle.ab_num.specs.declared.plan.Height.TheVariants.{Ten}
-use Rattle.ab_keys.specs.Keys.{is_party}
 use Rattle.ab_text.specs.declared.event.Event.{Event}
 use Rattle.ab_text.specs.declared.line.Premise.{Premise}
 use Rattle.ab_text.specs.declared.line.Premise.TheVariants.{Held}
@@ -15,7 +14,6 @@ use Rattle.ab_abs.specs.Ensembles.{Proto}
 use Rattle.ab_abs.specs.Instances.{EachIsAbstract}
 use Rattle.ab_abs.specs.Order.{Ordered}
 use Rattle.ab_run.specs.Stages.{all_seen, named_on, stage_over}
-use Rattle.ab_post.specs.Packets.{Packet}
 use Rattle.ab_premise.specs.Premises.{IsPremise}
 use Rattle.ab_cast.specs.Setups.{Setup, run_setup}
 use Rattle.ab_cast.specs.Casts.{is_free}
@@ -100,15 +98,6 @@ pub record Storms {S P : Type 0} (machine : Machine S) (proto : Proto P) (k : St
   pub exact : (line : Premise) → (premise_of end ≡ line)
       ↔ IsPremise (run_setup (storm_setup cluster)) proto (opener (storm_setup cluster)) [] (came_to proto (storm_setup cluster) (events_in proto cluster k)) line
   pub promises : premise_of end ≡ Held → KeepsPromises machine proto (storm_setup cluster) (events_in proto cluster k)
-
--- whatever events come, each packet goes to a party of the cluster
-abbrev pub SendsToParties : {P : Type 0} → Proto P → Setup → Type 0
-SendsToParties {P} proto x = (events : List Event) (w : World P) → outcome proto 1 (start proto x) events ≡ Ok w
-    → (p : Packet) → Contains w.packets p → IsTrue (is_party x.cluster.f x.cluster.clients p.to)
-
--- and so it is in the cluster that is asked for
-abbrev pub SendsWithin : {P : Type 0} → Proto P → StormCommand → Type 0
-SendsWithin proto k = (c : Cluster) → IsClusterOf c k → SendsToParties proto (storm_setup c)
 
 -- ---- faults
 

@@ -5,15 +5,14 @@ ghost use Rattle.ab_words.specs.Commands.{StormCommand as Asked};
 ghost use Rattle.ab_world.specs.declared.fault.WorldFault.{WorldFault as TheFault};
 ghost use Rattle.ab_world.specs.declared.fault.WorldFault.TheVariants.{PacketLimit};
 ghost use Rattle.ab_world.specs.Worlds.{World as TheWorld};
-ghost use Rattle.ab_storm_run.specs.Runs.{SendsWithin, StormsTo};
+ghost use Rattle.ab_storm_run.specs.Runs.{StormsTo};
 
 use ab_abs::Protocol;
 use ab_svc::Service;
 
-/// Where packets go to parties of the cluster alone, an event that is drawn is refused for the limit of the bytes of packets,
-/// and for nothing else.
+/// An event that is drawn is refused for the limit of the bytes of packets, and for nothing else.
 pub fn storms_are_not_refused<S: Service, P: Protocol<S>>()
-    ensures { (k : Asked) (n : ℕ) (fault : TheFault) → k.events ≤ 100000 → SendsWithin P.proto k
+    ensures { (k : Asked) (n : ℕ) (fault : TheFault) → k.events ≤ 100000
         → StormsTo P.proto k (Err (n, fault)) → fault ≡ PacketLimit }
 {}
 

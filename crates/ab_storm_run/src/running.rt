@@ -6,7 +6,7 @@ ghost use Rattle.ab_world.specs.Runs.{outcome};
 ghost use Rattle.ab_world.specs.Steps.{stepped};
 ghost use Rattle.ab_world.specs.Worlds.{start};
 ghost use Rattle.ab_storm_run.specs.Standing.{Goes};
-ghost use Rattle.ab_storm_run.specs.Runs.{idle_of, drawn_at, drawn_events, end_of, storm_setup, IsClusterOf, SendsWithin, Storms, StepCause, EndCause, StormCause};
+ghost use Rattle.ab_storm_run.specs.Runs.{idle_of, drawn_at, drawn_events, end_of, storm_setup, IsClusterOf, Storms, StepCause, EndCause, StormCause};
 
 use crate::summary::summary;
 use ab_abs::Protocol;
@@ -70,7 +70,7 @@ fn step<S: Service, P: Protocol<S>>(
     storm: &mut Storm,
     world: &mut World<S, P>,
 ) -> Result<(), StormFault>
-    requires goes { Goes P.proto storm.old world.old }
+    requires goes { Goes storm.old world.old }
     requires few { world.old.cast.events < 100000 }
     ensures ok { OnOk result (stepped P.proto world.old (drawn_at storm.old world.old).0 ≡ Ok world.new) }
     ensures next { storm.new ≡ (drawn_at storm.old world.old).1 }
@@ -91,10 +91,10 @@ fn run_events<S: Service, P: Protocol<S>>(
     events: u32,
 ) -> Result<(), StormFault>
     requires few { events ≤ 100000 }
-    requires goes { Goes P.proto storm.old world.old }
+    requires goes { Goes storm.old world.old }
     requires begins { world.old.cast.events ≡ 0 }
     ensures ok { OnOk result (outcome P.proto 1 world.old (drawn_events P.proto events storm.old world.old) ≡ Ok world.new) }
-    ensures goes { OnOk result (Goes P.proto storm.new world.new) }
+    ensures goes { OnOk result (Goes storm.new world.new) }
     ensures cause { IfErr result (λ e. EndCause e (outcome P.proto 1 world.old (drawn_events P.proto events storm.old world.old))) }
 {
     for _done in 0..events {
@@ -111,7 +111,6 @@ fn summary_in<S: Service, P: Protocol<S>>(
     world: &mut World<S, P>,
 ) -> Result<Stormed, StormFault>
     requires served { (i : ℕ) → 1 ≤ i → IsTrue (P.serves (kind_of asked.now.plan i)) }
-    requires sends { SendsWithin P.proto asked.now }
     requires few { asked.now.events ≤ 100000 }
     requires sized { IsClusterOf cluster.now asked.now }
     requires begins { world.old ≡ start P.proto (storm_setup cluster.now) }
@@ -128,13 +127,12 @@ fn summary_in<S: Service, P: Protocol<S>>(
 }
 
 /// Runs the storm that is asked for: in a cluster with the service S, trees of height 10 and no faulty party, whose replicas
-/// go by P, which serves each kind of the plan and sends to parties of the cluster alone.
+/// go by P, which serves each kind of the plan.
 pub fn storm<S: Service, P: Protocol<S>>(
     alloc: Global,
     asked: &StormCommand,
 ) -> Result<Stormed, StormFault>
     requires served { (i : ℕ) → 1 ≤ i → IsTrue (P.serves (kind_of asked.now.plan i)) }
-    requires sends { SendsWithin P.proto asked.now }
     requires few { asked.now.events ≤ 100000 }
     ensures ok { IfOk result (λ v. Storms S.machine P.proto asked.now v.summary.items v.held) }
     ensures cause { IfErr result (λ e. StormCause P.proto e asked.now) }

@@ -8,7 +8,6 @@ ghost use Rattle.ab_storm_schedule.specs.Written.{script_in, IsOfStorm, WritesSt
 
 use ab_kv::Kv;
 use ab_num::{Cluster, Height, ServiceName};
-use ab_receivers::packets_go_to_parties;
 use ab_replay::AnyProtocol;
 use ab_schedule::{write_schedule, written_is_spelled};
 use ab_storm_events::storm_events;
@@ -36,7 +35,6 @@ fn storm_schedule(alloc: Global, asked: &StormCommand) -> Result<Schedule, Storm
     ensures ok { IfOk result (λ s. IsOfStorm asked.now (script_of s.head s.events)) }
     ensures cause { IfErr result (λ e. StormCause kv e asked.now) }
 {
-    packets_go_to_parties::<Kv>();
     let events = storm_events::<Kv, AnyProtocol<Kv>>(alloc, asked)?;
     Ok(schedule_in(alloc, asked.cluster(), events))
 }

@@ -1,16 +1,13 @@
 use Rattle.std.proofs.Common.{List, ℕ, sym, subst}
 use Rattle.ab_kv.specs.KvMachines.{kv_machine}
 use Rattle.ab_replay.proofs.TextLemmas.{all_served}
-use Rattle.ab_storm_run.specs.Runs.{storm_setup, Storms}
+use Rattle.ab_storm_run.specs.Runs.{Storms}
 use Rattle.ab_command.specs.Statuses.{kv}
 use Rattle.ab_command.proofs.StatusLemmas.{summary_told}
 use Rattle.ab_command.proofs.top.serve_storm.Goals as goal
 
 pub storm-requires-clause-served : goal.storm-requires-clause-served
 storm-requires-clause-served g c = λ i one. all_served c.args.asked.now.plan i
-
-pub storm-requires-clause-sends : goal.storm-requires-clause-sends
-storm-requires-clause-sends g c = λ cluster sized. c.packets_go_to_parties.ensures (storm_setup cluster)
 
 pub returns : goal.returns
 returns g c =

@@ -10,7 +10,7 @@ abbrev pub invariant-loop-done : goal.invariant-loop-done
 invariant-loop-done g l = record {
   rest : outcome g.P.Protocol.proto (l._done + 1) l.world (drawn_events g.P.Protocol.proto (l.events - l._done) l.storm l.world) ≡ outcome g.P.Protocol.proto 1 l.initial.world (drawn_events g.P.Protocol.proto l.events l.initial.storm l.initial.world);
   counted : l.world.cast.events ≤ l._done;
-  goes : Goes g.P.Protocol.proto l.storm l.world;
+  goes : Goes l.storm l.world;
   drawn : l.kept ++ drawn_events g.P.Protocol.proto (l.events - l._done) l.storm l.world ≡ drawn_events g.P.Protocol.proto l.events l.initial.storm l.initial.world;
   lines : All IsEvent l.kept;
 }

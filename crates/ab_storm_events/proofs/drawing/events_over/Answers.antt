@@ -9,7 +9,7 @@ pub draw_events-requires-clause-goes : goal.draw_events-requires-clause-goes
 draw_events-requires-clause-goes g c =
     let x = c.args.setup in
     let from = c.new-storm.ensures ∙ ap (λ (k : Cluster). storm_of k c.seed.result) c.cluster.ensures in
-    begins_going g.P.Protocol.proto x.cluster x c.in_ok-world.world c.new-storm.result c.seed.result c.requires.setup c.in_ok-world.ensures from (c.requires.sends x.cluster c.requires.sized)
+    begins_going g.P.Protocol.proto x.cluster x c.in_ok-world.world c.new-storm.result c.seed.result c.requires.setup c.in_ok-world.ensures from
 
 pub draw_events-requires-clause-begins : goal.draw_events-requires-clause-begins
 draw_events-requires-clause-begins g c =

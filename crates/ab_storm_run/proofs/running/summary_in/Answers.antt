@@ -14,7 +14,7 @@ use Rattle.ab_storm_run.proofs.running.summary_in.Goals as goal
 pub run_events-requires-clause-goes : goal.run_events-requires-clause-goes
 run_events-requires-clause-goes g c =
     let cluster = c.args.cluster.now in
-    begins_going g.P.Protocol.proto cluster (storm_setup cluster) c.args.world.now c.new-storm.result c.seed.result refl c.requires.begins c.new-storm.ensures (c.requires.sends cluster c.requires.sized)
+    begins_going g.P.Protocol.proto cluster (storm_setup cluster) c.args.world.now c.new-storm.result c.seed.result refl c.requires.begins c.new-storm.ensures
 
 pub run_events-requires-clause-begins : goal.run_events-requires-clause-begins
 run_events-requires-clause-begins g c =

@@ -1,5 +1,5 @@
 use Rattle.ab_replay.proofs.TextLemmas.{all_served}
-use Rattle.ab_storm_run.specs.Runs.{storm_setup, StormCause}
+use Rattle.ab_storm_run.specs.Runs.{StormCause}
 use Rattle.ab_storm_run.proofs.StormLemmas.{kept_err}
 use Rattle.ab_command.specs.Statuses.{kv}
 use Rattle.ab_storm_schedule.proofs.OfStorm.{of_storm}
@@ -7,9 +7,6 @@ use Rattle.ab_storm_schedule.proofs.schedule.storm_schedule.Goals as goal
 
 pub storm_events-requires-clause-served : goal.storm_events-requires-clause-served
 storm_events-requires-clause-served c = λ i one. all_served c.args.asked.now.plan i
-
-pub storm_events-requires-clause-sends : goal.storm_events-requires-clause-sends
-storm_events-requires-clause-sends c = λ cluster sized. c.packets_go_to_parties.ensures (storm_setup cluster)
 
 pub returns-clause-ok : goal.returns-clause-ok
 returns-clause-ok c =
