@@ -1,13 +1,16 @@
 //! The reading of the words.
 
 ghost use Rattle.std.specs.Prelude.{◌≡◌, IfOk, None, Some};
-ghost use Rattle.ab_words.specs.Language.{command_in, command_of, keys_in, node_in, storm_in};
-ghost use Rattle.ab_words.specs.Uses.{texts, uses_seen};
+ghost use Rattle.ab_words.specs.Found.{HasOnly};
+ghost use Rattle.ab_words.specs.Language.{command_in, command_of, keys_in, keys_of, node_in, node_of, storm_in, storm_of};
+ghost use Rattle.ab_words.specs.Options.{keys_options, node_options, storm_options};
+ghost use Rattle.ab_words.specs.Uses.{texts};
 
 use crate::command::{Command, KeysCommand, NodeCommand, StormCommand};
 use crate::names::{height_named, plan_named, service_named};
-use crate::uses::{Use, uses_in};
-use crate::values::{number_of, trace_of, value_of};
+use crate::options::{BASE, CLIENTS, EVENTS, F, KEYS, LMS, NODE, PARTY, PLAN, SEED, SERVICE, STORM, TURNS, WAIT};
+use crate::uses::{Uses, uses_in};
+use crate::values::number_of;
 use ab_key_text::{bytes_in, party_in};
 use ab_keys::is_party;
 use ab_num::OutOfMemory;
@@ -16,18 +19,19 @@ use std::alloc::Global;
 
 /// Whose keys the uses ask for.
 #[tactic(auto, unfolding(crate::specs::Language::keys_in))]
-fn keys_in(uses: &[Use<'_>]) -> Option<KeysCommand>
-    ensures { result ≡ keys_in (uses_seen uses.now) }
+fn keys_in(uses: &Uses<'_>) -> Option<KeysCommand>
+    requires { HasOnly keys_options uses.now }
+    ensures { result ≡ keys_in uses.now }
 {
-    let plan = plan_named(value_of(uses, b"plan")?)?;
-    let f = number_of(uses, b"f", 1, 2)? as u8;
-    let clients = number_of(uses, b"clients", 1, 16)? as u16;
-    let service = service_named(value_of(uses, b"service")?)?;
-    let lms = height_named(value_of(uses, b"lms")?)?;
-    let seed = bytes_in(value_of(uses, b"seed")?)?;
-    let party = party_in(value_of(uses, b"party")?)?;
+    let plan = plan_named(uses.value_of(PLAN)?)?;
+    let f = number_of(uses, F, 1, 2)? as u8;
+    let clients = number_of(uses, CLIENTS, 1, 16)? as u16;
+    let service = service_named(uses.value_of(SERVICE)?)?;
+    let lms = height_named(uses.value_of(LMS)?)?;
+    let seed = bytes_in(uses.value_of(SEED)?)?;
+    let party = party_in(uses.value_of(PARTY)?)?;
     let cluster = cluster_of(f, clients, plan);
-    if is_party(&cluster, party) && uses.len() == 7 {
+    if is_party(&cluster, party) {
         Some(KeysCommand::new(cluster, service, lms, seed, party))
     } else {
         None
@@ -36,45 +40,77 @@ fn keys_in(uses: &[Use<'_>]) -> Option<KeysCommand>
 
 /// The storm that the uses ask for.
 #[tactic(auto, unfolding(crate::specs::Language::storm_in))]
-fn storm_in(uses: &[Use<'_>]) -> Option<StormCommand>
-    ensures { result ≡ storm_in (uses_seen uses.now) }
+fn storm_in(uses: &Uses<'_>) -> Option<StormCommand>
+    requires { HasOnly storm_options uses.now }
+    ensures { result ≡ storm_in uses.now }
 {
-    let plan = plan_named(value_of(uses, b"plan")?)?;
-    let f = number_of(uses, b"f", 1, 2)? as u8;
-    let clients = number_of(uses, b"clients", 1, 16)? as u16;
-    let seed = number_of(uses, b"seed", 0, u64::MAX)?;
-    let events = number_of(uses, b"events", 0, 100000)? as u32;
-    if uses.len() == 5 {
-        let cluster = cluster_of(f, clients, plan);
-        Some(StormCommand {
-            cluster,
-            seed,
-            events,
-        })
-    } else {
-        None
-    }
+    let plan = plan_named(uses.value_of(PLAN)?)?;
+    let f = number_of(uses, F, 1, 2)? as u8;
+    let clients = number_of(uses, CLIENTS, 1, 16)? as u16;
+    let seed = number_of(uses, SEED, 0, u64::MAX)?;
+    let events = number_of(uses, EVENTS, 0, 100000)? as u32;
+    let cluster = cluster_of(f, clients, plan);
+    Some(StormCommand {
+        cluster,
+        seed,
+        events,
+    })
 }
 
 /// The node that the uses ask for.
 #[tactic(auto, unfolding(crate::specs::Language::node_in))]
-fn node_in(uses: &[Use<'_>]) -> Option<NodeCommand>
-    ensures { result ≡ node_in (uses_seen uses.now) }
+fn node_in(uses: &Uses<'_>) -> Option<NodeCommand>
+    requires { HasOnly node_options uses.now }
+    ensures { result ≡ node_in uses.now }
 {
-    let base = number_of(uses, b"base", 1, 65000)? as u16;
-    let wait = number_of(uses, b"wait", 1, 60000)? as u16;
-    let turns = number_of(uses, b"turns", 1, 1000000000)? as u32;
-    let trace = trace_of(uses)?;
-    let count = if trace { 4 } else { 3 };
-    if uses.len() == count {
-        Some(NodeCommand {
-            base,
-            wait,
-            turns,
-            trace,
-        })
-    } else {
-        None
+    let base = number_of(uses, BASE, 1, 65000)? as u16;
+    let wait = number_of(uses, WAIT, 1, 60000)? as u16;
+    let turns = number_of(uses, TURNS, 1, 1000000000)? as u32;
+    let trace = uses.trace();
+    Some(NodeCommand {
+        base,
+        wait,
+        turns,
+        trace,
+    })
+}
+
+/// Whose keys the words ask for.
+fn keys_of<'a>(alloc: Global, words: &'a [&'a str]) -> Result<Option<Command>, OutOfMemory>
+    ensures { IfOk result (λ c. c ≡ keys_of (texts words.entry.now)) }
+{
+    match uses_in(alloc, KEYS, words)? {
+        None => Ok(None),
+        Some(uses) => Ok(match keys_in(&uses) {
+            None => None,
+            Some(keys) => Some(Command::Keys(keys)),
+        }),
+    }
+}
+
+/// The storm that the words ask for.
+fn storm_of<'a>(alloc: Global, words: &'a [&'a str]) -> Result<Option<Command>, OutOfMemory>
+    ensures { IfOk result (λ c. c ≡ storm_of (texts words.entry.now)) }
+{
+    match uses_in(alloc, STORM, words)? {
+        None => Ok(None),
+        Some(uses) => Ok(match storm_in(&uses) {
+            None => None,
+            Some(storm) => Some(Command::Storm(storm)),
+        }),
+    }
+}
+
+/// The node that the words ask for.
+fn node_of<'a>(alloc: Global, words: &'a [&'a str]) -> Result<Option<Command>, OutOfMemory>
+    ensures { IfOk result (λ c. c ≡ node_of (texts words.entry.now)) }
+{
+    match uses_in(alloc, NODE, words)? {
+        None => Ok(None),
+        Some(uses) => Ok(match node_in(&uses) {
+            None => None,
+            Some(node) => Some(Command::Node(node)),
+        }),
     }
 }
 
@@ -95,31 +131,13 @@ fn command_of<'a>(
         });
     }
     if name == b"storm".as_slice() {
-        return match uses_in(alloc, words)? {
-            None => Ok(None),
-            Some(uses) => Ok(match storm_in(&uses) {
-                None => None,
-                Some(storm) => Some(Command::Storm(storm)),
-            }),
-        };
+        return storm_of(alloc, words);
     }
     if name == b"keys".as_slice() {
-        return match uses_in(alloc, words)? {
-            None => Ok(None),
-            Some(uses) => Ok(match keys_in(&uses) {
-                None => None,
-                Some(keys) => Some(Command::Keys(keys)),
-            }),
-        };
+        return keys_of(alloc, words);
     }
     if name == b"node".as_slice() {
-        return match uses_in(alloc, words)? {
-            None => Ok(None),
-            Some(uses) => Ok(match node_in(&uses) {
-                None => None,
-                Some(node) => Some(Command::Node(node)),
-            }),
-        };
+        return node_of(alloc, words);
     }
     Ok(None)
 }

@@ -1,109 +1,132 @@
-//! The uses of options.
+//! The uses of options, as clap reads them.
 
-ghost use Rattle.std.specs.Prelude.{◌≡◌, IfOk, MatchOption, None, Some};
-ghost use Rattle.ab_words.specs.Uses.{opened, opened_by, opened_seen, parted, text_at, texts, uses_in, uses_seen, with_word};
+ghost use Rattle.std.specs.Prelude.{◌≡◌, IfOk, MatchOption, IsTrue, None, Some, codes, false, not, true};
+ghost use Rattle.std.specs.List.{list_any};
+ghost use Rattle.std.specs.Str.{bytes_eq};
+ghost use Rattle.clap.specs.Words.{app_of, rule_of};
+ghost use Rattle.ab_words.specs.Language.{flag};
+ghost use Rattle.ab_words.specs.Values.{of_name, value_of};
+ghost use Rattle.ab_words.specs.Uses.{text_at, texts, uses_in};
+ghost use Rattle.ab_words.specs.Options.{action_for, app_with, is_flag, rule_named};
+ghost use Rattle.ab_words.specs.Found.{HasOnly, Refuses, are_names, dashes};
 
+use crate::options::TRACE;
 use ab_num::OutOfMemory;
-use ab_text::{after, split_first};
-use std::alloc::Global;
+use clap::error::ErrorKind;
+use clap::{Arg, ArgAction, ArgMatches, Command};
+use std::alloc::{AllocError, Global};
+use std::marker::Model;
 
-/// An option that is used, and its value, which a flag has not.
+/// The uses of options that words are.
 #[derive(Drop)]
-pub(crate) struct Use<'a> {
-    pub(crate) name: &'a [u8],
-    pub(crate) value: Option<&'a [u8]>,
+pub(crate) struct Uses<'a> {
+    matches: ArgMatches<'a>,
 }
 
-/// What one word is: the whole use of an option, or a name whose value is the next word.
-#[derive(Drop)]
-pub(crate) enum Word<'a> {
-    Whole(Use<'a>),
-    Waits(&'a [u8]),
+impl<'a> Model for Uses<'a> {
+    ghost use Rattle.std.specs.Prelude.{List};
+    ghost use Rattle.ab_words.specs.Uses.{Use};
+    ghost use Rattle.ab_words.specs.Found.{AnswersFound, uses_of};
+    ghost use Rattle.clap.specs.Words.{found_of};
+
+    ghost Value = { List Use };
+
+    ghost view = { λ u. uses_of (found_of u.matches) };
+
+    ghost invariant = { λ u. AnswersFound (found_of u.matches) };
 }
 
-/// What stands before and after the first `=`.
-fn parted(text: &[u8]) -> Option<(&[u8], &[u8])>
-    ensures { MatchOption result (parted text.now ≡ None) (λ p. parted text.now ≡ Some (p.0.now, p.1.now)) }
-{
-    split_first(text, b'=')
-}
-
-/// What a word of this name, behind its `--`, is.
-fn opened_by(name: &[u8]) -> Word<'_>
-    ensures { opened_seen result ≡ opened_by name.now (parted name.now) }
-{
-    match parted(name) {
-        Some((front, value)) => Word::Whole(Use {
-            name: front,
-            value: Some(value),
-        }),
-        None => {
-            if name == b"trace".as_slice() {
-                Word::Whole(Use { name, value: None })
-            } else {
-                Word::Waits(name)
-            }
+impl<'a> Uses<'a> {
+    /// The value of an option that is used once.
+    pub(crate) fn value_of(&self, name: &str) -> Option<&'a [u8]>
+        requires { is_flag name.now ≡ false }
+        ensures { text_at result ≡ value_of name.now self.now }
+    {
+        match self.matches.get_str(name) {
+            None => None,
+            Some(value) => Some(value.as_bytes()),
         }
     }
+
+    /// Whether the flag is used.
+    pub(crate) fn trace(&self) -> bool
+        ensures { flag (of_name (codes "trace") self.now) ≡ Some result }
+    {
+        self.matches.get_flag(TRACE)
+    }
 }
 
-/// What one word is.
-#[tactic(auto, unfolding(crate::specs::Uses::opened))]
-fn opened(word: &[u8]) -> Option<Word<'_>>
-    ensures { MatchOption result (opened word.now ≡ None) (λ o. opened word.now ≡ Some (opened_seen o)) }
+/// Whether an option is a flag.
+fn is_flag(name: &str) -> bool
+    ensures { result ≡ is_flag name.now }
 {
-    match after(word, b"--") {
-        None => None,
-        Some(name) => Some(opened_by(name)),
-    }
+    name == TRACE
 }
 
-/// Takes one word more: the name that waits for its value afterwards, or None where the word is no use.
-fn take<'a>(
-    done: &mut Vec<Use<'a>>,
-    waiting: Option<&'a [u8]>,
-    word: &'a [u8],
-) -> Result<Option<Option<&'a [u8]>>, OutOfMemory>
-    ensures { IfOk result (λ r. MatchOption r
-        (with_word (record { done = uses_seen done.old.items; waiting = text_at waiting.entry }) (text_at waiting.entry) word.entry.now ≡ None)
-        (λ next. with_word (record { done = uses_seen done.old.items; waiting = text_at waiting.entry }) (text_at waiting.entry) word.entry.now
-        ≡ Some (record { done = uses_seen done.new.items; waiting = text_at next }))) }
+/// What is done at a use.
+fn action_for(flag: bool) -> ArgAction
+    ensures { result ≡ action_for flag }
 {
-    if let Some(name) = waiting {
-        done.push(Use {
-            name,
-            value: Some(word),
-        })?;
-        return Ok(Some(None));
-    }
-    match opened(word) {
-        None => Ok(None),
-        Some(Word::Waits(name)) => Ok(Some(Some(name))),
-        Some(Word::Whole(used)) => {
-            done.push(used)?;
-            Ok(Some(None))
-        }
+    if flag {
+        ArgAction::SetTrue
+    } else {
+        ArgAction::Set
     }
 }
 
-/// The uses of options that the words are.
-#[tactic(auto, unfolding(crate::specs::Uses::uses_in))]
+/// An option.
+fn option<'a>(alloc: Global, name: &'a str) -> Arg<'a>
+    ensures rule { rule_of result ≡ rule_named name.entry.now }
+    ensures local { result.global ≡ false }
+{
+    let flag = is_flag(name);
+    Arg::new(alloc, name)
+        .long(name)
+        .action(action_for(flag))
+        .required(!flag)
+}
+
+/// A command of these options.
+fn command_with<'a>(alloc: Global, names: &'a [&'a str]) -> Result<Command<'a>, AllocError>
+    ensures { IfOk result (λ c. app_of c ≡ app_with (texts names.entry.now)) }
+{
+    let mut command = Command::new(alloc, "abstract_bft")
+        .no_binary_name(true)
+        .disable_help_flag(true);
+    for name in names {
+        command = command.arg(option(alloc, name))?;
+    }
+    Ok(command)
+}
+
+/// Whether a word is `--`, with which clap ends the options.
+fn has_dashes(words: &[&str]) -> bool
+    ensures { result ≡ list_any (λ w. bytes_eq w.now dashes) words.now }
+{
+    words.iter().any(|word| *word == "--")
+}
+
+/// The uses of these options that the words are.
 pub(crate) fn uses_in<'a>(
     alloc: Global,
+    names: &'a [&'a str],
     words: &'a [&'a str],
-) -> Result<Option<Vec<Use<'a>>>, OutOfMemory>
-    ensures { IfOk result (λ r. MatchOption r (uses_in (texts words.now) ≡ None) (λ v. uses_in (texts words.now) ≡ Some (uses_seen v.items))) }
+) -> Result<Option<Uses<'a>>, OutOfMemory>
+    requires { are_names (texts names.now) ≡ true }
+    ensures { IfOk result (λ r. MatchOption r (Refuses (texts names.entry.now) (texts words.entry.now))
+        (λ u. (uses_in (texts words.entry.now) ≡ Some u) × HasOnly (texts names.entry.now) u)) }
 {
-    let mut done = Vec::new(alloc);
-    let mut waiting: Option<&'a [u8]> = None;
-    for word in words {
-        match take(&mut done, waiting, word.as_bytes())? {
-            None => return Ok(None),
-            Some(next) => waiting = next,
-        }
+    if has_dashes(words) {
+        return Ok(None);
     }
-    match waiting {
-        None => Ok(Some(done)),
-        Some(_) => Ok(None),
+    match command_with(alloc, names)?.try_get_matches_from(words) {
+        Ok(matches) => Ok(Some(Uses { matches })),
+        Err(error) => {
+            if error.kind() == ErrorKind::OutOfMemory {
+                Err(OutOfMemory)
+            } else {
+                Ok(None)
+            }
+        }
     }
 }

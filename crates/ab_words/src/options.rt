@@ -1,0 +1,24 @@
+//! The options: their names, and which each command has.
+
+pub(crate) const BASE: &str = "base";
+pub(crate) const CLIENTS: &str = "clients";
+pub(crate) const EVENTS: &str = "events";
+pub(crate) const F: &str = "f";
+pub(crate) const LMS: &str = "lms";
+pub(crate) const PARTY: &str = "party";
+pub(crate) const PLAN: &str = "plan";
+pub(crate) const SEED: &str = "seed";
+pub(crate) const SERVICE: &str = "service";
+/// The only flag, which takes no value and may be missing.
+pub(crate) const TRACE: &str = "trace";
+pub(crate) const TURNS: &str = "turns";
+pub(crate) const WAIT: &str = "wait";
+
+/// The options of the command `keys`.
+pub(crate) const KEYS: &[&str] = &[PLAN, F, CLIENTS, SERVICE, LMS, SEED, PARTY];
+
+/// The options of the command `storm`.
+pub(crate) const STORM: &[&str] = &[PLAN, F, CLIENTS, SEED, EVENTS];
+
+/// The options of the command `node`.
+pub(crate) const NODE: &[&str] = &[BASE, WAIT, TURNS, TRACE];
