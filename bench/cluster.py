@@ -10,8 +10,11 @@ comes of it, so the lines of the file are a schedule in which nothing is taken b
 
 It fails where a node hangs past its turns, where two nodes' commits of one number differ, or where the replay doesn't
 commit exactly what the nodes did, or says anything but `premise held`."""
+
 import argparse
-import os
+import contextlib
+import itertools
+import pathlib
 import random
 import socket
 import subprocess
@@ -19,126 +22,182 @@ import sys
 import tempfile
 import time
 
-HERE = os.path.dirname(os.path.abspath(__file__))
-PROGRAM = os.environ.get('ABSTRACT_BFT', os.path.join(HERE, '..', 'crates', 'abstract_bft', 'out', 'abstract_bft'))
-SEED = '0' * 64
+from timing import PROGRAM
+
+SEED = "0" * 64
+HOST = "127.0.0.1"
+REPLICAS = 4
+BASES = itertools.count(21_000, 200)
 
 
-def arguments():
-    p = argparse.ArgumentParser()
-    p.add_argument('--plan', default='quorum')
-    p.add_argument('--clients', type=int, default=1)
-    p.add_argument('--commands', type=int, default=1000)
-    p.add_argument('--wait', type=int, default=200)
-    p.add_argument('--base', type=int, default=21000)
-    p.add_argument('--lms', default='10')
-    p.add_argument('--stop')
-    p.add_argument('--noise', action='store_true')
-    p.add_argument('--quiet', action='store_true')
-    return p.parse_args()
+def free_base():
+    """A number such that the ports of a cluster that begins there are free. No two calls give the same."""
+    for base in BASES:
+        with contextlib.ExitStack() as sockets, contextlib.suppress(OSError):
+            for port in (*range(base, base + 7), *range(base + 100, base + 116)):
+                held = sockets.enter_context(socket.socket(socket.AF_INET, socket.SOCK_DGRAM))
+                held.bind((HOST, port))
+            return base
 
 
-def node_text(a, party, commands):
-    words = ['keys', '--plan', a.plan, '--f', '1', '--clients', str(a.clients), '--service', 'kv', '--lms', a.lms,
-             '--seed', SEED, '--party', party]
-    keys = subprocess.run([PROGRAM] + words, capture_output=True, check=True).stdout
-    return keys + b''.join(b'do %s\n' % c for c in commands) + b'end\n'
+class Cluster:
+    """The nodes of a cluster with f 1, as processes whose lines go to one file."""
+
+    def __init__(self, folder, asked):
+        self.folder, self.asked = pathlib.Path(folder), asked
+        self.lines = self.folder / "lines"
+        self.nodes = {}
+
+    def start(self, party, commands, turns, wait):
+        words = ["node", "--base", self.asked.base, "--wait", wait, "--turns", turns]
+        if not self.asked.quiet:
+            words.append("--trace")
+        # The text comes from a file, so that nothing waits for this script.
+        text = self.folder / party
+        text.write_bytes(self.keys(party) + b"".join(b"do %s\n" % it for it in commands) + b"end\n")
+        with text.open("rb") as given, self.lines.open("ab") as taken:
+            self.nodes[party] = subprocess.Popen(
+                [PROGRAM, *map(str, words)], stdin=given, stdout=taken, stderr=subprocess.PIPE
+            )
+
+    def keys(self, party):
+        asked = self.asked
+        words = ["--plan", asked.plan, "--f", "1", "--clients", str(asked.clients), "--service", "kv", "--lms", asked.lms]
+        words = [PROGRAM, "keys", *words, "--seed", SEED, "--party", party]
+        return subprocess.run(words, capture_output=True, check=True).stdout
+
+    def wait_for_ports(self, seconds):
+        """Waits until each replica listens: nobody answers a datagram to a port that isn't open but the system, which refuses it."""
+        end = time.monotonic() + seconds
+        for port in range(self.asked.base, self.asked.base + REPLICAS):
+            while time.monotonic() < end and not is_open(port):
+                time.sleep(0.01)
+
+    def running(self):
+        return [party for party, node in self.nodes.items() if node.poll() is None]
+
+    def stop(self):
+        """Stops the nodes that still run, and returns the statuses of all, and what they said."""
+        for party in self.running():
+            self.nodes[party].kill()
+        said = {party: node.communicate()[1].decode() for party, node in self.nodes.items()}
+        return {party: node.returncode for party, node in self.nodes.items()}, said
+
+    def lines_of(self, *words):
+        """Its lines that begin with one of these words."""
+        return [line for line in self.lines.read_bytes().splitlines() if line.split(b" ")[0] in words]
+
+    def replies(self):
+        """What was committed: stamp, instance, number and reply of each."""
+        words = [line.decode().split(" ") for line in self.lines_of(b"reply")]
+        return sorted((int(w[1]), int(w[2]), int(w[3]), " ".join(w[4:])) for w in words)
+
+    def replayed(self):
+        """The report of all its events, and what is said of them."""
+        asked = self.asked
+        head = ["abstract 1", "f 1", f"plan {asked.plan}", f"clients {asked.clients}", "service kv", f"lms {asked.lms}", "run"]
+        lines = [*(line.encode() for line in head), *self.lines_of(b"invoke", b"inject", b"timeout"), b"end", b""]
+        done = subprocess.run([PROGRAM, "replay"], input=b"\n".join(lines), capture_output=True)
+        return done.stdout.decode().splitlines(), done.stderr.decode()
 
 
-def start(a, party, commands, turns, trace):
-    words = ['node', '--base', str(a.base), '--wait', str(a.wait), '--turns', str(turns)]
-    if not a.quiet:
-        words.append('--trace')
-    # The text comes from a file, so that nothing waits for this script.
-    text = tempfile.TemporaryFile()
-    text.write(node_text(a, party, commands))
-    text.seek(0)
-    return subprocess.Popen([PROGRAM] + words, stdin=text, stdout=trace, stderr=subprocess.PIPE)
-
-
-def lines_of(path):
-    with open(path, 'rb') as f:
-        return f.read().split(b'\n')
-
-
-def replies(path):
-    return sum(1 for line in lines_of(path) if line.startswith(b'reply '))
-
-
-def make_noise(a, rng, sock):
-    ports = [a.base + r for r in range(4)] + [a.base + 100 + c for c in range(a.clients)]
-    for port in ports:
-        size = rng.choice([0, 1, 16, 17, 100, 8208])
-        data = bytes(rng.randrange(256) for _ in range(size))
-        if size >= 17 and rng.random() < 0.5:
-            data = b'\x01\x00\x00' + bytes([rng.randrange(4)]) + data[4:13] + b'\x00\x00\x00\x01' + data[17:]
-        sock.sendto(data, ('127.0.0.1', port))
-
-
-def replayed(a, path):
-    head = ['abstract 1', 'f 1', 'plan ' + a.plan, f'clients {a.clients}', 'service kv', 'lms ' + a.lms, 'run']
-    events = [line for line in lines_of(path) if line.split(b' ')[0] in (b'invoke', b'inject', b'timeout')]
-    schedule = '\n'.join(head).encode() + b'\n' + b''.join(e + b'\n' for e in events) + b'end\n'
-    done = subprocess.run([PROGRAM, 'replay'], input=schedule, capture_output=True)
-    return done.stdout.decode().split('\n'), done.stderr.decode()
+def is_open(port):
+    """Whether somebody takes datagrams at this port. Who does gets one that is no piece."""
+    with socket.socket(socket.AF_INET, socket.SOCK_DGRAM) as probe:
+        probe.settimeout(0.05)
+        probe.connect((HOST, port))
+        try:
+            probe.send(b"?")
+            probe.recv(1)
+        except ConnectionRefusedError:
+            return False
+        except TimeoutError:
+            return True
+    return True
 
 
 def commits_of(report):
-    # commit E C I K N REPLY
-    return sorted((int(w[4]), int(w[3]), int(w[5]), ' '.join(w[6:])) for w in (l.split(' ') for l in report) if w[0] == 'commit')
+    """The same as `Cluster.replies`, from the lines `commit E C I K N REPLY` of a report."""
+    words = [line.split(" ") for line in report if line.startswith("commit ")]
+    return sorted((int(w[4]), int(w[3]), int(w[5]), " ".join(w[6:])) for w in words)
 
 
-def replies_of(path):
-    # reply K I N REPLY
-    lines = [line.decode().split(' ') for line in lines_of(path) if line.startswith(b'reply ')]
-    return sorted((int(w[1]), int(w[2]), int(w[3]), ' '.join(w[4:])) for w in lines)
+def make_noise(asked, rng, sender):
+    ports = [*range(asked.base, asked.base + REPLICAS), *range(asked.base + 100, asked.base + 100 + asked.clients)]
+    for port in ports:
+        data = rng.randbytes(rng.choice([0, 1, 16, 17, 100, 8208]))
+        if len(data) >= 17 and rng.random() < 0.5:
+            data = b"\x01\x00\x00" + bytes([rng.randrange(REPLICAS)]) + data[4:13] + b"\x00\x00\x00\x01" + data[17:]
+        sender.sendto(data, (HOST, port))
+
+
+def run(cluster, asked):
+    """Lets the clients' commands be answered, and returns the seconds that took."""
+    for r in range(REPLICAS):
+        cluster.start(f"r{r}", [], 1_000_000_000, asked.wait)
+    cluster.wait_for_ports(60)
+    begin = time.monotonic()
+    clients = [f"c{c}" for c in range(asked.clients)]
+    for client in clients:
+        commands = [b"put k%s_%d v%d" % (client[1:].encode(), n % 50, n) for n in range(asked.commands)]
+        cluster.start(client, commands, 100 * asked.commands + 1000, asked.wait)
+    victim, count = asked.stop.split("@") if asked.stop else (None, 0)
+    rng, limit = random.Random(7), begin + 60 + asked.commands * asked.clients
+    with socket.socket(socket.AF_INET, socket.SOCK_DGRAM) as sender:
+        while not set(clients).isdisjoint(cluster.running()) and time.monotonic() < limit:
+            if asked.noise:
+                make_noise(asked, rng, sender)
+            if victim and len(cluster.lines_of(b"reply")) >= int(count):
+                cluster.nodes[victim].kill()
+                victim = None
+            time.sleep(0.005 if asked.noise or victim else 0.05)
+    return time.monotonic() - begin
+
+
+def compared(cluster):
+    """Tells what the replay of all traces says beside the nodes, and returns whether they agree."""
+    report, fault = cluster.replayed()
+    premise = [line for line in report if line.startswith("premise")]
+    replies, numbers = cluster.replies(), {}
+    same = commits_of(report) == replies
+    differ = any(numbers.setdefault((instance, number), reply) != reply for _, instance, number, reply in replies)
+    print(
+        f"replay of all traces: {premise} {report[-1:]} {fault.strip()}; its commits are those of the nodes: {same}; "
+        f"replies of one number that differ: {differ}"
+    )
+    return same and not differ and premise == ["premise held"]
+
+
+def options():
+    parser = argparse.ArgumentParser()
+    parser.add_argument("--plan", default="quorum")
+    parser.add_argument("--clients", type=int, default=1)
+    parser.add_argument("--commands", type=int, default=1000)
+    parser.add_argument("--wait", type=int, default=200)
+    parser.add_argument("--base", type=int, default=21000)
+    parser.add_argument("--lms", default="10")
+    parser.add_argument("--stop")
+    parser.add_argument("--noise", action="store_true")
+    parser.add_argument("--quiet", action="store_true")
+    return parser.parse_args()
 
 
 def main():
-    a = arguments()
-    folder = tempfile.mkdtemp()
-    path = os.path.join(folder, 'trace')
-    trace = open(path, 'ab')
-    stop_at = None
-    if a.stop:
-        who, count = a.stop.split('@')
-        stop_at = (int(who[1:]), int(count))
-    replicas = [start(a, f'r{r}', [], 1_000_000_000, trace) for r in range(4)]
-    time.sleep(2)
-    begin = time.time()
-    clients = []
-    for c in range(a.clients):
-        commands = [b'put k%d_%d v%d' % (c, n % 50, n) for n in range(a.commands)]
-        clients.append(start(a, f'c{c}', commands, 100 * a.commands + 1000, trace))
-    rng, sock = random.Random(7), socket.socket(socket.AF_INET, socket.SOCK_DGRAM)
-    limit = time.time() + 60 + a.commands * a.clients
-    while any(c.poll() is None for c in clients) and time.time() < limit:
-        if a.noise:
-            make_noise(a, rng, sock)
-        if stop_at and replies(path) >= stop_at[1]:
-            replicas[stop_at[0]].kill()
-            stop_at = None
-        time.sleep(0.005 if a.noise or stop_at else 0.05)
-    seconds = time.time() - begin
-    statuses = [c.poll() for c in clients]
-    for p in replicas + clients:
-        if p.poll() is None:
-            p.kill()
-    said = [p.stderr.read().decode().strip() for p in replicas + clients]
-    answered = replies(path)
-    print(f'{answered} of {a.commands * a.clients} commands answered in {seconds:.2f} s, {answered / seconds:.0f} a second')
-    print(f'clients ended with {statuses}; said: {[s for s in said if s]}')
-    bad = None in statuses
-    if not a.quiet:
-        report, fault = replayed(a, path)
-        premise = [l for l in report if l.startswith('premise')]
-        same = commits_of(report) == replies_of(path)
-        numbers = {}
-        differ = any(numbers.setdefault((i, n), r) != r for _, i, n, r in replies_of(path))
-        print(f'replay of all traces: {premise} {report[-2:-1]} {fault.strip()}; its commits are those of the nodes: {same}; '
-              f'replies of one number that differ: {differ}')
-        bad = bad or not same or differ or premise != ['premise held']
-    sys.exit(1 if bad else 0)
+    asked = options()
+    with tempfile.TemporaryDirectory() as folder:
+        cluster = Cluster(folder, asked)
+        try:
+            seconds = run(cluster, asked)
+            hang = [party for party in cluster.running() if party.startswith("c")]
+        finally:
+            statuses, said = cluster.stop()
+        answered = len(cluster.replies())
+        print(f"{answered} of {asked.commands * asked.clients} commands answered in {seconds:.2f} s, {answered / seconds:.0f} a second")
+        clients = [status for party, status in statuses.items() if party.startswith("c")]
+        print(f"clients ended with {clients}; said: {[it.strip() for it in said.values() if it]}")
+        good = not hang and (asked.quiet or compared(cluster))
+    sys.exit(0 if good else 1)
 
 
-main()
+if __name__ == "__main__":
+    main()

@@ -7,14 +7,16 @@ of the input, write of the output, write of the faults' output, opening of the p
 Each run has to end as the table of statuses says, with the text of its status, and with a front of what it writes without
 the fault. A datagram that couldn't be sent is a loss, and the node goes on. What is otherwise is told, and the status is then
 1. It needs a C compiler."""
-import os
+
+import pathlib
 import sys
 import tempfile
 
+from cluster import free_base
 from preload import built, ran
 from timing import TOP
 
-FAILER = r'''
+FAILER = r"""
 #define _GNU_SOURCE
 #include <dlfcn.h>
 #include <errno.h>
@@ -64,51 +66,63 @@ __attribute__((destructor)) static void tell(void) {
     FILE *f;
     if (path && (f = fopen(path, "w"))) { for (int i = 0; i < KINDS; i++) fprintf(f, "%ld ", counts[i]); fclose(f); }
 }
-'''
-KINDS = ('in', 'out', 'err', 'open', 'recv', 'send')
-SEED = '0' * 64
-KEYS = ['keys', '--plan', 'quorum', '--f', '1', '--clients', '1', '--service', 'kv', '--lms', '5', '--seed', SEED, '--party', 'c0']
+"""
+KINDS = ("in", "out", "err", "open", "recv", "send")
+SEED = "0" * 64
+KEYS = ["keys", *"--plan quorum --f 1 --clients 1 --service kv --lms 5 --party c0 --seed".split(), SEED]
+NODE = ["node", *"--wait 20 --turns 3 --base".split()]
 
 
 def wanted(kind, good, failed):
     """Whether a run with a fault of this kind ended as it has to, and the run without."""
     (status, out, err), (good_status, good_out, good_err) = failed, good
     front = good_out.startswith(out)
-    if kind == 'in':
-        return (status, out, err) == (4, b'', b'read fault\n')
-    if kind == 'out':
-        return status == 5 and front and out != good_out and err == b'write fault\n'
-    if kind == 'err':
+    if kind == "in":
+        return (status, out, err) == (4, b"", b"read fault\n")
+    if kind == "out":
+        return status == 5 and front and out != good_out and err == b"write fault\n"
+    if kind == "err":
         return status == 5 and out == good_out and good_err.startswith(err) and err != good_err
-    if kind in ('open', 'recv'):
-        return status == 6 and front and out != good_out and err == b'link fault\n'
+    if kind in ("open", "recv"):
+        return status == 6 and front and out != good_out and err == b"link fault\n"
     events, sent, lost, spent = (int(n) for n in good_out.split()[1:])
-    return (status, out, err) == (good_status, b'end %d %d %d %d\n' % (events, sent, lost + 1, spent), good_err)
+    return (status, out, err) == (good_status, b"end %d %d %d %d\n" % (events, sent, lost + 1, spent), good_err)
 
 
-def main():
-    folder = tempfile.mkdtemp()
-    library, counts = built(folder, FAILER), os.path.join(folder, 'counts')
-    with open(TOP / 'examples' / 'two_clients_cross.sched', 'rb') as f:
-        schedule = f.read()
-    node = ran(KEYS, b'')[1] + b'do put a 1\nend\n'
-    cases = [('replay', ['replay'], schedule), ('replay, a bad line', ['replay'], b'x'), ('keys', KEYS, b''),
-             ('node', ['node', '--base', '24000', '--wait', '20', '--turns', '3'], node)]
-    bad = runs = 0
-    for name, words, text in cases:
-        good = ran(words, text, LD_PRELOAD=library, COUNTS=counts)
-        with open(counts) as f:
-            made = [int(n) for n in f.read().split()]
+def commands():
+    """The runs that are tried: a name, the words and the input of each."""
+    schedule = (TOP / "examples" / "two_clients_cross.sched").read_bytes()
+    node = ran(KEYS, b"")[1] + b"do put a 1\nend\n"
+    yield "replay", ["replay"], schedule
+    yield "replay, a bad line", ["replay"], b"x"
+    yield "keys", KEYS, b""
+    yield "node", [*NODE, str(free_base())], node
+
+
+def tried(folder):
+    """Yields, of each run in which a call fails, its name, and how it ended if not as it has to, else None."""
+    library, counts = built(folder, FAILER), pathlib.Path(folder, "counts")
+    for name, words, text in commands():
+        good = ran(words, text, LD_PRELOAD=library, COUNTS=str(counts))
+        made = [int(count) for count in counts.read_text().split()]
         for kind, last in zip(KINDS, made):
             for number in sorted({1, 2, last} & set(range(1, last + 1))):
                 failed = ran(words, text, LD_PRELOAD=library, FAIL_KIND=kind, FAIL_NUMBER=str(number))
-                runs += 1
-                if not wanted(kind, good, failed):
-                    bad += 1
-                    print(f'{name}, {kind} {number} of {last}: {failed}, without the fault {good}')
-        print(f'{name}: status {good[0]}; calls {dict(zip(KINDS, made))}')
-    print(f'{runs} runs with a fault, {bad} of them not as they have to be')
+                ended = None if wanted(kind, good, failed) else f"{failed}, and without the fault {good}"
+                yield f"{name}, {kind} {number} of {last}", ended
+
+
+def main():
+    bad = runs = 0
+    with tempfile.TemporaryDirectory() as folder:
+        for name, ended in tried(folder):
+            runs += 1
+            if ended:
+                bad += 1
+                print(f"{name}: {ended}")
+    print(f"{runs} runs with a fault, {bad} of them not as they have to be")
     sys.exit(1 if bad else 0)
 
 
-main()
+if __name__ == "__main__":
+    main()

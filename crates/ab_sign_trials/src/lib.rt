@@ -10,4 +10,6 @@ mod rings;
 #[cfg(test)]
 mod signers;
 #[cfg(test)]
+mod standard;
+#[cfg(test)]
 mod trees;
