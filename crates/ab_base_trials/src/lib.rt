@@ -1,4 +1,4 @@
-//! Tests of numbers, digests, tags, parts of bytes, and the outside: apart from their crates, so that none is proved once more.
+//! Tests of numbers, digests, tags, parts of bytes, the outside, histories and services: apart from their crates, so that none is proved once more.
 #![tactic(auto)]
 
 #[cfg(test)]
@@ -6,10 +6,16 @@ mod datagrams;
 #[cfg(test)]
 mod digests;
 #[cfg(test)]
+mod echo;
+#[cfg(test)]
+mod histories;
+#[cfg(test)]
 mod numbers;
 #[cfg(test)]
 mod outside;
 #[cfg(test)]
 mod parts;
+#[cfg(test)]
+mod stores;
 #[cfg(test)]
 mod tags;

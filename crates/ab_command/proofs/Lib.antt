@@ -4,3 +4,5 @@ pub mod NodeStatuses
 pub mod Settled
 pub mod StatusLemmas
 pub mod StormWords
+pub mod OfStorm
+pub mod ScheduleSettled

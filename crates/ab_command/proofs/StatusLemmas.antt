@@ -30,7 +30,7 @@ use Rattle.ab_kv.specs.KvMachines.{kv_machine}
 use Rattle.ab_replay.specs.declared.refusal.Refusal.{Refusal}
 use Rattle.ab_replay.specs.declared.running.ReplayFault.{ReplayFault}
 use Rattle.ab_replay.specs.declared.running.ReplayFault.TheVariants as replaying
-use Rattle.ab_storm_run.specs.Runs.{Storms}
+use Rattle.ab_storm.specs.Runs.{Storms}
 use Rattle.ab_command.specs.Endings.{HasInput, Says, SaysNoMemory, Settles, WritesOrSays}
 use Rattle.ab_command.specs.Outputs.{Output, Gets, GetsFront, HasFailed, IsKept}
 use Rattle.ab_command.specs.Statuses.{StatusCause, HasFront, HasReport, HasSummary, IsToldWhole, Passes, kv, IsClear, IsClearForKeys, IsClearForStorm, premise_code}

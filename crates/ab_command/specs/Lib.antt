@@ -5,3 +5,5 @@ pub mod Endings
 pub mod Outputs
 pub mod Statuses
 pub mod Texts
+pub mod ScheduleEndings
+pub mod Written

@@ -29,8 +29,8 @@ use Rattle.ab_command.specs.Commands.{AsksKeys, AsksNode, AsksStorm, IsNoCommand
 use Rattle.ab_command.specs.Endings.{HasInput, FailsToWrite, Says, SaysNoMemory}
 use Rattle.ab_command.specs.Outputs.{Gets, GetsFront, HasFailed, IsKept}
 use Rattle.ab_replay.specs.Replays.{Replays, IsRefused, HasTooManyEvents, HasTooManyBytes, Runs}
-use Rattle.ab_storm_run.specs.Runs.{Storms, StormsTo}
-use Rattle.ab_storm_run.specs.Summaries.{summary_of}
+use Rattle.ab_storm.specs.Runs.{Storms, StormsTo}
+use Rattle.ab_storm.specs.Summaries.{summary_of}
 
 -- out got the report of the run that the input spells, and nothing else. Its premise line says `held` or `broken`
 abbrev pub HasReport : Bool → Call → Type 0

@@ -17,7 +17,7 @@ use ab_kv::Kv;
 use ab_loop::ServeFault;
 use ab_node::{Stop, serve_text};
 use ab_replay::{AnyProtocol, replay};
-use ab_storm_run::{StormFault, storm};
+use ab_storm::{StormFault, storm};
 use ab_text::one_reading;
 use ab_words::{Command, KeysCommand, NodeCommand, StormCommand, command_in};
 use std::alloc::Global;

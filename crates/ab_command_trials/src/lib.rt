@@ -8,4 +8,6 @@ mod nodes;
 #[cfg(test)]
 mod replays;
 #[cfg(test)]
+mod storms;
+#[cfg(test)]
 mod words;

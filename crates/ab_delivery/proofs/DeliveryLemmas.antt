@@ -8,7 +8,7 @@ use Rattle.ab_msg.specs.declared.message.Msg.{Msg}
 use Rattle.ab_msg.specs.declared.message.Msg.TheVariants as msg
 use Rattle.ab_msg.specs.Carried.{goes_to, parties_of}
 use Rattle.ab_msg.specs.Messages.{IsMessage, spell_message}
-use Rattle.ab_read.proofs.MessageLemmas.{message-law}
+use Rattle.ab_open.proofs.MessageLemmas.{message-law}
 use Rattle.ab_check.specs.Checks.{Check, Judge, checks, checked_from, checks_of, is_refused, is_right, outcome}
 use Rattle.ab_keys.specs.Keys.{is_party}
 use Rattle.ab_keys.specs.Rings.{Ring}

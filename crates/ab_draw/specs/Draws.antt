@@ -15,7 +15,7 @@ use Rattle.ab_replay.specs.Replays.{IsClusterOf, proto_of, run_in, setup_in}
 use Rattle.ab_picture.specs.declared.picture.Parcel.{Parcel}
 use Rattle.ab_picture.specs.declared.picture.Picture.{Picture}
 use Rattle.ab_picture.specs.Composed.{IsPicture, Tale}
-use Rattle.ab_svg.specs.Telling.{Tells}
+use Rattle.ab_picture.specs.Telling.{Tells}
 
 -- how many events are drawn
 abbrev pub most_drawn : ℕ

@@ -17,12 +17,11 @@ use ab_cast::Setup;
 use ab_io::Source;
 use ab_kv::Kv;
 use ab_num::{OutOfMemory, ServiceName};
-use ab_picture::{Picture, Told, compose};
+use ab_picture::{Picture, Told, compose, svg};
 use ab_replay::{
     AnyWorld, MOST_EVENTS, ReadFault, ReplayFault, fault_of, read_all, refusal_of_text, run_events,
 };
 use ab_svc::{Echo, Service};
-use ab_svg::svg;
 use ab_text::{Event, Head, Schedule, read_is_in_form, read_schedule};
 use std::alloc::Global;
 

@@ -1,10 +1,10 @@
 -- What the timer of a replica counts, whatever the kind of its instance.
 use Rattle.std.specs.Prelude.{ℕ, Option, None, if◌then◌else◌}
 use Rattle.ab_order.specs.Backups.{Backing, is_done}
-use Rattle.ab_pbft.specs.Rules.{pbft}
-use Rattle.ab_shelf.specs.Signing.{Signing, signing}
-use Rattle.ab_agreement.specs.Events.{turns_of}
-use Rattle.ab_choice.specs.Rules.{counted}
+use Rattle.ab_pbft_rules.specs.Rules.{pbft}
+use Rattle.ab_pbft_shelf.specs.Signing.{Signing, signing}
+use Rattle.ab_pbft.specs.Events.{turns_of}
+use Rattle.ab_plans.specs.ChoiceRules.{counted}
 use Rattle.ab_replay.specs.Protocols.{Any}
 
 -- a Backup over PBFT counts its turns until it is done

@@ -1,4 +1,7 @@
 -- Lemmas of this crate.
+pub mod Rows
+pub mod MessageLemmas
+pub mod ReadLemmas
 pub mod NamedLemmas
 pub mod OpenLemmas
 pub mod ContentLemmas

@@ -16,8 +16,8 @@ use Rattle.ab_msg.specs.declared.signed.Signed.{Signed}
 use Rattle.ab_msg.specs.Claims.{maker_of}
 use Rattle.ab_msg.specs.Contents.{spell_content}
 use Rattle.ab_msg.specs.Messages.{IsMessage, spell_message}
-use Rattle.ab_read.specs.Messages.{message_of}
-use Rattle.ab_read.proofs.MessageLemmas.{message-law}
+use Rattle.ab_open.specs.Messages.{message_of}
+use Rattle.ab_open.proofs.MessageLemmas.{message-law}
 use Rattle.ab_check.specs.Chains.{IsPlaced}
 use Rattle.ab_check.specs.Checks.{Check, Judge, Token, by_tag, checks, checked_from, checks_of, is_refused, is_right, outcome}
 use Rattle.ab_open.specs.declared.fault.OpenFault.TheVariants as fault

@@ -1,4 +1,5 @@
 -- The definitions that the contracts of this crate cite.
+pub mod Messages
 pub mod Named
 pub mod Claimed
 pub mod Opening

@@ -6,7 +6,7 @@ use Rattle.ab_form.specs.declared.bad.Bad.{Bad}
 use Rattle.ab_keys.specs.Keys.{is_party}
 use Rattle.ab_msg.specs.declared.message.Msg.{Msg}
 use Rattle.ab_msg.specs.Carried.{goes_to, parties_of}
-use Rattle.ab_read.specs.Messages.{message_of}
+use Rattle.ab_open.specs.Messages.{message_of}
 use Rattle.ab_check.specs.Checks.{Judge, checks}
 use Rattle.ab_open.specs.declared.fault.OpenFault.{OpenFault}
 use Rattle.ab_open.specs.declared.fault.OpenFault.TheVariants as fault

@@ -6,10 +6,10 @@ ghost use Rattle.ab_open.specs.Opening.{opening};
 
 use crate::checked::Checked;
 use crate::fault::OpenFault;
+use crate::reading::read;
 use crate::taking::takes;
 use ab_check::{Checker, check};
 use ab_num::{Cluster, Party};
-use ab_read::read;
 use std::alloc::Global;
 
 /// Opens bytes that came to a party of a cluster. Memory is taken only for what the checker remembers.

@@ -1,38 +1,21 @@
-//! What PBFT keeps.
+//! What holds of all that a replica sends.
 
-ghost use Rattle.std.specs.Prelude.{◌≡◌, ℕ, None, List};
-ghost use Rattle.std.specs.Str.{bytes_eq};
-ghost use Rattle.ab_abs.specs.Acts.{Setting, Act};
-ghost use Rattle.ab_abs.specs.Values.{goes};
-ghost use Rattle.ab_msg.specs.Slots.{slot_digest};
-ghost use Rattle.ab_lock.specs.Votes.{next};
-ghost use Rattle.ab_order.specs.Orders.{IsOneOrder};
-ghost use Rattle.ab_order.specs.Orderers.{IsReached, IsOrderly, IsLawfulOrderer};
-ghost use Rattle.ab_order.specs.Inputs.{handed, Given};
-ghost use Rattle.ab_pbft.specs.Traces.{IsPbftSound};
-ghost use Rattle.ab_pbft.specs.Locks.{AreLocked};
-ghost use Rattle.ab_pbft.specs.Rules.{Pbft, pbft};
-ghost use Rattle.ab_pbft.specs.Standing.{PbftStands};
+ghost use Rattle.std.specs.Prelude.{ℕ};
+ghost use Rattle.ab_num.specs.declared.cluster.Cluster.{Cluster};
+ghost use Rattle.ab_order.specs.Bytes.{ArisesAs, KeepsBytes};
+ghost use Rattle.ab_pbft_rules.specs.Rules.{pbft};
+ghost use Rattle.ab_pbft_shelf.specs.Signing.{Signing, signing};
+ghost use Rattle.ab_pbft.specs.Bounds.{IsInForm};
 
-/// PBFT's functions are a lawful orderer: whatever a replica is handed, over all views.
-pub fn pbft_is_lawful()
-    ensures orderly { IsOrderly handed pbft }
-    ensures lawful { IsLawfulOrderer handed pbft Given IsPbftSound PbftStands }
+/// The list that a replica executes has bytes, and what it sends is of the grammar but for the tags
+/// that sealing makes, if all that it was handed is of the grammar.
+pub fn replicas_keep_bytes()
+    ensures { KeepsBytes signing pbft }
 {}
 
-/// What correct replicas execute by PBFT's rules, over all views, is one order.
-pub fn pbft_is_one_order()
-    ensures { (x : Setting) (k : ℕ) (acts : List Act) → IsPbftSound x k acts → IsOneOrder x k acts }
-{}
-
-/// Where f + 1 correct replicas prepared a value in a slot, no correct one prepares another there, in that view or a
-/// later one.
-pub fn pbft_locks()
-    ensures { (x : Setting) (k : ℕ) (acts : List Act) → IsPbftSound x k acts → AreLocked x acts }
-{}
-
-/// Whatever a replica was handed, no PREPARE, no COMMIT and no execution that its votes allow is left
-/// undone.
-pub fn pbft_settles()
-    ensures { (k : ℕ) (p : Pbft) → IsReached pbft k p → next slot_digest bytes_eq goes p.seat.f p.memory.peer.core p.memory.peer.votes p.memory.peer.commits ≡ None }
+/// So what it keeps stays within the bounds of the grammar: views, slots, values, certificates and
+/// view changes. The signatures that it keeps are those of the votes and certificates that the
+/// rules keep.
+pub fn replicas_stay_in_form()
+    ensures { (c : Cluster) (i r : ℕ) (q : Signing) → ArisesAs signing c i r q → IsInForm c i r q }
 {}

@@ -1,9 +1,9 @@
-//! PBFT as an orderer, over all views: its rules at one replica as plain functions, and what the acts
-//! of correct replicas keep by them.
+//! PBFT as an orderer of requests, and that what its replicas keep and send has bytes.
 #![tactic(auto)]
 
-mod examples;
 mod laws;
+mod pbft;
+mod putting;
 
-pub use examples::{a_primary_executes, a_replica_alone_changes_views};
-pub use laws::{pbft_is_lawful, pbft_is_one_order, pbft_locks, pbft_settles};
+pub use laws::{replicas_keep_bytes, replicas_stay_in_form};
+pub use pbft::Pbft;

@@ -6,7 +6,7 @@ use ab_msg::{
     Value, Values, ViewEntries,
 };
 use ab_num::{Cluster, OutOfMemory, Party, Plan};
-use ab_reading::read;
+use ab_pbft_work::read;
 use ab_slots::Input;
 use arrayvec::ArrayVec;
 use std::alloc::Global;

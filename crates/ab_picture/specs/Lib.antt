@@ -2,3 +2,6 @@
 pub mod Composed
 pub mod Lanes
 pub mod Pictures
+pub mod Escaping
+pub mod Labels
+pub mod Telling

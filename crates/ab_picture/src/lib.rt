@@ -1,11 +1,19 @@
-//! What a picture of a run shows, as plain data: where each event was, an arrow for each delivery, a stub for
-//! each packet that is not delivered, and a mark for each line of the report.
+//! What a picture of a run shows, and its text as SVG.
 #![tactic(auto)]
 
 mod composing;
+mod escaping;
+mod frame;
+mod labels;
 mod lanes;
+mod layout;
+mod lines;
 mod marks;
+mod names;
+mod parts;
 mod picture;
+mod whole;
 
 pub use composing::compose;
 pub use picture::{Arrow, Cue, Lane, Mark, Moment, Parcel, Picture, Sign, Stub, Told};
+pub use whole::svg;

@@ -11,10 +11,10 @@ use Rattle.ab_abs.specs.Instances.{IsAbstract}
 use Rattle.ab_abs.specs.Acts.{Act, Setting, observations, named_in}
 use Rattle.ab_abs.specs.Ensembles.{Proto, entry_of}
 use Rattle.ab_abs.specs.FormLaws.{KeepsPlace, IsBlank, Belongs, begun, called, halted}
-use Rattle.ab_choice.specs.declared.choice.Choice.{Choice}
-use Rattle.ab_choice.specs.declared.choice.Choice.TheVariants.{First, Second}
-use Rattle.ab_choice.specs.Rules.{either, begins, choice, sound_by, stands_by}
-use Rattle.ab_choice.specs.Laws.{stays_law, nil_law, start_law, on_law, stop_law, others_law, act_law}
+use Rattle.ab_plans.specs.declared.choice.Choice.{Choice}
+use Rattle.ab_plans.specs.declared.choice.Choice.TheVariants.{First, Second}
+use Rattle.ab_plans.specs.ChoiceRules.{either, begins, choice, sound_by, stands_by}
+use Rattle.ab_plans.specs.ChoiceLaws.{stays_law, nil_law, start_law, on_law, stop_law, others_law, act_law}
 use Rattle.ab_plans.specs.Lawful.{IsLawfulProto}
 
 module _ {P Q : Type 0} (p : Proto P) (q : Proto Q) (serves_p serves_q : Kind → Bool) where

@@ -7,10 +7,10 @@ use Rattle.ab_order.specs.Inputs.{Input}
 use Rattle.ab_order.specs.Readings.{read}
 use Rattle.ab_order.specs.Backups.{Backing, is_done}
 use Rattle.ab_order.specs.Protos.{OrderProto, Obeys, told, backup}
-use Rattle.ab_pbft.specs.Rules.{Pbft, pbft}
-use Rattle.ab_pbft.specs.Examples as inputs
-use Rattle.ab_pbft.specs.Examples.{begun_with, voted}
-use Rattle.ab_pbft.proofs.Computed.{primary_executes, primary_based}
+use Rattle.ab_pbft_rules.specs.Rules.{Pbft, pbft}
+use Rattle.ab_pbft_rules.specs.Examples as inputs
+use Rattle.ab_pbft_rules.specs.Examples.{begun_with, voted}
+use Rattle.ab_pbft_rules.proofs.Computed.{primary_executes, primary_based}
 use Rattle.ab_run.specs.Examples.{one}
 use Rattle.ab_plans.specs.Examples.{cluster, messages, no_pen, after_all, primary}
 

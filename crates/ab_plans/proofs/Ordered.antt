@@ -14,14 +14,14 @@ use Rattle.ab_abs.specs.Order.{Ordered}
 use Rattle.ab_abs.specs.Promises.{ServesAll}
 use Rattle.ab_abs.specs.Ensembles.{Proto}
 use Rattle.ab_abs.proofs.Reach.{reached_abstract, reached_ordered}
-use Rattle.ab_choice.specs.Rules.{sound_by, stands_by}
+use Rattle.ab_plans.specs.ChoiceRules.{sound_by, stands_by}
 use Rattle.ab_order.specs.Protos.{OrderProto, Obeys, is_backup, backup, backup_sound, backup_stands}
 use Rattle.ab_order.proofs.ProtoLaws as laws
-use Rattle.ab_pbft.specs.Traces.{IsPbftSound}
-use Rattle.ab_pbft.specs.Rules.{Pbft, pbft}
-use Rattle.ab_pbft.specs.Standing.{PbftStands}
-use Rattle.ab_pbft.proofs.OrderlyOrderer.{pbft_orderly}
-use Rattle.ab_pbft.proofs.LawfulOrderer.{pbft_lawful}
+use Rattle.ab_pbft_rules.specs.Traces.{IsPbftSound}
+use Rattle.ab_pbft_rules.specs.Rules.{Pbft, pbft}
+use Rattle.ab_pbft_rules.specs.Standing.{PbftStands}
+use Rattle.ab_pbft_rules.proofs.OrderlyOrderer.{pbft_orderly}
+use Rattle.ab_pbft_rules.proofs.LawfulOrderer.{pbft_lawful}
 use Rattle.ab_zlight.specs.Rules.{is_zlight}
 use Rattle.ab_run.specs.Setups.{Setup}
 use Rattle.ab_run.specs.Runs.{Event, run, named_by}

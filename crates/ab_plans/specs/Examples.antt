@@ -15,7 +15,7 @@ use Rattle.ab_abs.specs.Ensembles.{entry_of}
 use Rattle.ab_run.specs.Examples.{four, one, req}
 use Rattle.ab_order.specs.Backups.{Backing}
 use Rattle.ab_order.specs.Protos.{OrderProto, backup}
-use Rattle.ab_pbft.specs.Rules.{Pbft, pbft}
+use Rattle.ab_pbft_rules.specs.Rules.{Pbft, pbft}
 
 -- PREPAREs and COMMITs of replica r in view 0 of instance 1
 abbrev pub prepare : ℕ → ℕ → List ℕ → Msg

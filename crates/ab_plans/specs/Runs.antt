@@ -7,11 +7,11 @@ use Rattle.ab_abs.specs.Members.{Member}
 use Rattle.ab_chain.specs.Rules.{Link, is_chain, chain}
 use Rattle.ab_quorum.specs.Rules.{is_quorum, quorum}
 use Rattle.ab_zlight.specs.Rules.{Light, is_zlight, zlight}
-use Rattle.ab_choice.specs.declared.choice.Choice.{Choice}
-use Rattle.ab_choice.specs.Rules.{choice, either}
+use Rattle.ab_plans.specs.declared.choice.Choice.{Choice}
+use Rattle.ab_plans.specs.ChoiceRules.{choice, either}
 use Rattle.ab_order.specs.Backups.{Backing}
 use Rattle.ab_order.specs.Protos.{OrderProto, is_backup, backup}
-use Rattle.ab_pbft.specs.Rules.{Pbft, pbft}
+use Rattle.ab_pbft_rules.specs.Rules.{Pbft, pbft}
 
 -- PBFT runs where the other protocol doesn't serve the kind of the instance
 abbrev pub with_backup : {S P Q : Type 0} → Machine S → Proto P → (Kind → Bool) → OrderProto Q Pbft → Proto (Choice P (Backing Q))

@@ -6,15 +6,15 @@ ghost use Rattle.ab_abs.specs.Instances.{EachIsAbstract};
 ghost use Rattle.ab_abs.specs.Order.{Ordered};
 ghost use Rattle.ab_abs.specs.Promises.{ServesAll};
 ghost use Rattle.ab_order.specs.Protos.{OrderProto, Obeys};
-ghost use Rattle.ab_pbft.specs.Rules.{Pbft, pbft};
+ghost use Rattle.ab_pbft_rules.specs.Rules.{Pbft, pbft};
 ghost use Rattle.ab_run.specs.Setups.{Setup};
 ghost use Rattle.ab_run.specs.Runs.{Event, run, named_by};
 ghost use Rattle.ab_run.specs.Premises.{RunPremises, AreFormed};
 ghost use Rattle.ab_plans.specs.Runs.{with_backup, served, azyzzyva, aliph};
 
+use crate::choice::Choice;
 use ab_abs::Protocol;
 use ab_chain::Chain;
-use ab_choice::Choice;
 use ab_quorum::Quorum;
 use ab_svc::Service;
 use ab_zlight::ZLight;

@@ -9,10 +9,10 @@ use Rattle.ab_zlight.specs.Rules.{Light, zlight, is_zlight}
 use Rattle.ab_chain.specs.Rules.{Link, chain, is_chain}
 use Rattle.ab_order.specs.Backups.{Backing}
 use Rattle.ab_order.specs.Protos.{backup, is_backup}
-use Rattle.ab_pbft.specs.Rules.{pbft}
-use Rattle.ab_shelf.specs.Signing.{Signing, signing}
-use Rattle.ab_choice.specs.declared.choice.Choice.{Choice}
-use Rattle.ab_choice.specs.Rules.{choice, either}
+use Rattle.ab_pbft_rules.specs.Rules.{pbft}
+use Rattle.ab_pbft_shelf.specs.Signing.{Signing, signing}
+use Rattle.ab_plans.specs.declared.choice.Choice.{Choice}
+use Rattle.ab_plans.specs.ChoiceRules.{choice, either}
 
 -- a replica of Quorum, of ZLight, of Chain, or of Backup over PBFT
 abbrev pub Any : Type 0

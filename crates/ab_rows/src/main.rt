@@ -6,7 +6,7 @@
 ghost use Rattle.ab_wire.specs.Views.{IsReceived};
 
 use ab_num::OutOfMemory;
-use ab_read::{Bad, MsgRef, read};
+use ab_open::{Bad, MsgRef, read};
 use ab_write::write;
 use std::alloc::Global;
 use std::io;

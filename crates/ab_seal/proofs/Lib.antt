@@ -1,4 +1,5 @@
 -- Lemmas of this crate.
+mod StatedLemmas
 pub mod ReceiverLemmas
 pub mod DraftLemmas
 pub mod FreshLemmas

@@ -1,15 +1,18 @@
-//! Who signs for a replica, and who tells whether a tag or a signature is right.
+//! Who signs for a replica, who tells whether a tag or a signature is right, and the signatures that are known to verify.
 #![tactic(auto)]
 
 mod key;
+mod known;
 mod laws;
 mod pen;
 mod published;
 mod secret;
 mod signers;
+mod sure;
 mod verifier;
 
 pub use key::SignKey;
+pub use known::Known;
 pub use laws::signatures_are_right;
 pub use pen::Pen;
 pub use secret::SecretKey;

@@ -6,9 +6,9 @@ ghost use Rattle.ab_lms.specs.Verified.{verified};
 ghost use Rattle.ab_sign.specs.Signers.{derived_key, derived_keys, leaves_of, public_of, signature_of};
 
 use crate::key::SignKey;
+use crate::known::Known;
 use crate::secret::SecretKey;
 use ab_keys::{tree_name, tree_seed};
-use ab_known::Known;
 use ab_lms::verify;
 use ab_num::{Cluster, Height, OutOfMemory};
 use std::alloc::Global;

@@ -1,8 +1,8 @@
 //! A signature is computed once.
 
-use ab_known::Known;
 use ab_lms::Signer;
 use ab_num::Height;
+use ab_sign::Known;
 use std::alloc::Global;
 use std::process::Abort;
 

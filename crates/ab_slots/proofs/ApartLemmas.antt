@@ -4,7 +4,7 @@ use Rattle.std.specs.Prelude.{nat_eq}
 use Rattle.std.specs.List.{list_any}
 use Rattle.std.proofs.Math.Seq.{drop-cons}
 use Rattle.ab_order.specs.Inputs.{ChangeInput}
-use Rattle.ab_pbft.specs.Rules.{all_apart}
+use Rattle.ab_pbft_rules.specs.Rules.{all_apart}
 
 front_of : {A : Type 0} → (xs : List A) (i : ℕ) (x : A) → i < length xs → x ≡ get_or xs i x → drop i xs ≡ x ∷ drop (i + 1) xs
 front_of xs i x lt is =

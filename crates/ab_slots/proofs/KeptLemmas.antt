@@ -9,7 +9,7 @@ use Rattle.std.proofs.lemmas.Bool.{cases_Bool}
 use Rattle.std.proofs.lemmas.Bool.Decides.{nat_tests}
 use Rattle.ab_msg.specs.declared.value.Value.{Value}
 use Rattle.ab_lock.specs.ViewChanges.{Kept, of_view, put}
-use Rattle.ab_pbft.specs.Rules.{without}
+use Rattle.ab_pbft_rules.specs.Rules.{without}
 use Rattle.ab_slots.specs.Places.{place_by, is_by}
 
 pub of_view_counted : (kept : List (Kept Value)) (w : ℕ) → length (of_view kept w) ≡ count_by (λ u. u.view == w) kept

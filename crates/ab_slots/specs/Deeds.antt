@@ -2,8 +2,8 @@
 use Rattle.std.specs.Prelude.{ℕ, Option, Some, None, List, [], ◌∷◌, length, map, flat_map, pred, slice_get}
 use Rattle.ab_msg.specs.declared.value.Value.{Value}
 use Rattle.ab_lock.specs.Steps.{accepts, signs, prepares, changes, enters, executes}
-use Rattle.ab_pbft.specs.Traces.{pair_of}
-use Rattle.ab_pbft.specs.Rules.{Doing, takes_step, offers, leads}
+use Rattle.ab_pbft_rules.specs.Traces.{pair_of}
+use Rattle.ab_pbft_rules.specs.Rules.{Doing, takes_step, offers, leads}
 use Rattle.ab_slots.specs.declared.deed.Deed.{Deed}
 use Rattle.ab_slots.specs.declared.deed.Deed.TheVariants.{Signs, Prepares, Changes, Enters, Offers, Leads}
 

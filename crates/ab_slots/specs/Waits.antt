@@ -4,7 +4,7 @@ use Rattle.std.specs.List.{list_any}
 use Rattle.ab_hist.specs.declared.request.Request.{Request}
 use Rattle.ab_hist.specs.Histories.{place_in}
 use Rattle.ab_abs.specs.Values.{list_of}
-use Rattle.ab_pbft.specs.Rules.{Memory}
+use Rattle.ab_pbft_rules.specs.Rules.{Memory}
 
 -- one of these requests is missing from a list
 abbrev pub lacks_some : List Request → List Request → Bool

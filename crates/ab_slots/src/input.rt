@@ -2,7 +2,7 @@
 
 ghost use Rattle.std.specs.Prelude.{◌≡◌, ◌==◌, ◌&&◌, nat_eq, IfOk, map};
 ghost use Rattle.std.specs.List.{list_all, list_any};
-ghost use Rattle.ab_pbft.specs.Rules.{all_apart as are_apart, cert_of, change_of, fits, may_enter as may_enter_by, slot_fits};
+ghost use Rattle.ab_pbft_rules.specs.Rules.{all_apart as are_apart, cert_of, change_of, fits, may_enter as may_enter_by, slot_fits};
 
 use crate::change::{Cert, Change};
 use crate::digest::slot_digest;

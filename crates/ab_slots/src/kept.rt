@@ -4,7 +4,7 @@ ghost use Rattle.std.specs.Prelude.{◌≡◌, ◌<◌, ◌≤◌, ◌==◌, Som
 ghost use Rattle.std.specs.List.{take_while};
 ghost use Rattle.ab_msg.specs.declared.value.Value.{Value as SlotValue};
 ghost use Rattle.ab_lock.specs.ViewChanges.{Kept as KeptOf, lowest as lowest_of, of_view as all_of_view, put as put_kept};
-ghost use Rattle.ab_pbft.specs.Rules.{least_above, smaller as smaller_of, without};
+ghost use Rattle.ab_pbft_rules.specs.Rules.{least_above, smaller as smaller_of, without};
 ghost use Rattle.ab_slots.specs.Places.{is_by, place_by};
 
 use crate::change::Change;

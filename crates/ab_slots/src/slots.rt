@@ -7,7 +7,7 @@ ghost use Rattle.ab_hist.specs.Histories.{can_push};
 ghost use Rattle.ab_msg.specs.declared.value.Value.TheVariants as value;
 ghost use Rattle.ab_abs.specs.Values.{goes, list_of};
 ghost use Rattle.ab_slots.specs.Based.{AreSlots};
-ghost use Rattle.ab_pbft.specs.Rules.{base_of, is_empty as has_none};
+ghost use Rattle.ab_pbft_rules.specs.Rules.{base_of, is_empty as has_none};
 
 use ab_hist::{History, PushFault, Request};
 use ab_msg::{Copied, Value, copy_each};

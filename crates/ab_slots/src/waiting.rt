@@ -3,7 +3,7 @@
 ghost use Rattle.std.specs.Prelude.{◌≡◌, ◌<◌, ◌≤◌, IsTrue, OnOk, length, nat_lt, slice_get};
 ghost use Rattle.std.specs.List.{take_while};
 ghost use Rattle.ab_order.specs.Backups.{keep as keep_last};
-ghost use Rattle.ab_pbft.specs.Rules.{first_fit as first_that_fits};
+ghost use Rattle.ab_pbft_rules.specs.Rules.{first_fit as first_that_fits};
 ghost use Rattle.ab_slots.specs.Places.{is_of, place_of as place_in};
 ghost use Rattle.ab_slots.specs.Waits.{lacks_some};
 

@@ -1,2 +1,8 @@
 -- Lemmas of this crate.
 pub mod Happenings
+pub mod Drawing
+pub mod Stepping
+pub mod StormLemmas
+pub mod SummaryLemmas
+pub mod Keeping
+pub mod Printing

@@ -1,8 +1,15 @@
-//! Random schedules: events drawn from a seed, the same on every machine.
+//! Storms: random events drawn from a seed, a cluster that runs them, its summary, and the events that were drawn.
 #![tactic(auto)]
 
+mod drawing;
+mod ends;
 mod laws;
+mod running;
 mod storm;
+mod summary;
 
+pub use drawing::storm_events;
+pub use ends::{storms_are_not_refused, storms_end_once};
 pub use laws::storms_can_happen;
+pub use running::{StormFault, Stormed, ended_by, idle_clients, storm};
 pub use storm::Storm;

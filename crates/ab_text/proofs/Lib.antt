@@ -1,3 +1,4 @@
+-- The lemmas that the proofs of this crate share.
 pub mod LineLemmas
 pub mod NumberLemmas
 pub mod WordLemmas
@@ -10,3 +11,5 @@ pub mod FormLemmas
 pub mod UniqueLemmas
 pub mod FaultLemmas
 pub mod FrontLemmas
+pub mod FeedLemmas
+pub mod WritingLemmas

@@ -11,3 +11,4 @@ pub mod Spelling
 pub mod Forms
 pub mod Reports
 pub mod Faults
+pub mod Texts

@@ -1,15 +1,19 @@
-//! The texts of schedules and reports.
+//! The texts of schedules and reports, read and written.
 #![tactic(auto)]
 
 mod bytes;
 mod cores;
 mod event;
 mod event_lines;
+mod event_writing;
 mod fault;
 mod faulty;
 mod head;
+mod head_writing;
 mod items;
+mod laws;
 mod line;
+mod line_writing;
 mod lines;
 mod numbers;
 mod parts;
@@ -17,6 +21,7 @@ mod reading;
 mod report;
 mod schedule;
 mod setting;
+mod writing;
 
 pub use cores::party_of;
 pub use event::{Core, Event};
@@ -24,6 +29,7 @@ pub use event_lines::command_of;
 pub use fault::TextFault;
 pub use head::{height_in, height_text, plan_in, plan_text, service_in, service_text, word_number};
 pub use items::Items;
+pub use laws::{written_is_read, written_is_spelled};
 pub use line::{Breach, Line, OpenCause, Premise};
 pub use lines::next_line;
 pub use numbers::number;
@@ -34,3 +40,4 @@ pub use reading::{
 pub use report::{party_string, write_end, write_log, write_premise, write_seen};
 pub use schedule::{Head, Schedule};
 pub use setting::cluster_of;
+pub use writing::write_schedule;

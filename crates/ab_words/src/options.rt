@@ -1,17 +1,27 @@
 //! The options: their names, and which each command has.
 
 pub(crate) const BASE: &str = "base";
+
 pub(crate) const CLIENTS: &str = "clients";
+
 pub(crate) const EVENTS: &str = "events";
+
 pub(crate) const F: &str = "f";
+
 pub(crate) const LMS: &str = "lms";
+
 pub(crate) const PARTY: &str = "party";
+
 pub(crate) const PLAN: &str = "plan";
+
 pub(crate) const SEED: &str = "seed";
+
 pub(crate) const SERVICE: &str = "service";
 /// The only flag, which takes no value and may be missing.
 pub(crate) const TRACE: &str = "trace";
+
 pub(crate) const TURNS: &str = "turns";
+
 pub(crate) const WAIT: &str = "wait";
 
 /// The options of the command `keys`.

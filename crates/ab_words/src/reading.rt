@@ -8,7 +8,9 @@ ghost use Rattle.ab_words.specs.Uses.{texts};
 
 use crate::command::{Command, KeysCommand, NodeCommand, StormCommand};
 use crate::names::{height_named, plan_named, service_named};
-use crate::options::{BASE, CLIENTS, EVENTS, F, KEYS, LMS, NODE, PARTY, PLAN, SEED, SERVICE, STORM, TURNS, WAIT};
+use crate::options::{
+    BASE, CLIENTS, EVENTS, F, KEYS, LMS, NODE, PARTY, PLAN, SEED, SERVICE, STORM, TURNS, WAIT,
+};
 use crate::uses::{Uses, uses_in};
 use crate::values::number_of;
 use ab_key_text::{bytes_in, party_in};

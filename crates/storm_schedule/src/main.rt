@@ -5,9 +5,8 @@
 //! was refused.
 #![tactic(auto)]
 
-use ab_command::refuse_memory;
+use ab_command::{refuse_memory, serve};
 use ab_standard::{StdSink, texts, words};
-use ab_storm_schedule::serve;
 use std::io;
 use std::process::ExitCode;
 

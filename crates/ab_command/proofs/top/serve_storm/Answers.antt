@@ -1,7 +1,7 @@
 use Rattle.std.proofs.Common.{List, ℕ, sym, subst}
 use Rattle.ab_kv.specs.KvMachines.{kv_machine}
 use Rattle.ab_replay.proofs.TextLemmas.{all_served}
-use Rattle.ab_storm_run.specs.Runs.{Storms}
+use Rattle.ab_storm.specs.Runs.{Storms}
 use Rattle.ab_command.specs.Statuses.{kv}
 use Rattle.ab_command.proofs.StatusLemmas.{summary_told}
 use Rattle.ab_command.proofs.top.serve_storm.Goals as goal

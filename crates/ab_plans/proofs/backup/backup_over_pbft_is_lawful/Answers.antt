@@ -1,9 +1,9 @@
 use Rattle.ab_order.proofs.ProtoLaws as laws
-use Rattle.ab_pbft.specs.Traces.{IsPbftSound}
-use Rattle.ab_pbft.specs.Rules.{pbft}
-use Rattle.ab_pbft.specs.Standing.{PbftStands}
-use Rattle.ab_pbft.proofs.OrderlyOrderer.{pbft_orderly}
-use Rattle.ab_pbft.proofs.LawfulOrderer.{pbft_lawful}
+use Rattle.ab_pbft_rules.specs.Traces.{IsPbftSound}
+use Rattle.ab_pbft_rules.specs.Rules.{pbft}
+use Rattle.ab_pbft_rules.specs.Standing.{PbftStands}
+use Rattle.ab_pbft_rules.proofs.OrderlyOrderer.{pbft_orderly}
+use Rattle.ab_pbft_rules.proofs.LawfulOrderer.{pbft_lawful}
 use Rattle.ab_plans.proofs.Ordered.{backup_law}
 use Rattle.ab_plans.proofs.backup.backup_over_pbft_is_lawful.Goals as goal
 

@@ -1,5 +1,5 @@
 use Rattle.std.proofs.Common.{◌≡◌, drop}
-use Rattle.ab_pbft.specs.Rules.{all_apart}
+use Rattle.ab_pbft_rules.specs.Rules.{all_apart}
 use Rattle.ab_slots.proofs.input.all_apart.Given as goal
 
 abbrev pub invariant-numbers : goal.invariant-numbers

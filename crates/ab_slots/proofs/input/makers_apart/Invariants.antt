@@ -1,5 +1,5 @@
 use Rattle.std.proofs.Common.{◌≡◌, drop, map}
-use Rattle.ab_pbft.specs.Rules.{all_apart}
+use Rattle.ab_pbft_rules.specs.Rules.{all_apart}
 use Rattle.ab_slots.proofs.input.makers_apart.Given as goal
 
 abbrev pub invariant-changes : goal.invariant-changes

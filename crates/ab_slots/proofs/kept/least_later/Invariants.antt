@@ -1,5 +1,5 @@
 use Rattle.std.proofs.Common.{◌≡◌, ◌≤◌, drop, length}
-use Rattle.ab_pbft.specs.Rules.{least_above}
+use Rattle.ab_pbft_rules.specs.Rules.{least_above}
 use Rattle.ab_slots.proofs.kept.least_later.Given as goal
 
 abbrev pub invariant-kept : goal.invariant-kept

@@ -1,6 +1,0 @@
-//! What a replica of PBFT sends has bytes.
-#![tactic(auto)]
-
-mod laws;
-
-pub use laws::{replicas_keep_bytes, replicas_stay_in_form};

@@ -1,0 +1,138 @@
+-- The protocol that never takes a request is lawful.
+use Rattle.std.proofs.Common.{◌≡◌, ℕ, ◌≤◌, Bool, false, true, List, [], ◌∷◌, refl, inl}
+use Rattle.std.specs.Prelude.{Contains, IsTrue}
+use base.Growing.{prefix_refl}
+use Rattle.ab_num.specs.declared.plan.Kind.{Kind}
+use Rattle.ab_num.specs.declared.plan.Kind.TheVariants as kind
+use Rattle.ab_num.specs.declared.cluster.Cluster.{Cluster}
+use Rattle.ab_msg.specs.Fields.{IsWritten}
+use Rattle.ab_svc.specs.Machines.{Machine}
+use Rattle.ab_msg.specs.declared.value.Value.{Value}
+use Rattle.ab_msg.specs.declared.content.Content.{Content}
+use Rattle.ab_msg.specs.Pens.{Pen}
+use Rattle.ab_abs.specs.declared.seen.Seen.{Seen}
+use Rattle.ab_abs.specs.declared.entry.Entry.{Entry}
+use Rattle.ab_abs.specs.declared.rule.ReplyRule.{ReplyRule}
+use Rattle.ab_abs.specs.declared.rule.ReplyRule.TheVariants as rules
+use Rattle.ab_abs.specs.Faults.{is_faulty}
+use Rattle.ab_abs.specs.Observations.{observed_in}
+use Rattle.ab_abs.specs.Instances.{IsAbstract}
+use Rattle.ab_abs.specs.Acts.{Act, Setting, MayStart, Premises, IsNoted, unmarked, observations, named_in, state_of, call_of}
+use Rattle.ab_abs.specs.Kinds.{kind_in, rule_in, rule_of}
+use Rattle.ab_abs.specs.Rules.{IsOther, IsOtherBy}
+use Rattle.ab_abs.specs.Lawful.{BeginsThere}
+use Rattle.ab_abs.specs.TailRules.{TailCalls}
+use Rattle.ab_abs.specs.Messages.{Call, call_claims, call_values, claims_in}
+use Rattle.ab_abs.specs.Ensembles.{begin_of, asked_of, halt_of, MayTake}
+use Rattle.ab_abs.specs.FormLaws.{KeepsForm, Arises, from_entry, by_call, by_stop}
+use Rattle.ab_abs.specs.Members.{IsAt, member_state}
+use Rattle.ab_abs.proofs.Statements.{none_of}
+use Rattle.ab_abs.proofs.Positions.{position_there}
+use Rattle.ab_abs.proofs.Following.{IsLater, named_here}
+use Rattle.ab_abs.proofs.Abstracts.{promises}
+use Rattle.ab_abs.proofs.Whole.{names_own}
+use Rattle.ab_abs.proofs.Tails.{tail_keeping}
+use Rattle.ab_abs.proofs.TailCommits.{tail_promises}
+use Rattle.ab_abs.proofs.Steps.{begins_at, rests_at, nil_sound, others_sound}
+use Rattle.ab_abs.proofs.TailSteps.{tail_nil, tail_others, tail_starts, tail_rests}
+use Rattle.ab_fixtures.specs.NullRules.{Idle, is_of_most, member_of, null, IsSoundBy, IsNullSound}
+
+-- clients don't commit on so many equal votes
+abbrev pub is_most : ReplyRule → Bool
+is_most rules.All = true
+is_most (rules.Equal q) = false
+is_most rules.Tail = true
+
+most_of : (k : Kind) (f : ℕ) → IsTrue (is_of_most k) → IsTrue (is_most (rule_of k f))
+most_of kind.Quorum f served = served
+most_of kind.ZLight f served = served
+most_of kind.Chain f served = served
+most_of kind.Backup f served = absurd (cc (served))
+
+written_of : (c : Cluster) (i r : ℕ) (q : Idle) → Arises null is_of_most c i r q → IsWritten q.log
+written_of c i r q (from_entry e served placed lt entry) = entry.base
+written_of c i r q (by_call pen p call lawful formed was) = written_of c i r p was
+written_of c i r q (by_stop p was) = written_of c i r p was
+
+pub form_law : KeepsForm null is_of_most
+form_law = record {
+  starts = λ c r. record { logged = refl; entered = refl; first = refl };
+  grows = λ pen q call. prefix_refl q.log;
+  frozen = λ c i r pen q call was stopped. (refl, refl);
+  halts = λ q. (refl, inl refl);
+  begins = λ c i r e. (inl refl, refl);
+  enters = λ c i r e. refl;
+  entered_stays = λ pen q call. refl;
+  entered_rests = λ q. refl;
+  own = λ c i r pen q call o s was sent has. absurd (none_of o sent);
+  silent = λ c i r pen q call o s was stopped sent has. absurd (none_of o sent);
+  signed = λ pen q call o v sent has. absurd (none_of o sent);
+  sent = λ pen q call s has. absurd (none_of s has);
+  settles = λ c i r pen q call cert was is formed. inl refl;
+  written = λ c i r q was. written_of c i r q was;
+  drafts = λ c i r pen q call lawful was formed o sent. absurd (none_of o sent);
+}
+
+module _ {S : Type 0} (machine : Machine S) (x : Setting) where
+  nil_by : (rule : ReplyRule) → IsTrue (is_most rule) → 1 ≤ x.i → Premises x [] → IsSoundBy machine rule x []
+  nil_by rules.All most one premises = nil_sound machine x one premises
+  nil_by (rules.Equal q) most one premises = absurd (cc (most))
+  nil_by rules.Tail most one premises = tail_nil machine x one premises
+
+  pub nil_law : IsTrue (is_of_most (kind_in x)) → 1 ≤ x.i → Premises x [] → IsNullSound machine x []
+  nil_law served = nil_by (rule_in x) (most_of (kind_in x) x.cluster.f served)
+
+  module _ (acts : List Act) where
+    abbrev pub GoesBy : ReplyRule → ℕ → Idle → Act → Type 0
+    GoesBy rule me q a = IsAt x (member_of q) me (state_of (a ∷ acts) me) × (IsSoundBy machine rule x acts → Premises x (a ∷ acts) → IsSoundBy machine rule x (a ∷ acts))
+
+    start_by : (rule : ReplyRule) → IsTrue (is_most rule) → (me : ℕ) (e : Entry) → MayStart x acts me e.base → GoesBy rule me (null.begin x.cluster x.i me e) (begin_of null x me e)
+    start_by rules.All most me e may = begins_at machine x acts me e.base (member_of (null.begin x.cluster x.i me e)) refl refl refl refl may
+    start_by (rules.Equal q) most me e may = absurd (cc (most))
+    start_by rules.Tail most me e may =
+        let next = tail_starts machine x acts me e.base (member_state (member_of (null.begin x.cluster x.i me e))) (record { based = refl; logged = refl }) may in
+        (record { placed = refl; owned = refl; stands = next.0 }, next.1)
+
+    pub start_law : (me : ℕ) (e : Entry) → IsTrue (is_of_most (kind_in x)) → MayStart x acts me e.base → GoesBy (rule_in x) me (null.begin x.cluster x.i me e) (begin_of null x me e)
+    start_law me e served = start_by (rule_in x) (most_of (kind_in x) x.cluster.f served) me e
+
+    rest_by : (rule : ReplyRule) → IsTrue (is_most rule) → (me : ℕ) (q : Idle) (claims : List Content) (values : List (List Value)) (seen : List Seen) → IsNoted x me (member_state (member_of q)) seen → IsAt x (member_of q) me (state_of acts me)
+        → GoesBy rule me q (call_of me claims values [] seen (member_state (member_of q)))
+    rest_by rules.All most me q claims values seen noted was = rests_at machine x acts me (member_of q) claims values seen noted was
+    rest_by (rules.Equal n) most me q claims values seen noted was = absurd (cc (most))
+    rest_by rules.Tail most me q claims values seen noted was =
+        let p = position_there x.cluster.f x.i me was.stands.within in
+        let s = member_state (member_of q) in
+        let next = tail_rests machine x acts me p.0 claims values seen s s noted p.1 p.2 p.3 refl refl (λ halt. halt) was.stands in
+        (record { placed = was.placed; owned = was.owned; stands = next.0 }, next.1)
+
+    pub on_law : (me : ℕ) (pen : Pen) (q : Idle) (call : Call) (seen : List Seen) → IsTrue (is_of_most (kind_in x)) → MayTake null x acts me pen q call seen → IsAt x (member_of q) me (state_of acts me) → GoesBy (rule_in x) me q (asked_of null x me pen q call seen)
+    on_law me pen q call seen served may was =
+        rest_by (rule_in x) (most_of (kind_in x) x.cluster.f served) me q (claims_in x.i (call_claims x.cluster.f me call)) (call_values call) seen may.noted was
+
+    pub stop_law : (me : ℕ) (q : Idle) → IsTrue (is_of_most (kind_in x)) → IsAt x (member_of q) me (state_of acts me) → GoesBy (rule_in x) me q (halt_of null me q)
+    stop_law me q served was = rest_by (rule_in x) (most_of (kind_in x) x.cluster.f served) me q [] [] [] (unmarked refl) was
+
+    others_by : (rule : ReplyRule) → IsTrue (is_most rule) → (a : Act) → is_faulty x.faulty a.party ≡ false → IsOtherBy rule x acts a → IsSoundBy machine rule x acts → Premises x (a ∷ acts) → IsSoundBy machine rule x (a ∷ acts)
+    others_by rules.All most a correct is was premises = others_sound machine x acts a correct is was premises
+    others_by (rules.Equal q) most a correct is was premises = absurd (cc (most))
+    others_by rules.Tail most a correct is was premises = tail_others machine x acts a correct is was premises
+
+    pub others_law : (a : Act) → IsTrue (is_of_most (kind_in x)) → is_faulty x.faulty a.party ≡ false → IsOther x acts a → IsNullSound machine x acts → Premises x (a ∷ acts) → IsNullSound machine x (a ∷ acts)
+    others_law a served = others_by (rule_in x) (most_of (kind_in x) x.cluster.f served) a
+
+    abstract_by : (rule : ReplyRule) → IsTrue (is_most rule) → IsSoundBy machine rule x acts → IsAbstract machine (observations acts) (named_in x acts) x.faulty x.i
+    abstract_by rules.All most sound = promises machine x acts sound
+    abstract_by (rules.Equal q) most sound = absurd (cc (most))
+    abstract_by rules.Tail most sound = tail_promises machine x acts sound
+
+    pub abstract_law : IsTrue (is_of_most (kind_in x)) → IsNullSound machine x acts → IsAbstract machine (observations acts) (named_in x acts) x.faulty x.i
+    abstract_law served = abstract_by (rule_in x) (most_of (kind_in x) x.cluster.f served)
+
+    names_by : (rule : ReplyRule) → IsTrue (is_most rule) → IsSoundBy machine rule x acts → (a : Act) → Contains acts a → (s : Seen) → Contains a.observations s → observed_in s ≡ x.i
+    names_by rules.All most sound a is s has = names_own machine x.cluster x.faulty x.i acts sound.lawful a is s has
+    names_by (rules.Equal q) most sound a is s has = absurd (cc (most))
+    names_by rules.Tail most sound a is s has = named_here rules.Tail x BeginsThere (TailCalls machine x) IsLater (tail_keeping machine x) acts sound.lawful a is s has
+
+    pub names_law : IsTrue (is_of_most (kind_in x)) → IsNullSound machine x acts → (a : Act) → Contains acts a → (s : Seen) → Contains a.observations s → observed_in s ≡ x.i
+    names_law served = names_by (rule_in x) (most_of (kind_in x) x.cluster.f served)

@@ -1,6 +1,0 @@
-use Rattle.ab_pbft.proofs.OrderlyOrderer.{pbft_orderly}
-use Rattle.ab_pbft.proofs.LawfulOrderer.{pbft_lawful}
-use Rattle.ab_pbft.proofs.laws.pbft_is_lawful.Goals as goal
-
-pub returns : goal.returns
-returns g = record { orderly = pbft_orderly; lawful = pbft_lawful }

@@ -1,5 +1,0 @@
-use Rattle.ab_pbft.proofs.LockedActs.{locked}
-use Rattle.ab_pbft.proofs.laws.pbft_locks.Goals as goal
-
-pub returns : goal.returns
-returns g = λ x k acts sound. locked x k acts sound

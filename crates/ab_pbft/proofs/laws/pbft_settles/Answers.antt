@@ -1,5 +1,0 @@
-use Rattle.ab_pbft.proofs.Allowed.{reached_keeps}
-use Rattle.ab_pbft.proofs.laws.pbft_settles.Goals as goal
-
-pub returns : goal.returns
-returns g = λ k p reached. (reached_keeps k p reached).quiet

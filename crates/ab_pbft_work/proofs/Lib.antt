@@ -1,0 +1,9 @@
+-- Lemmas of this crate.
+pub mod TurnLemmas
+pub mod SettleLemmas
+pub mod StepLemmas
+pub mod RuleLemmas
+pub mod Gathering
+pub mod Renaming
+pub mod SlotLemmas
+pub mod BaseLemmas

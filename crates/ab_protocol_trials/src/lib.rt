@@ -1,0 +1,21 @@
+//! Tests of protocols but for PBFT, and of certificates: apart from their crates, so that none is proved once more.
+#![tactic(auto)]
+
+#[cfg(test)]
+mod certificates;
+#[cfg(test)]
+mod chains;
+#[cfg(test)]
+mod choices;
+#[cfg(test)]
+mod lights;
+#[cfg(test)]
+mod messages;
+#[cfg(test)]
+mod nulls;
+#[cfg(test)]
+mod quorums;
+#[cfg(test)]
+mod routes;
+#[cfg(test)]
+mod solos;

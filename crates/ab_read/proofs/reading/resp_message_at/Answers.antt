@@ -1,6 +1,0 @@
-use Rattle.std.proofs.Common.{arith}
-use Rattle.ab_content.proofs.ContentLemmas.{resp-format}
-use Rattle.ab_read.proofs.reading.resp_message_at.Goals as goal
-
-pub spelled-stated-requires : goal.spelled-stated-requires
-spelled-stated-requires c = (resp-format.takes c.args.bytes.now _ _ (λ i. omega (arith, c.type_inv.bytes i)) c.in_ok-content.ensures).0.parts

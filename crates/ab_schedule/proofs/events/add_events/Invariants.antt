@@ -1,7 +1,0 @@
-use Rattle.std.proofs.Common.{◌≡◌, ◌++◌, map, take}
-use Rattle.ab_text.specs.EventLines.{event_line}
-use Rattle.ab_schedule.specs.Texts.{text_of}
-use Rattle.ab_schedule.proofs.events.add_events.Given as goal
-
-abbrev pub invariant-loop-event : goal.invariant-loop-event
-invariant-loop-event l = l.out.items ≡ l.fn.out.items ++ text_of (map event_line (take l.event-index l.events))

@@ -1,5 +1,0 @@
-use Rattle.ab_shelf.proofs.Obeying.{signing_obeys}
-use Rattle.ab_shelf.proofs.laws.replicas_obey.Goals as goal
-
-pub returns : goal.returns
-returns c = signing_obeys

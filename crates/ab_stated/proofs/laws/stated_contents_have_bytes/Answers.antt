@@ -1,5 +1,0 @@
-use Rattle.ab_stated.proofs.StatedLemmas.{fresh-fits}
-use Rattle.ab_stated.proofs.laws.stated_contents_have_bytes.Goals as goal
-
-pub returns : goal.returns
-returns c = fresh-fits

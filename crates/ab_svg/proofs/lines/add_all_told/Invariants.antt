@@ -1,6 +1,0 @@
-use Rattle.std.proofs.Common.{take}
-use Rattle.ab_svg.specs.Telling.{AddsAll}
-use Rattle.ab_svg.proofs.lines.add_all_told.Given as goal
-
-abbrev pub invariant-loop-mark : goal.invariant-loop-mark
-invariant-loop-mark l = AddsAll (take l.mark-index l.marks) l.initial.out.items l.out.items

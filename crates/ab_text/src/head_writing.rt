@@ -1,0 +1,78 @@
+//! The lines of the head, and of faulty parties.
+
+ghost use Rattle.std.specs.Prelude.{◌≡◌, ◌++◌, ◌∷◌, [], IfOk, OnOk, codes, decimal, map, string_bytes};
+ghost use Rattle.ab_text.specs.Heads.{plan_line};
+ghost use Rattle.ab_text.specs.Schedules.{faulty_line, script_of};
+ghost use Rattle.ab_text.specs.Spelling.{head_lines};
+ghost use Rattle.ab_text.specs.Texts.{text_of};
+
+use crate::head::{height_text, plan_text, service_text};
+use crate::line_writing::add_line;
+use crate::report::party_string;
+use crate::schedule::Head;
+use ab_num::{Cluster, OutOfMemory, Party};
+use std::alloc::{AllocError, Global};
+
+fn f_string(alloc: Global, f: u8) -> Result<String, AllocError>
+    ensures { IfOk result (λ s. string_bytes s ≡ codes "f " ++ decimal f) }
+{
+    format!(in alloc; "f {f}")
+}
+
+fn clients_string(alloc: Global, clients: u16) -> Result<String, AllocError>
+    ensures { IfOk result (λ s. string_bytes s ≡ codes "clients " ++ decimal clients) }
+{
+    format!(in alloc; "clients {clients}")
+}
+
+/// Adds the first four lines.
+fn add_cluster(out: &mut Vec<u8>, alloc: Global, cluster: &Cluster) -> Result<(), OutOfMemory>
+    ensures { OnOk result (out.new.items ≡ out.old.items ++ text_of (codes "abstract 1" ∷ (codes "f " ++ decimal cluster.now.f) ∷ plan_line cluster.now.plan ∷ (codes "clients " ++ decimal cluster.now.clients) ∷ [])) }
+{
+    let f = f_string(alloc, cluster.f)?;
+    let clients = clients_string(alloc, cluster.clients)?;
+    add_line(out, b"abstract 1")?;
+    add_line(out, f.as_bytes())?;
+    add_line(out, plan_text(cluster.plan).as_bytes())?;
+    add_line(out, clients.as_bytes())?;
+    Ok(())
+}
+
+/// Adds the six lines of the head.
+pub(crate) fn add_head(out: &mut Vec<u8>, alloc: Global, head: &Head) -> Result<(), OutOfMemory>
+    ensures { OnOk result (out.new.items ≡ out.old.items ++ text_of (head_lines (script_of head.now []))) }
+{
+    add_cluster(out, alloc, &head.cluster)?;
+    add_line(out, service_text(head.service).as_bytes())?;
+    add_line(out, height_text(head.lms).as_bytes())
+}
+
+/// The line of a faulty party and the number of its twins.
+fn faulty_string(alloc: Global, party: Party, twins: u8) -> Result<String, AllocError>
+    ensures { IfOk result (λ s. string_bytes s ≡ faulty_line (party, twins)) }
+{
+    let party = party_string(alloc, party)?;
+    format!(in alloc; "faulty {party} {twins}")
+}
+
+/// Adds the line of a faulty party.
+fn add_party(out: &mut Vec<u8>, alloc: Global, faulty: &(Party, u8)) -> Result<(), OutOfMemory>
+    ensures { OnOk result (out.new.items ≡ out.old.items ++ text_of (faulty_line faulty.now ∷ [])) }
+{
+    let line = faulty_string(alloc, faulty.0, faulty.1)?;
+    add_line(out, line.as_bytes())
+}
+
+/// Adds the lines of faulty parties.
+pub(crate) fn add_faulty(
+    out: &mut Vec<u8>,
+    alloc: Global,
+    faulty: &[(Party, u8)],
+) -> Result<(), OutOfMemory>
+    ensures { OnOk result (out.new.items ≡ out.old.items ++ text_of (map faulty_line faulty.now)) }
+{
+    for party in faulty {
+        add_party(out, alloc, party)?;
+    }
+    Ok(())
+}

@@ -1,5 +1,0 @@
--- Lemmas of this crate.
-pub mod TurnLemmas
-pub mod SettleLemmas
-pub mod StepLemmas
-pub mod RuleLemmas

@@ -1,0 +1,214 @@
+//! A node over links and clocks in memory.
+
+ghost use Rattle.std.specs.Prelude.{◌≡◌, [], ◌∷◌, IfOk, IfSome};
+ghost use Rattle.ab_num.specs.declared.party.Party.TheVariants.{Replica, Client};
+ghost use Rattle.ab_wire_trials.specs.Toys.{asks};
+
+use ab_hist::array_of;
+use ab_io::{MemClock, MemLink, SureSink};
+use ab_loop::{
+    Commands, Commit, Input, Job, PartyCore, Reaction, Sealed, ServeFault, Served, Setting, serve,
+};
+use ab_num::{OutOfMemory, Party};
+use ab_piece::cut;
+use arrayvec::ArrayVec;
+use std::alloc::Global;
+use std::marker::Model;
+
+/// A client whose command goes to four replicas, and which commits at the fourth message.
+#[derive(Drop)]
+struct ToyCore {
+    stamp: u64,
+    votes: u64,
+}
+
+impl Model for ToyCore {
+    ghost use Rattle.ab_wire_trials.specs.Toys.{Toy};
+
+    ghost Value = { Toy };
+
+    ghost view = { λ c. record { stamp = c.stamp; votes = c.votes } };
+}
+
+fn ask(alloc: Global, r: u8) -> Result<Sealed, OutOfMemory>
+    ensures { IfOk result (λ m. m ≡ record { to = Replica r; bytes = 7 ∷ [] }) }
+{
+    let mut bytes = Vec::new(alloc);
+    bytes.push(7u8)?;
+    Ok(Sealed::new(Party::Replica(r), bytes))
+}
+
+fn asks(alloc: Global) -> Result<Vec<Sealed>, OutOfMemory>
+    ensures { IfOk result (λ v. v.items ≡ asks) }
+{
+    let mut sends = Vec::new(alloc);
+    sends.push(ask(alloc, 0)?)?;
+    sends.push(ask(alloc, 1)?)?;
+    sends.push(ask(alloc, 2)?)?;
+    sends.push(ask(alloc, 3)?)?;
+    Ok(sends)
+}
+
+impl PartyCore for ToyCore {
+    ghost use Rattle.ab_wire_trials.specs.Toys.{toy};
+
+    ghost rules = { toy };
+
+    fn step(&mut self, alloc: Global, input: &Input<'_>) -> Result<Reaction, OutOfMemory> {
+        match input {
+            Input::Invoke(_) => {
+                let sends = asks(alloc)?;
+                self.stamp = self.stamp.saturating_add(1);
+                self.votes = 0;
+                Ok(Reaction {
+                    sends,
+                    commit: None,
+                    spent: false,
+                })
+            }
+            Input::Message(_) => {
+                self.votes = self.votes.saturating_add(1);
+                let commit = if self.votes == 4 {
+                    Some(Commit {
+                        stamp: self.stamp,
+                        instance: 1,
+                        n: 1,
+                        reply: ArrayVec::new(),
+                    })
+                } else {
+                    None
+                };
+                Ok(Reaction {
+                    sends: Vec::new(alloc),
+                    commit,
+                    spent: false,
+                })
+            }
+            Input::Timeout => Ok(Reaction {
+                sends: Vec::new(alloc),
+                commit: None,
+                spent: false,
+            }),
+        }
+    }
+
+    fn timer(&self) -> Option<u64> {
+        None
+    }
+}
+
+fn job(alloc: Global, turns: u64, trace: bool) -> Option<Job<ToyCore>>
+    ensures { IfSome result (λ j. (j.setting.base ≡ 9000) × (j.setting.me ≡ Client 0)) }
+{
+    let mut commands = Commands::new(alloc);
+    commands.push(array_of(b"put a 1")).ok()?;
+    Some(Job {
+        core: ToyCore { stamp: 0, votes: 0 },
+        setting: Setting {
+            me: Party::Client(0),
+            base: 9000,
+            wait: 50,
+            trace,
+        },
+        commands,
+        turns,
+    })
+}
+
+fn clock(alloc: Global) -> MemClock {
+    MemClock::new(Vec::new(alloc))
+}
+
+#[test]
+fn a_quiet_link_uses_the_turns(rt: HostRuntime) {
+    let alloc = rt.alloc();
+    let mut link = MemLink::new(
+        alloc,
+        Vec::new(alloc),
+        Vec::new(alloc),
+        Vec::new(alloc),
+        Vec::new(alloc),
+    );
+    let mut out = SureSink::new(alloc);
+    let job = job(alloc, 3, false).expect(&rt, "memory");
+    assert!(rt;
+        serve(alloc, job, &mut link, &mut clock(alloc), &mut out) == Err(ServeFault::TurnsSpent(1))
+    );
+    assert!(rt; out.bytes() == b"end 1 4 0 0\n".as_slice());
+    assert!(rt; link.sent().len() == 4);
+    let last = link.sent().get(3).expect(&rt, "no datagram");
+    assert!(rt; last.0 == 9003);
+}
+
+#[test]
+fn the_second_recv_fails(rt: HostRuntime) {
+    let alloc = rt.alloc();
+    let second = vec![in alloc; 2u64].expect(&rt, "memory");
+    let mut link = MemLink::new(
+        alloc,
+        Vec::new(alloc),
+        Vec::new(alloc),
+        second,
+        Vec::new(alloc),
+    );
+    let mut out = SureSink::new(alloc);
+    let job = job(alloc, 3, false).expect(&rt, "memory");
+    assert!(rt;
+        serve(alloc, job, &mut link, &mut clock(alloc), &mut out) == Err(ServeFault::LinkFailed)
+    );
+    assert!(rt; out.bytes() == b"".as_slice());
+}
+
+#[test]
+fn a_lost_datagram_is_counted(rt: HostRuntime) {
+    let alloc = rt.alloc();
+    let second = vec![in alloc; 2u64].expect(&rt, "memory");
+    let mut link = MemLink::new(
+        alloc,
+        Vec::new(alloc),
+        Vec::new(alloc),
+        Vec::new(alloc),
+        second,
+    );
+    let mut out = SureSink::new(alloc);
+    let job = job(alloc, 3, false).expect(&rt, "memory");
+    assert!(rt;
+        serve(alloc, job, &mut link, &mut clock(alloc), &mut out) == Err(ServeFault::TurnsSpent(1))
+    );
+    assert!(rt; out.bytes() == b"end 1 4 1 0\n".as_slice());
+    assert!(rt; link.sent().len() == 3);
+}
+
+#[test]
+fn four_replies_commit(rt: HostRuntime) {
+    let alloc = rt.alloc();
+    let mut to_come = Vec::new(alloc);
+    for r in 0..4u8 {
+        let pieces = cut(alloc, Party::Replica(r), 1, b"\x01\xfe").expect(&rt, "memory");
+        to_come
+            .push(Vec::from_slice(alloc, pieces.get(0)).expect(&rt, "memory"))
+            .expect(&rt, "memory");
+    }
+    let mut link = MemLink::new(
+        alloc,
+        to_come,
+        Vec::new(alloc),
+        Vec::new(alloc),
+        Vec::new(alloc),
+    );
+    let mut out = SureSink::new(alloc);
+    let job = job(alloc, 4, true).expect(&rt, "memory");
+    let served = serve(alloc, job, &mut link, &mut clock(alloc), &mut out);
+    assert!(rt;
+        served
+            == Ok(Served {
+                events: 5,
+                sent: 4,
+                lost: 0,
+                spent: 0
+            })
+    );
+    let text =
+        b"invoke c0 put a 1\ninject c0 01fe\ninject c0 01fe\ninject c0 01fe\ninject c0 01fe\nreply 1 1 1 \nend 5 4 0 0\n";
+    assert!(rt; out.bytes() == text.as_slice());
+}
