@@ -45,7 +45,7 @@ fn one<'a>(k: &Cluster, check: CheckRef<'a>) -> Checks<'a>
 
 /// A content that came by itself, and its tag.
 fn tagged<'a>(content: ContentRef<'a>, bytes: &'a [u8], tag: Option<&'a Tag>) -> CheckRef<'a>
-    ensures { result ≡ record { claim = ClaimRef.Received content.entry bytes; token = TokenRef.Tag tag.entry } }
+    ensures { result ≡ record { claim = ClaimRef.Received content.entry bytes.entry; token = TokenRef.Tag tag.entry } }
 {
     CheckRef {
         claim: ClaimRef::Received { content, bytes },

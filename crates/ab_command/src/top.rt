@@ -17,7 +17,7 @@ use ab_kv::Kv;
 use ab_loop::ServeFault;
 use ab_node::{Stop, serve_text};
 use ab_replay::{AnyProtocol, replay};
-use ab_storm::{StormFault, storm};
+use ab_storm::{StormFault, run_storm};
 use ab_text::one_reading;
 use ab_words::{Command, KeysCommand, NodeCommand, StormCommand, command_in};
 use std::alloc::Global;
@@ -97,7 +97,7 @@ fn serve_storm<O: Sink, E: Sink>(
       network = network;
     }) }
 {
-    let stormed = match storm::<Kv, AnyProtocol<Kv>>(alloc, asked) {
+    let stormed = match run_storm::<Kv, AnyProtocol<Kv>>(alloc, asked) {
         Ok(stormed) => stormed,
         Err(StormFault::TooManyPackets) => {
             return say(err, "limit packets\n", Status::Limit(Bound::Packets));

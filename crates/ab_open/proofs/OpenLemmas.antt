@@ -1,5 +1,5 @@
 -- When a message opens.
-use Rattle.std.proofs.Common.{◌≡◌, ◌≢◌, ℕ, suc, ◌+◌, ◌*◌, Bool, true, false, cond, IsTrue, List, [], ◌∷◌, Option, Result, Ok, Err, refl, sym, ap, ◌∙◌, All}
+use Rattle.std.proofs.Common.{◌≡◌, ◌≢◌, ℕ, suc, ◌+◌, ◌*◌, Bool, true, false, cond, IsTrue, List, [], ◌∷◌, map, Option, Result, Ok, Err, refl, sym, ap, ◌∙◌, All}
 use Rattle.std.specs.List.{AllByRecursion, Contains}
 use Rattle.std.proofs.lemmas.Bool.{false≢true, ltb-true}
 use Rattle.std.proofs.lemmas.List.Elements.{All-from_recursion, All-contains}
@@ -10,6 +10,7 @@ use Rattle.ab_num.proofs.PartyLemmas.{party_eq-refl}
 use Rattle.ab_keys.specs.Keys.{is_party}
 use Rattle.ab_form.specs.declared.bad.Bad.{Bad}
 use Rattle.ab_form.specs.Formats.{IsBytes}
+use Rattle.ab_msg.specs.declared.content.Content.{Content}
 use Rattle.ab_msg.specs.declared.message.Msg.{Msg}
 use Rattle.ab_msg.specs.declared.message.Msg.TheVariants as msg
 use Rattle.ab_msg.specs.declared.signed.Signed.{Signed}
@@ -21,6 +22,8 @@ use Rattle.ab_open.proofs.MessageLemmas.{message-law}
 use Rattle.ab_check.specs.Chains.{IsPlaced}
 use Rattle.ab_check.specs.Checks.{Check, Judge, Token, by_tag, checks, checked_from, checks_of, is_refused, is_right, outcome}
 use Rattle.ab_open.specs.declared.fault.OpenFault.TheVariants as fault
+use Rattle.ab_check.proofs.ClaimLemmas.{checked-claims}
+use Rattle.ab_open.specs.Claimed.{by_maker, claims_by_maker}
 use Rattle.ab_open.specs.Opening.{takes, verdict, judged, opening}
 
 -- a party of a cluster has a place
@@ -96,3 +99,14 @@ opened_message judge f clients me bytes m fits e =
     let o = opened judge f clients me bytes m e in
     let t = message-law.takes bytes m fits o.read in
     (t.1, t.0, o.taken)
+
+-- ---- what was checked, each claim with its maker
+
+makers : (ks : List Check) → map (λ (k : Check). by_maker k.content) ks ≡ map by_maker (map (λ (k : Check). k.content) ks)
+makers [] = refl
+makers (k ∷ ks) = ap (λ (xs : List (Party × Content)). by_maker k.content ∷ xs) (makers ks)
+
+pub claims-by : (f : ℕ) (me : Party) (m : Msg) (ks : List Check) → ks ≡ checks_of f me m → map (λ (k : Check). by_maker k.content) ks ≡ claims_by_maker f me m
+claims-by f me m ks e =
+    ap (λ (l : List Check). map (λ (k : Check). by_maker k.content) l) e
+    ∙ (makers (checks_of f me m) ∙ ap (λ (cs : List Content). map by_maker cs) (checked-claims f me m))

@@ -6,7 +6,6 @@ ghost use Rattle.ab_open.specs.Claimed.{claims_by_maker};
 
 use crate::checked::Checked;
 use crate::claimed::Claims;
-use ab_check::claims_are_checked;
 use ab_num::{Cluster, OutOfMemory};
 use std::alloc::Global;
 
@@ -16,6 +15,5 @@ pub fn claims(alloc: Global, k: &Cluster, m: &Checked<'_>) -> Result<Claims, Out
     requires { IsTrue (is_party k.now.f k.now.clients m.now.me) }
     ensures { IfOk result (λ c. c ≡ claims_by_maker k.now.f m.now.me m.now.msg) }
 {
-    claims_are_checked();
     Claims::of(alloc, m.checks(k))
 }

@@ -1,9 +1,7 @@
-//! PBFT as an orderer of requests, and that what its replicas keep and send has bytes.
+//! PBFT at one replica: messages are read, what came is kept, the rules are done, and what others hear of is sent.
 #![tactic(auto)]
 
-mod laws;
 mod pbft;
 mod putting;
 
-pub use laws::{replicas_keep_bytes, replicas_stay_in_form};
 pub use pbft::Pbft;

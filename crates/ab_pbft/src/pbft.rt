@@ -250,7 +250,7 @@ impl Orderer for Pbft {
     ghost use Rattle.ab_pbft_rules.proofs.LawfulOrderer.{pbft_lawful};
     ghost use Rattle.ab_pbft_rules.proofs.OrderlyOrderer.{pbft_orderly};
     ghost use Rattle.ab_pbft_shelf.proofs.Obeying.{signing_obeys};
-    ghost use Rattle.ab_pbft.proofs.KeptBytes.{signing_keeps_bytes};
+    ghost use Rattle.ab_pbft_drafts.proofs.KeptBytes.{signing_keeps_bytes};
 
     ghost obeys = { signing_obeys };
 

@@ -4,6 +4,7 @@ use Rattle.std.specs.Prelude.{cond, count_by}
 use Rattle.std.proofs.lemmas.Grind.{flat_map-append}
 use Rattle.std.proofs.lemmas.List.{append-nil, length-append, take_more}
 use Rattle.std.proofs.lemmas.List.Folds.{length-flat_map-take}
+use Rattle.std.proofs.lemmas.List.Sums.{sum_by-cons}
 use Rattle.ab_slots.specs.declared.deed.Deed.{Deed}
 use Rattle.ab_slots.specs.declared.deed.Deed.TheVariants.{Signs, Prepares, Changes, Enters, Offers, Leads}
 use Rattle.ab_pbft_shelf.specs.declared.author.Author.{Author}
@@ -31,7 +32,9 @@ module _ (by : Author) where
   -- so many of them are signed
   pub signings_as : (deeds : List Deed) → signings by deeds ≡ count_by is_signed deeds
   signings_as [] = refl
-  signings_as (d ∷ deeds) = length-append (signed_by by d) (signed_in_all by deeds) ∙ (λ j. signed_as d j + signings_as deeds j)
+  signings_as (d ∷ deeds) =
+      let both : length (signed_by by d) + signings by deeds ≡ cond (is_signed d) 1 0 + count_by is_signed deeds = λ j. signed_as d j + signings_as deeds j in
+      length-append (signed_by by d) (signed_in_all by deeds) ∙ (both ∙ sym (sum_by-cons (λ x. cond (is_signed x) 1 0) d deeds))
 
   module _ (deeds : List Deed) (i : ℕ) (d : Deed) (lt : i < length deeds) (there : d ≡ get_or deeds i d) where
     taken : take (i + 1) deeds ≡ take i deeds ++ d ∷ []

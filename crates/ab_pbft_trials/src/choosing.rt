@@ -98,7 +98,7 @@ fn change(alloc: Global, by: u8, view: u32, stated: Stated, signers: &[u8]) -> O
     Some(ChangeInput::new(by, view, slots))
 }
 
-/// The first VIEW-CHANGEs of these, so many, for a view.
+/// So many VIEW-CHANGEs for a view, by replica 0 and those after it.
 fn changes(
     alloc: Global,
     view: u32,
@@ -115,7 +115,7 @@ fn changes(
     Some(all)
 }
 
-/// Whether the first of these, so many, let a replica enter view 2.
+/// Whether so many VIEW-CHANGEs for a view let a replica enter view 2.
 fn lets_enter(alloc: Global, view: u32, signers: &[u8], count: usize) -> Option<bool> {
     let all = changes(alloc, view, &LATER, signers, count)?;
     let may = may_enter(1, 2, &all);
@@ -136,9 +136,11 @@ fn choice(alloc: Global, k: u8, three: &Three) -> Option<Vec<u8>> {
 
 #[test]
 fn the_highest_view_is_chosen(rt: HostRuntime) {
-    for (k, three, want) in &ROWS {
-        let found = choice(rt.alloc(), *k, three).expect(&rt, "memory");
-        assert!(rt; found.as_slice() == *want, "{k} {three:?}");
+    for (k, three, want) in ROWS {
+        let found = choice(rt.alloc(), k, &three).expect(&rt, "memory");
+        let is_wanted = found.as_slice() == want;
+        drop(found);
+        assert!(rt; is_wanted, "{k} {three:?}");
     }
     let cluster = Cluster::new(1, 3, Plan::Backup).expect(&rt, "a cluster");
     assert!(rt; (cluster.limit(1), cluster.limit(2)) == (1, 2));

@@ -1,6 +1,7 @@
 //! Reads lines of a mark and hexadecimal bytes. Where the mark is a digit it tells whether the bytes give another answer: 0 is a
-//! message, which is also owned and written again, and 1 to 5 the first defect. `r` reads the bytes 10,000 times and `c` copies
-//! them as often, for a script that takes the time; `n` does neither.
+//! message, which is also owned and written again, and 1 to 5 the first defect. `m` is a message too; then each of its proper
+//! prefixes is too short, a byte more trails, and with a first byte of 0 it has no code. `r` reads the bytes 10,000 times and `c`
+//! copies them as often, for a script that takes the time; `n` does neither.
 #![tactic(auto)]
 
 ghost use Rattle.ab_wire.specs.Views.{IsReceived};
@@ -59,6 +60,28 @@ fn answer(alloc: Global, bytes: &[u8]) -> Result<u8, OutOfMemory> {
     }
 }
 
+/// Whether the first `n` of the bytes end within a part.
+fn is_short(bytes: &[u8], n: usize) -> bool {
+    match bytes.get(..n) {
+        Some(front) => matches!(read(front), Err(Bad::Short)),
+        None => false,
+    }
+}
+
+/// Whether the bytes are a message, each proper prefix of it is too short, one byte more trails, and 0 is no code.
+fn is_whole(alloc: Global, mut bytes: Vec<u8>) -> Result<bool, OutOfMemory> {
+    if answer(alloc, &bytes)? != 0 || !(0..bytes.len()).all(|n| is_short(&bytes, n)) {
+        return Ok(false);
+    }
+    bytes.push(0)?;
+    let has_trailing = matches!(read(&bytes), Err(Bad::Trailing));
+    bytes.pop();
+    if let Some(code) = bytes.first_mut() {
+        *code = 0;
+    }
+    Ok(has_trailing && matches!(read(&bytes), Err(Bad::BadCode)))
+}
+
 /// Whether the bytes are a message each time that they are read.
 fn is_read_often(bytes: &[u8]) -> bool {
     (0..TIMES).all(|_| read(bytes).is_ok())
@@ -85,6 +108,7 @@ fn is_as_told(alloc: Global, line: &[u8]) -> io::Result<bool> {
                 b'r' => Ok(is_read_often(bytes.as_slice())),
                 b'c' => Ok(matches!(is_copied_often(alloc, bytes.as_slice()), Ok(true))),
                 b'n' => Ok(true),
+                b'm' => Ok(matches!(is_whole(alloc, bytes), Ok(true))),
                 _ => Ok(
                     matches!(answer(alloc, bytes.as_slice()), Ok(found) if found == digit(*told)),
                 ),

@@ -1,6 +1,6 @@
 -- Lemmas of this crate.
 pub mod Happenings
-pub mod Drawing
+pub mod DrawLemmas
 pub mod Stepping
 pub mod StormLemmas
 pub mod SummaryLemmas

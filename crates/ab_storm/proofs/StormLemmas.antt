@@ -20,7 +20,7 @@ use Rattle.ab_storm.specs.declared.running.StormFault.{StormFault}
 use Rattle.ab_storm.specs.declared.running.StormFault.TheVariants.{TooManyPackets, OutOfMemory}
 use Rattle.ab_storm.specs.Standing.{Goes}
 use Rattle.ab_storm.specs.Runs.{end_of, idle_of, drawn_at, drawn_behind, drawn_events, storm_setup, storm_of, run_in, IsClusterOf, StormsTo, StepCause, EndCause, StormCause}
-use Rattle.ab_storm.proofs.Drawing.{refused_for, goes_on, storm_goes}
+use Rattle.ab_storm.proofs.DrawLemmas.{refused_for, goes_on, storm_goes}
 
 -- ---- clusters of one size
 

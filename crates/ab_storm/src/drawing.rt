@@ -10,8 +10,8 @@ ghost use Rattle.ab_storm.specs.Standing.{Goes};
 ghost use Rattle.ab_storm.specs.Runs.{drawn_at, drawn_events, storm_setup, IsClusterOf, StepCause, EndCause, StormCause};
 ghost use Rattle.ab_storm.specs.Drawn.{Draws};
 
+use crate::generator::Storm;
 use crate::running::{StormFault, ended_by, idle_clients};
-use crate::storm::Storm;
 use ab_abs::Protocol;
 use ab_cast::Setup;
 use ab_num::Height;
@@ -94,7 +94,7 @@ fn events_over<S: Service, P: Protocol<S>>(
     draw_events(alloc, &mut storm, &mut world, asked.events())
 }
 
-/// The events of the storm that is asked for, as `crate::running::storm` draws them: in a cluster with the service S, trees of
+/// The events of the storm that is asked for, as `crate::running::run_storm` draws them: in a cluster with the service S, trees of
 /// height 10 and no faulty party, whose replicas go by P, which serves each kind of the plan.
 pub fn storm_events<S: Service, P: Protocol<S>>(
     alloc: Global,

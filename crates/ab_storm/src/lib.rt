@@ -3,13 +3,13 @@
 
 mod drawing;
 mod ends;
+mod generator;
 mod laws;
 mod running;
-mod storm;
 mod summary;
 
 pub use drawing::storm_events;
 pub use ends::{storms_are_not_refused, storms_end_once};
+pub use generator::Storm;
 pub use laws::storms_can_happen;
-pub use running::{StormFault, Stormed, ended_by, idle_clients, storm};
-pub use storm::Storm;
+pub use running::{StormFault, Stormed, ended_by, idle_clients, run_storm};

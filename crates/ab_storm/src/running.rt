@@ -8,7 +8,7 @@ ghost use Rattle.ab_world.specs.Worlds.{start};
 ghost use Rattle.ab_storm.specs.Standing.{Goes};
 ghost use Rattle.ab_storm.specs.Runs.{idle_of, drawn_at, drawn_events, end_of, storm_setup, IsClusterOf, Storms, StepCause, EndCause, StormCause};
 
-use crate::storm::Storm;
+use crate::generator::Storm;
 use crate::summary::summary;
 use ab_abs::Protocol;
 use ab_cast::Setup;
@@ -128,7 +128,7 @@ fn summary_in<S: Service, P: Protocol<S>>(
 
 /// Runs the storm that is asked for: in a cluster with the service S, trees of height 10 and no faulty party, whose replicas
 /// go by P, which serves each kind of the plan.
-pub fn storm<S: Service, P: Protocol<S>>(
+pub fn run_storm<S: Service, P: Protocol<S>>(
     alloc: Global,
     asked: &StormCommand,
 ) -> Result<Stormed, StormFault>

@@ -1,5 +1,5 @@
 -- No value that a command takes begins with a dash.
-use Rattle.std.proofs.Common.{◌≡◌, ℕ, ◌^◌, ◌/◌, ◌%◌, List, [], ◌∷◌, Option, None, Some, Bool, true, false, refl, ap, sym, ◌∙◌, inl, inr, eqb, if◌then◌else◌, decimal, length, arith, subst, ◌&&◌, nat_lt, ◌==◌}
+use Rattle.std.proofs.Common.{◌≡◌, ℕ, ◌^◌, ◌/◌, ◌%◌, List, [], ◌∷◌, Option, None, Some, refl, ap, sym, ◌∙◌, inl, inr, eqb, if◌then◌else◌, decimal, length, arith, subst, nat_lt, ◌==◌}
 use Rattle.std.specs.Str.{bytes_eq}
 use Rattle.std.specs.Str.Parse.{digits_value}
 use Rattle.std.proofs.lemmas.Bool.{and_parts, cases_Bool, ltb-true}

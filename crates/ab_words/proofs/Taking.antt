@@ -1,5 +1,5 @@
 -- What clap answers, in terms of the language.
-use Rattle.std.proofs.Common.{◌≡◌, ℕ, List, [], ◌++◌, Option, None, Some, Bool, true, false, refl, ap, sym, ◌∙◌, map, subst, not, ◌&&◌, option_map, fold}
+use Rattle.std.proofs.Common.{◌≡◌, ℕ, List, [], ◌++◌, Option, None, Some, true, false, refl, ap, sym, ◌∙◌, map, subst, not, option_map, fold}
 use Rattle.std.proofs.lemmas.Bool.{and_parts, not-true}
 use Rattle.clap.specs.Words.{Row, Text, fault_of, matches_of}
 use Rattle.clap.specs.Walk.{with_default}

@@ -1,5 +1,5 @@
 -- The options of a command, as clap has them.
-use Rattle.std.specs.Prelude.{List, [], ◌∷◌, Bool, true, false, not, Some, map, codes}
+use Rattle.std.specs.Prelude.{List, Bool, true, false, not, Some, map, codes}
 use Rattle.std.specs.Str.{bytes_eq}
 use Rattle.std.specs.List.{list_any}
 use Rattle.clap.specs.Words.{App, Rule, Text, new_app, new_rule}

@@ -17,6 +17,7 @@ pub(crate) const PLAN: &str = "plan";
 pub(crate) const SEED: &str = "seed";
 
 pub(crate) const SERVICE: &str = "service";
+
 /// The only flag, which takes no value and may be missing.
 pub(crate) const TRACE: &str = "trace";
 

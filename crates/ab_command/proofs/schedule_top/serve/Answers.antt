@@ -3,7 +3,7 @@ use Rattle.std.specs.Io.KnownBytes.{Keeps}
 use Rattle.ab_words.specs.Uses.{texts}
 use Rattle.ab_command.specs.ScheduleEndings.{Asks}
 use Rattle.ab_command.proofs.ScheduleSettled.{memory_settled, usage_settled}
-use Rattle.ab_command.proofs.top.serve.Goals as goal
+use Rattle.ab_command.proofs.schedule_top.serve.Goals as goal
 
 pub returns-in-Ok-Some : goal.returns-in-Ok-Some
 returns-in-Ok-Some g c =

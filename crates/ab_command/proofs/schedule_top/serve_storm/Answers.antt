@@ -5,7 +5,7 @@ use Rattle.ab_storm.specs.Runs.{StormCause}
 use Rattle.ab_command.specs.Statuses.{kv}
 use Rattle.ab_command.specs.Written.{WritesStorm}
 use Rattle.ab_command.proofs.ScheduleSettled.{memory_settled, past_settled, schedule_told}
-use Rattle.ab_command.proofs.top.serve_storm.Goals as goal
+use Rattle.ab_command.proofs.schedule_top.serve_storm.Goals as goal
 
 pub returns-in-Err-TooManyPackets : goal.returns-in-Err-TooManyPackets
 returns-in-Err-TooManyPackets g c =

@@ -3,7 +3,7 @@ use Rattle.ab_words.specs.declared.command.Command.TheVariants.{Storm}
 use Rattle.ab_words.specs.Language.{command_in}
 use Rattle.ab_words.specs.Uses.{texts}
 use Rattle.ab_command.proofs.StormWords.{few_events}
-use Rattle.ab_command.proofs.top.storm_in.Goals as goal
+use Rattle.ab_command.proofs.schedule_top.storm_in.Goals as goal
 
 pub returns-in-Ok-Some-Storm-clause-few : goal.returns-in-Ok-Some-Storm-clause-few
 returns-in-Ok-Some-Storm-clause-few c =

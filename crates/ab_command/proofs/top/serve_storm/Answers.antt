@@ -6,8 +6,8 @@ use Rattle.ab_command.specs.Statuses.{kv}
 use Rattle.ab_command.proofs.StatusLemmas.{summary_told}
 use Rattle.ab_command.proofs.top.serve_storm.Goals as goal
 
-pub storm-requires-clause-served : goal.storm-requires-clause-served
-storm-requires-clause-served g c = λ i one. all_served c.args.asked.now.plan i
+pub run_storm-requires-clause-served : goal.run_storm-requires-clause-served
+run_storm-requires-clause-served g c = λ i one. all_served c.args.asked.now.plan i
 
 pub returns : goal.returns
 returns g c =

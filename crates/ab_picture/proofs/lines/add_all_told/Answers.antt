@@ -1,4 +1,4 @@
-use Rattle.ab_picture.proofs.Told.{none_added, one_added}
+use Rattle.ab_picture.proofs.ToldLemmas.{none_added, one_added}
 use Rattle.ab_picture.proofs.lines.add_all_told.Goals as goal
 
 pub loop-mark-init : goal.loop-mark-init

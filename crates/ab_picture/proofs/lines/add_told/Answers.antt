@@ -1,6 +1,6 @@
 use Rattle.std.proofs.Common.{◌+◌, ap, ◌∙◌}
 use Rattle.ab_picture.specs.Telling.{opening_of}
-use Rattle.ab_picture.proofs.Told.{one_line}
+use Rattle.ab_picture.proofs.ToldLemmas.{one_line}
 use Rattle.ab_picture.proofs.lines.add_told.Goals as goal
 
 pub returns : goal.returns

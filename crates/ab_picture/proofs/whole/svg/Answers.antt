@@ -2,7 +2,7 @@ use Rattle.std.specs.Prelude.{codes}
 use Rattle.std.proofs.Common.{◌++◌, List, ap, ◌∙◌, subst}
 use Rattle.ab_picture.specs.declared.picture.Mark.{Mark}
 use Rattle.ab_picture.specs.Telling.{AddsAll}
-use Rattle.ab_picture.proofs.Told.{tells_whole}
+use Rattle.ab_picture.proofs.ToldLemmas.{tells_whole}
 use Rattle.ab_picture.proofs.whole.svg.Goals as goal
 
 pub returns : goal.returns

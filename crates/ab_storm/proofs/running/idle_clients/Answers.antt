@@ -1,5 +1,5 @@
 use Rattle.std.proofs.Common.{arith}
-use Rattle.ab_storm.proofs.Drawing.{idle_is}
+use Rattle.ab_storm.proofs.DrawLemmas.{idle_is}
 use Rattle.ab_storm.proofs.running.idle_clients.Goals as goal
 
 pub returns : goal.returns

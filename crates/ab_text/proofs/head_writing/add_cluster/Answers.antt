@@ -2,7 +2,7 @@ use Rattle.std.proofs.Common.{◌≡◌, ℕ, List, [], ◌∷◌, ◌++◌, cod
 use Rattle.ab_text.specs.Heads.{plan_line}
 use Rattle.ab_text.specs.Texts.{text_of}
 use Rattle.ab_text.proofs.WritingLemmas.{added}
-use Rattle.ab_text.proofs.head.add_cluster.Goals as goal
+use Rattle.ab_text.proofs.head_writing.add_cluster.Goals as goal
 
 pub returns : goal.returns
 returns c =

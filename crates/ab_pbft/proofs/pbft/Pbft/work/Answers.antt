@@ -25,6 +25,7 @@ returns g c =
       sends = w.sends;
       pen = (w.moves, omega (arith, w.signs, c.in_ok-shelf.ensures.left));
       spent = search rules;
+      unused = search rules;
     }
 
 pub returns-in_err-shelf-clause-spent : goal.returns-in_err-shelf-clause-spent
@@ -33,3 +34,9 @@ returns-in_err-shelf-clause-spent g c =
     let few = c.in_err-shelf.ensures.spent in
     let p = err_from_is_err_and c.from_residual-in_err-shelf.result c.from_residual-in_err-shelf.ensures.1 in
     rw (p.1, p.2) (λ is. omega (arith, few (same_fault c.in_err-shelf.field-0.0 Spent is), signs))
+
+pub returns-in_err-shelf-clause-unused : goal.returns-in_err-shelf-clause-unused
+returns-in_err-shelf-clause-unused g c =
+    let none = c.in_err-shelf.ensures.unused in
+    let p = err_from_is_err_and c.from_residual-in_err-shelf.result c.from_residual-in_err-shelf.ensures.1 in
+    rw (p.1, p.2) (λ is. none (same_fault c.in_err-shelf.field-0.0 Spent is))

@@ -24,8 +24,8 @@ use Rattle.ab_order.proofs.Answering.{place_of}
 use Rattle.ab_pbft_rules.specs.Traces.{pair_of}
 use Rattle.ab_pbft_shelf.specs.declared.kept.Certified.{Certified}
 use Rattle.ab_pbft_shelf.specs.Shelves.{certified_front, own_proof}
-use Rattle.ab_pbft.specs.Bounds.{IsValueAt, AreValuesAt, IsCertAt, AreCertsAt, AreBoth, AreCertified}
-use Rattle.ab_pbft.proofs.Lists.{nth_set}
+use Rattle.ab_pbft_drafts.specs.Bounds.{IsValueAt, AreValuesAt, IsCertAt, AreCertsAt, AreBoth, AreCertified}
+use Rattle.ab_pbft_drafts.proofs.Lists.{nth_set}
 
 -- ---- digests of slots
 

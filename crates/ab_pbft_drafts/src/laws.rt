@@ -5,7 +5,7 @@ ghost use Rattle.ab_num.specs.declared.cluster.Cluster.{Cluster};
 ghost use Rattle.ab_order.specs.Bytes.{ArisesAs, KeepsBytes};
 ghost use Rattle.ab_pbft_rules.specs.Rules.{pbft};
 ghost use Rattle.ab_pbft_shelf.specs.Signing.{Signing, signing};
-ghost use Rattle.ab_pbft.specs.Bounds.{IsInForm};
+ghost use Rattle.ab_pbft_drafts.specs.Bounds.{IsInForm};
 
 /// The list that a replica executes has bytes, and what it sends is of the grammar but for the tags
 /// that sealing makes, if all that it was handed is of the grammar.

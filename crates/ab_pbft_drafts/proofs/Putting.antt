@@ -29,8 +29,8 @@ use Rattle.ab_pbft_shelf.specs.declared.kept.Ballot.{Ballot}
 use Rattle.ab_pbft_shelf.specs.declared.kept.Tagged.{Tagged}
 use Rattle.ab_pbft_shelf.specs.Shelves.{Shelf, maker_of, view_of, with_ballot_of, with_proof, with_tags, put_tags}
 use Rattle.ab_pbft_shelf.specs.Signing.{puts}
-use Rattle.ab_pbft.specs.Bounds.{HasTags}
-use Rattle.ab_pbft.proofs.Reading.{IsChangeWritten, told_change}
+use Rattle.ab_pbft_drafts.specs.Bounds.{HasTags}
+use Rattle.ab_pbft_drafts.proofs.Reading.{IsChangeWritten, told_change}
 
 -- an input for which nothing signed is put on the shelf
 abbrev pub IsPlain : Input → Type 0

@@ -11,7 +11,7 @@ use Rattle.ab_msg.specs.declared.value.Value.TheVariants.{Base, Request as Order
 use Rattle.ab_msg.specs.Fields.{IsRequest, IsWritten}
 use Rattle.ab_abs.specs.Values.{orders, list_of, goes}
 use Rattle.ab_lock.proofs.Lists.{nth_grown}
-use Rattle.ab_pbft.specs.Bounds.{IsValueAt, AreValuesAt}
+use Rattle.ab_pbft_drafts.specs.Bounds.{IsValueAt, AreValuesAt}
 
 pub nothing_written : IsWritten []
 nothing_written = ((omega arith, omega arith), (All-nil (IsRequest 0 15), λ i j d lt within. absurd (omega (arith, within))))

@@ -13,7 +13,7 @@ use Rattle.ab_lock.specs.ViewChanges.{Kept, of_view, put}
 use Rattle.ab_lock.proofs.KeptChanges.{put_in}
 use Rattle.ab_pbft_rules.specs.Rules.{without}
 use Rattle.ab_pbft_shelf.specs.Shelves.{maker_of, view_of, put_proof, without_maker}
-use Rattle.ab_pbft.specs.Bounds.{AreCertsAt, change_key, proof_key, AreProofs}
+use Rattle.ab_pbft_drafts.specs.Bounds.{AreCertsAt, change_key, proof_key, AreProofs}
 
 -- ---- who made them, and for which view
 

@@ -34,9 +34,9 @@ use Rattle.ab_order.proofs.ReadingLaws.{slots_are}
 use Rattle.ab_pbft_rules.specs.Rules.{cert_of}
 use Rattle.ab_pbft_rules.specs.Rules as rules
 use Rattle.ab_pbft_shelf.specs.Shelves.{maker_in, view_in}
-use Rattle.ab_pbft.specs.Bounds.{IsValueAt, IsCertAt, AreCertsAt}
-use Rattle.ab_pbft.proofs.Lists.{nth_mapped}
-use Rattle.ab_pbft.proofs.Values.{nothing_written}
+use Rattle.ab_pbft_drafts.specs.Bounds.{IsValueAt, IsCertAt, AreCertsAt}
+use Rattle.ab_pbft_drafts.proofs.Lists.{nth_mapped}
+use Rattle.ab_pbft_drafts.proofs.Values.{nothing_written}
 
 -- ---- what has bytes
 

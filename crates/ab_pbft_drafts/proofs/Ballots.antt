@@ -18,8 +18,8 @@ use Rattle.ab_lock.proofs.Lists.{Contains-take}
 use Rattle.ab_pbft_rules.proofs.RuleInduction.{and_both, lt_of}
 use Rattle.ab_pbft_shelf.specs.declared.kept.Ballot.{Ballot}
 use Rattle.ab_pbft_shelf.specs.Shelves.{is_of, has_ballot, put_ballot, is_for, signer_in, signers_below}
-use Rattle.ab_pbft.specs.Bounds.{vote_of, AreBallots}
-use Rattle.ab_pbft.proofs.Lists.{some_taken, few_taken}
+use Rattle.ab_pbft_drafts.specs.Bounds.{vote_of, AreBallots}
+use Rattle.ab_pbft_drafts.proofs.Lists.{some_taken, few_taken}
 
 le_of : (a b : ℕ) → nat_le a b ≡ true → a ≤ b
 le_of a b h = grind (arith, nat_tests)

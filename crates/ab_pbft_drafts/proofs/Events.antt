@@ -43,15 +43,15 @@ use Rattle.ab_pbft_shelf.specs.declared.author.Author.{Author}
 use Rattle.ab_pbft_shelf.specs.declared.kept.Tagged.{Tagged}
 use Rattle.ab_pbft_shelf.specs.Shelves.{Shelf, view_of, proofs_for, certified_front, own_proof, entered, tags_of, without_maker}
 use Rattle.ab_pbft_shelf.specs.Posts.{Post, no_tag, offer_to, offer_message, lead_message, posts_all, sig_of}
-use Rattle.ab_pbft.specs.Bounds.{IsValueAt, AreCertsAt, AreBallots, HasTags, seat_of}
-use Rattle.ab_pbft.proofs.Lists.{some_taken, few_taken}
-use Rattle.ab_pbft.proofs.Ballots.{no_ballots}
-use Rattle.ab_pbft.proofs.Proofs.{proofs_put, proofs_left, as_many}
-use Rattle.ab_pbft.proofs.Certificates.{own_certs, own_formed}
-use Rattle.ab_pbft.proofs.Values.{order_at, values_grown, no_values}
-use Rattle.ab_pbft.proofs.Reading.{IsInputWritten, certs_told}
-use Rattle.ab_pbft.proofs.Putting.{IsPlain}
-use Rattle.ab_pbft.proofs.Sending.{told-append, sent_more, limit_small, own_author, IsPosted, told_by, of_slot, settled_on}
+use Rattle.ab_pbft_drafts.specs.Bounds.{IsValueAt, AreCertsAt, AreBallots, HasTags, seat_of}
+use Rattle.ab_pbft_drafts.proofs.Lists.{some_taken, few_taken}
+use Rattle.ab_pbft_drafts.proofs.Ballots.{no_ballots}
+use Rattle.ab_pbft_drafts.proofs.Proofs.{proofs_put, proofs_left, as_many}
+use Rattle.ab_pbft_drafts.proofs.Certificates.{own_certs, own_formed}
+use Rattle.ab_pbft_drafts.proofs.Values.{order_at, values_grown, no_values}
+use Rattle.ab_pbft_drafts.proofs.Reading.{IsInputWritten, certs_told}
+use Rattle.ab_pbft_drafts.proofs.Putting.{IsPlain}
+use Rattle.ab_pbft_drafts.proofs.Sending.{told-append, sent_more, limit_small, own_author, IsPosted, told_by, of_slot, settled_on}
 
 -- ---- tags
 

@@ -42,10 +42,10 @@ use Rattle.ab_slots.specs.Deeds.{deeds_of, prepared_in, told_in}
 use Rattle.ab_pbft_shelf.specs.declared.author.Author.{Author}
 use Rattle.ab_pbft_shelf.specs.Shelves.{certified_by}
 use Rattle.ab_pbft_shelf.specs.Posts.{Post, to_others, commit_message, ballot_by, sig_of, posts, posts_all}
-use Rattle.ab_pbft.specs.Bounds.{IsValueAt, IsCertAt, IsCore, IsBounded}
-use Rattle.ab_pbft.proofs.Ballots.{ballots_put, enough_signed}
-use Rattle.ab_pbft.proofs.Certificates.{length-slot_digest, certified_set}
-use Rattle.ab_pbft.proofs.Values.{written_executed}
+use Rattle.ab_pbft_drafts.specs.Bounds.{IsValueAt, IsCertAt, IsCore, IsBounded}
+use Rattle.ab_pbft_drafts.proofs.Ballots.{ballots_put, enough_signed}
+use Rattle.ab_pbft_drafts.proofs.Certificates.{length-slot_digest, certified_set}
+use Rattle.ab_pbft_drafts.proofs.Values.{written_executed}
 
 -- ---- deeds in a row
 

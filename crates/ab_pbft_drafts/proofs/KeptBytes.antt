@@ -30,15 +30,15 @@ use Rattle.ab_pbft_shelf.specs.declared.kept.Tagged.{Tagged}
 use Rattle.ab_pbft_shelf.specs.Shelves.{Shelf, maker_of, view_of, with_ballot, with_ballot_of, with_proof, with_tags}
 use Rattle.ab_pbft_shelf.specs.Posts.{Post}
 use Rattle.ab_pbft_shelf.specs.Signing.{Signing, puts, signing}
-use Rattle.ab_pbft.specs.Bounds.{IsBounded, IsInForm, HasTags, seat_of}
-use Rattle.ab_pbft.proofs.Ballots.{ballots_put, no_ballots}
-use Rattle.ab_pbft.proofs.Proofs.{proofs_put, no_proofs}
-use Rattle.ab_pbft.proofs.Certificates.{none_certified}
-use Rattle.ab_pbft.proofs.Values.{nothing_written, no_values}
-use Rattle.ab_pbft.proofs.Reading.{IsInputWritten, IsChangeWritten, certs_told, told_written}
-use Rattle.ab_pbft.proofs.Putting.{IsPlain, IsPut, nothing, tags, ballot, proof, tagged_in, puts_are}
-use Rattle.ab_pbft.proofs.Sending.{IsPosted}
-use Rattle.ab_pbft.proofs.Events.{Stands, settles_on, kept_by}
+use Rattle.ab_pbft_drafts.specs.Bounds.{IsBounded, IsInForm, HasTags, seat_of}
+use Rattle.ab_pbft_drafts.proofs.Ballots.{ballots_put, no_ballots}
+use Rattle.ab_pbft_drafts.proofs.Proofs.{proofs_put, no_proofs}
+use Rattle.ab_pbft_drafts.proofs.Certificates.{none_certified}
+use Rattle.ab_pbft_drafts.proofs.Values.{nothing_written, no_values}
+use Rattle.ab_pbft_drafts.proofs.Reading.{IsInputWritten, IsChangeWritten, certs_told, told_written}
+use Rattle.ab_pbft_drafts.proofs.Putting.{IsPlain, IsPut, nothing, tags, ballot, proof, tagged_in, puts_are}
+use Rattle.ab_pbft_drafts.proofs.Sending.{IsPosted}
+use Rattle.ab_pbft_drafts.proofs.Events.{Stands, settles_on, kept_by}
 
 module _ (c : Cluster) (i me : ℕ) (placed : IsInstance i) (owned : me < 3 * c.f + 1) (base : List Request) (written : IsWritten base) (pen : Pen) (signs : SignsInForm pen) (memory : Memory) (s : Shelf) (left : ℕ)
     (was : IsBounded c.f (limit_of c.plan i) memory.peer.core memory.peer.votes memory.changes memory.requests s) where

@@ -1,5 +1,0 @@
-use Rattle.ab_pbft.proofs.KeptBytes.{signing_keeps_bytes}
-use Rattle.ab_pbft.proofs.laws.replicas_keep_bytes.Goals as goal
-
-pub returns : goal.returns
-returns c = signing_keeps_bytes
