@@ -1,84 +1,62 @@
 #!/usr/bin/env python3
 """Times replays of Backup alone: 16 clients invoke at once, again and again, and every packet is delivered in its order.
 
+usage: backup.py [COMMITS..]
+
 A Backup takes at most 16 requests, so each round of the 16 clients needs an instance of its own: the replicas have stopped,
-answer with their ABORTs, and the clients carry their requests into the next instance. Prints, for 200, 400 and 800
-commits, the events, the seconds, events per second and the peak memory of the program. A replica can sign 1,024 times, once for
-each slot and once for each ABORT, which is enough for some 900.
+answer with their ABORTs, and the clients carry their requests into the next instance. The words say how many commits there are at
+least; without words it times 200, 400 and 800. Prints, for each, the events, the seconds, events per second and the peak memory of the
+program. A replica can sign 1,024 times, once for each slot and once for each ABORT, which is enough for some 900.
 
-How many packets a round sends is learned from the program, round by round, which takes some minutes.
-"""
+How many packets a round sends is learned from the program, round by round, which takes some minutes."""
 
-import subprocess
-import sys
-
-from timing import PROGRAM, time_replay
+from programs import need, parser_of
+from schedules import Schedule, head, packets_of
+from timing import time_replay
 
 CLIENTS = 16
-HEAD = ["abstract 1", "f 1", "plan backup", f"clients {CLIENTS}", "service kv", "lms 10", "run"]
 
 
-def packets_of(lines):
-    """How many packets the events send, by the report's last line."""
-    text = "\n".join(lines + ["end", ""])
-    ran = subprocess.run([PROGRAM, "replay"], input=text, capture_output=True, text=True, check=False)
-    if ran.returncode != 0:
-        sys.exit(f"the replay ended with {ran.returncode}: {ran.stderr.strip()}")
-    return int(ran.stdout.split()[-1])
+def drain(made):
+    """Delivers all that is sent, until nothing more is. Returns how many packets that were."""
+    before = made.delivered
+    while waiting := packets_of(made.lines) - made.delivered:
+        made.deliver(waiting)
+    return made.delivered - before
 
 
-class Schedule:
-    """The lines of a schedule, and how many of its packets were delivered."""
-
-    def __init__(self):
-        self.lines = list(HEAD)
-        self.delivered = 0
-        self.requests = 0
-
-    def deliver(self, count):
-        first = self.delivered + 1
-        self.delivered += count
-        self.lines.extend(f"deliver {packet}" for packet in range(first, self.delivered + 1))
-
-    def drain(self):
-        """Delivers all that is sent, until nothing more is. Returns how many packets that were."""
-        before = self.delivered
-        while waiting := packets_of(self.lines) - self.delivered:
-            self.deliver(waiting)
-        return self.delivered - before
-
-    def invoke(self, clients=CLIENTS):
-        """That many clients invoke at once."""
-        for client in range(clients):
-            self.requests += 1
-            self.lines.append(f"invoke c{client} put k{client} v{self.requests}")
-
-    def time_out(self):
-        """Clients whose request no replica took ask again."""
-        self.lines.extend(f"timeout c{client}" for client in range(CLIENTS))
+def invoke_at_once(made, clients=CLIENTS):
+    """That many clients invoke."""
+    for client in range(clients):
+        made.invoke(f"c{client}", f"put k{client} v{made.requests + 1}")
 
 
 def begun():
     """The first four instances take 1, 2, 4 and 8 requests, so that the first round of 16 needs a fifth, whose other 15 places
     are filled by a second round. From then on each round is an instance."""
-    made = Schedule()
-    made.invoke()
-    made.drain()
+    made = Schedule(head("backup", clients=CLIENTS))
+    invoke_at_once(made)
+    drain(made)
     for _ in range(4):
-        made.time_out()
-        made.drain()
-    made.invoke(15)
-    made.drain()
+        # Clients whose request no replica took ask again.
+        made.time_out(f"c{client}" for client in range(CLIENTS))
+        drain(made)
+    invoke_at_once(made, 15)
+    drain(made)
     return made
 
 
 def main():
+    parser = parser_of(__doc__)
+    parser.add_argument("commits", nargs="*", type=int, default=[200, 400, 800])
+    counts = sorted(parser.parse_args().commits)
+    need("abstract_bft")
     made = begun()
-    made.invoke()
-    packets = made.drain()
-    for commits in (200, 400, 800):
+    invoke_at_once(made)
+    packets = drain(made)
+    for commits in counts:
         while made.requests < commits:
-            made.invoke()
+            invoke_at_once(made)
             made.deliver(packets)
         time_replay(f"{made.requests} commits", made.lines, made.requests)
 

@@ -1,33 +1,45 @@
 #!/usr/bin/env python3
-"""Runs a cluster of nodes over UDP on this machine, merges their traces into one schedule, and replays it.
+"""Runs a cluster of nodes over UDP on this machine, and replays what they did, or times them.
 
-    bench/cluster.py [--plan quorum] [--clients 1] [--commands 1000] [--wait 200] [--base 21000]
-                     [--stop R@N] [--noise] [--quiet]
+usage: cluster.py [--plan P] [--clients N] [--commands N] [--wait W] [--base B] [--lms H] [--stop R@N] [--noise] [--quiet]
 
-`--stop r1@100` stops replica r1 by its process once 100 commands were answered. `--noise` sends random datagrams to every
-port meanwhile. `--quiet` leaves out traces, to measure. All nodes append to one file, each a line before it sends what
-comes of it, so the lines of the file are a schedule in which nothing is taken before it was sent.
+Four replicas of the plan P (quorum) are started. When all of them listen, so are N clients (1), each with so many commands (1,000), one
+after the other; a cluster takes 1,024 requests in its life. Ports begin at B (where they are free). With `--stop r1@100` replica r1 is
+killed once 100 commands are answered, and with `--noise` random datagrams go to every port meanwhile.
 
-It fails where a node hangs past its turns, where two nodes' commits of one number differ, or where the replay doesn't
-commit exactly what the nodes did, or says anything but `premise held`."""
+All nodes append their traces to one file, each a line before it sends what comes of it, so the lines of the file are a schedule in
+which nothing is taken before it was sent. That is replayed. `--quiet` leaves out traces and the replay: so nodes are timed. The time is
+that of the clients, from when all replicas listen to the end of the last client's process.
 
-import argparse
+It ends with 1 if no command is answered, or not every command without `--stop` and `--noise`; if a client hangs or ends with a status
+other than 0 and 8, or a replica that isn't stopped ends; if two commits of one number differ; or if the replay doesn't commit exactly
+what the nodes did, or says anything but `premise held`."""
+
 import contextlib
 import itertools
+import os
 import pathlib
 import random
+import selectors
 import socket
 import subprocess
 import sys
 import tempfile
 import time
 
-from timing import PROGRAM
+from programs import PROGRAM, end_in_order, need, parser_of, ran
+from schedules import head
 
 SEED = "0" * 64
 HOST = "127.0.0.1"
 REPLICAS = 4
-BASES = itertools.count(21_000, 200)
+SECONDS = 300
+# Two programs that look for ports at once begin at different ones.
+BASES = itertools.count(21_000 + 200 * (os.getpid() % 100), 200)
+# How a client ends whose commands are answered, and one whose turns are used.
+ANSWERED, SPENT = 0, 8
+# How often noise is made and a stop is thought of.
+PAUSE = 0.005
 
 
 def free_base():
@@ -46,16 +58,19 @@ class Cluster:
     def __init__(self, folder, asked):
         self.folder, self.asked = pathlib.Path(folder), asked
         self.lines = self.folder / "lines"
+        self.lines.touch()
         self.nodes = {}
 
-    def start(self, party, commands, turns, wait):
+    def set_up(self, party, commands=()):
+        """Writes the text that sets up a party, so that nothing waits for this script later."""
+        text = self.keys(party) + b"".join(b"do %s\n" % it for it in commands) + b"end\n"
+        (self.folder / party).write_bytes(text)
+
+    def start(self, party, turns, wait):
         words = ["node", "--base", self.asked.base, "--wait", wait, "--turns", turns]
         if not self.asked.quiet:
             words.append("--trace")
-        # The text comes from a file, so that nothing waits for this script.
-        text = self.folder / party
-        text.write_bytes(self.keys(party) + b"".join(b"do %s\n" % it for it in commands) + b"end\n")
-        with text.open("rb") as given, self.lines.open("ab") as taken:
+        with (self.folder / party).open("rb") as given, self.lines.open("ab") as taken:
             self.nodes[party] = subprocess.Popen(
                 [PROGRAM, *map(str, words)], stdin=given, stdout=taken, stderr=subprocess.PIPE
             )
@@ -64,14 +79,33 @@ class Cluster:
         asked = self.asked
         words = ["--plan", asked.plan, "--f", "1", "--clients", str(asked.clients), "--service", "kv", "--lms", asked.lms]
         words = [PROGRAM, "keys", *words, "--seed", SEED, "--party", party]
-        return subprocess.run(words, capture_output=True, check=True).stdout
+        return subprocess.run(words, capture_output=True, check=True, timeout=SECONDS).stdout
 
     def wait_for_ports(self, seconds):
         """Waits until each replica listens: nobody answers a datagram to a port that isn't open but the system, which refuses it."""
         end = time.monotonic() + seconds
         for port in range(self.asked.base, self.asked.base + REPLICAS):
-            while time.monotonic() < end and not is_open(port):
+            while not is_open(port):
+                if end < time.monotonic():
+                    raise TimeoutError(f"nobody listens on port {port}")
                 time.sleep(0.01)
+
+    def wait_for(self, parties, seconds, meanwhile=None):
+        """Waits until these nodes have ended, or the seconds are over, and makes a call again and again meanwhile. Returns when the
+        last of them ended."""
+        last = end = time.monotonic() + seconds
+        with contextlib.ExitStack() as files, selectors.DefaultSelector() as waiting:
+            for party in parties:
+                file = os.pidfd_open(self.nodes[party].pid)
+                files.callback(os.close, file)
+                waiting.register(file, selectors.EVENT_READ)
+            while waiting.get_map() and time.monotonic() < end:
+                for ended, _ in waiting.select(PAUSE if meanwhile else seconds):
+                    last = time.monotonic()
+                    waiting.unregister(ended.fileobj)
+                if meanwhile:
+                    meanwhile()
+        return last
 
     def running(self):
         return [party for party, node in self.nodes.items() if node.poll() is None]
@@ -95,10 +129,10 @@ class Cluster:
     def replayed(self):
         """The report of all its events, and what is said of them."""
         asked = self.asked
-        head = ["abstract 1", "f 1", f"plan {asked.plan}", f"clients {asked.clients}", "service kv", f"lms {asked.lms}", "run"]
-        lines = [*(line.encode() for line in head), *self.lines_of(b"invoke", b"inject", b"timeout"), b"end", b""]
-        done = subprocess.run([PROGRAM, "replay"], input=b"\n".join(lines), capture_output=True)
-        return done.stdout.decode().splitlines(), done.stderr.decode()
+        lines = [line.encode() for line in head(asked.plan, clients=asked.clients, lms=asked.lms)]
+        lines += [*self.lines_of(b"invoke", b"inject", b"timeout"), b"end", b""]
+        _, report, said = ran(["replay"], b"\n".join(lines))
+        return report.decode().splitlines(), said.decode()
 
 
 def is_open(port):
@@ -122,59 +156,94 @@ def commits_of(report):
     return sorted((int(w[4]), int(w[3]), int(w[5]), " ".join(w[6:])) for w in words)
 
 
-def make_noise(asked, rng, sender):
-    ports = [*range(asked.base, asked.base + REPLICAS), *range(asked.base + 100, asked.base + 100 + asked.clients)]
-    for port in ports:
-        data = rng.randbytes(rng.choice([0, 1, 16, 17, 100, 8208]))
-        if len(data) >= 17 and rng.random() < 0.5:
-            data = b"\x01\x00\x00" + bytes([rng.randrange(REPLICAS)]) + data[4:13] + b"\x00\x00\x00\x01" + data[17:]
-        sender.sendto(data, (HOST, port))
+class Trouble:
+    """What comes to a cluster while its clients run: random datagrams, and the stop of a replica."""
+
+    def __init__(self, cluster, asked, sender, lines):
+        self.cluster, self.asked, self.sender, self.lines = cluster, asked, sender, lines
+        self.random = random.Random(7)
+        self.victim, _, count = (asked.stop or "").partition("@")
+        self.left = int(count or 0)
+        self.cut = b""
+
+    def make(self):
+        if self.asked.noise:
+            self.make_noise()
+        if self.victim:
+            self.left -= self.new_replies()
+            if self.left <= 0:
+                self.cluster.nodes[self.victim].kill()
+                self.victim = ""
+
+    def new_replies(self):
+        """How many commands were answered since the last call. It reads what is new alone, to leave the processor to the nodes."""
+        *lines, self.cut = (self.cut + self.lines.read()).split(b"\n")
+        return sum(line.startswith(b"reply ") for line in lines)
+
+    def make_noise(self):
+        base, draws = self.asked.base, self.random
+        for port in (*range(base, base + REPLICAS), *range(base + 100, base + 100 + self.asked.clients)):
+            data = draws.randbytes(draws.choice([0, 1, 16, 17, 100, 8208]))
+            if len(data) >= 17 and draws.random() < 0.5:
+                data = b"\x01\x00\x00" + bytes([draws.randrange(REPLICAS)]) + data[4:13] + b"\x00\x00\x00\x01" + data[17:]
+            self.sender.sendto(data, (HOST, port))
 
 
 def run(cluster, asked):
-    """Lets the clients' commands be answered, and returns the seconds that took."""
-    for r in range(REPLICAS):
-        cluster.start(f"r{r}", [], 1_000_000_000, asked.wait)
+    """Lets the clients' commands be answered, and returns the seconds that took, from when all replicas listened."""
+    replicas, clients = [f"r{r}" for r in range(REPLICAS)], [f"c{c}" for c in range(asked.clients)]
+    for c, client in enumerate(clients):
+        cluster.set_up(client, [b"put k%d_%d v%d" % (c, n % 50, n) for n in range(asked.commands)])
+    for replica in replicas:
+        cluster.set_up(replica)
+        cluster.start(replica, 1_000_000_000, asked.wait)
     cluster.wait_for_ports(60)
-    begin = time.monotonic()
-    clients = [f"c{c}" for c in range(asked.clients)]
-    for client in clients:
-        commands = [b"put k%s_%d v%d" % (client[1:].encode(), n % 50, n) for n in range(asked.commands)]
-        cluster.start(client, commands, 100 * asked.commands + 1000, asked.wait)
-    victim, count = asked.stop.split("@") if asked.stop else (None, 0)
-    rng, limit = random.Random(7), begin + 60 + asked.commands * asked.clients
-    with socket.socket(socket.AF_INET, socket.SOCK_DGRAM) as sender:
-        while not set(clients).isdisjoint(cluster.running()) and time.monotonic() < limit:
-            if asked.noise:
-                make_noise(asked, rng, sender)
-            if victim and len(cluster.lines_of(b"reply")) >= int(count):
-                cluster.nodes[victim].kill()
-                victim = None
-            time.sleep(0.005 if asked.noise or victim else 0.05)
-    return time.monotonic() - begin
+    with socket.socket(socket.AF_INET, socket.SOCK_DGRAM) as sender, cluster.lines.open("rb") as lines:
+        trouble = Trouble(cluster, asked, sender, lines)
+        begin = time.monotonic()
+        for client in clients:
+            cluster.start(client, 100 * asked.commands + 1000, asked.wait)
+        seconds = 60 + asked.commands * asked.clients
+        return cluster.wait_for(clients, seconds, trouble.make if asked.noise or asked.stop else None) - begin
+
+
+def faults_of(asked, running, statuses, answered):
+    """What is wrong with how the nodes ended, and with how many commands were answered."""
+    wanted = 1 if asked.stop or asked.noise else asked.commands * asked.clients
+    if answered < wanted:
+        yield f"{answered} commands answered, where {wanted} have to be"
+    stopped = (asked.stop or "").partition("@")[0]
+    for party, status in statuses.items():
+        if party.startswith("c") and party in running:
+            yield f"{party} hangs"
+        elif party.startswith("c") and status not in (ANSWERED, SPENT):
+            yield f"{party} ended with status {status}"
+        elif party.startswith("r") and party not in (*running, stopped):
+            yield f"{party} ended by itself, with status {status}"
 
 
 def compared(cluster):
-    """Tells what the replay of all traces says beside the nodes, and returns whether they agree."""
-    report, fault = cluster.replayed()
+    """Tells what the replay of all traces says beside the nodes, and yields how they differ."""
+    report, said = cluster.replayed()
     premise = [line for line in report if line.startswith("premise")]
+    print(f"replay of all traces: {', '.join(premise + report[-1:])} {said.strip()}")
+    if premise != ["premise held"]:
+        yield "the replay of all traces doesn't say that its premises held"
     replies, numbers = cluster.replies(), {}
-    same = commits_of(report) == replies
-    differ = any(numbers.setdefault((instance, number), reply) != reply for _, instance, number, reply in replies)
-    print(
-        f"replay of all traces: {premise} {report[-1:]} {fault.strip()}; its commits are those of the nodes: {same}; "
-        f"replies of one number that differ: {differ}"
-    )
-    return same and not differ and premise == ["premise held"]
+    if commits_of(report) != replies:
+        yield "the replay of all traces commits otherwise than the nodes"
+    for _, instance, number, reply in replies:
+        if numbers.setdefault((instance, number), reply) != reply:
+            yield f"two replies of number {number} in instance {instance} differ"
 
 
 def options():
-    parser = argparse.ArgumentParser()
+    parser = parser_of(__doc__)
     parser.add_argument("--plan", default="quorum")
     parser.add_argument("--clients", type=int, default=1)
     parser.add_argument("--commands", type=int, default=1000)
     parser.add_argument("--wait", type=int, default=200)
-    parser.add_argument("--base", type=int, default=21000)
+    parser.add_argument("--base", type=int)
     parser.add_argument("--lms", default="10")
     parser.add_argument("--stop")
     parser.add_argument("--noise", action="store_true")
@@ -184,19 +253,23 @@ def options():
 
 def main():
     asked = options()
+    asked.base = asked.base or free_base()
+    need("abstract_bft")
+    end_in_order()
     with tempfile.TemporaryDirectory() as folder:
         cluster = Cluster(folder, asked)
         try:
             seconds = run(cluster, asked)
-            hang = [party for party in cluster.running() if party.startswith("c")]
+            running = cluster.running()
         finally:
             statuses, said = cluster.stop()
         answered = len(cluster.replies())
-        print(f"{answered} of {asked.commands * asked.clients} commands answered in {seconds:.2f} s, {answered / seconds:.0f} a second")
-        clients = [status for party, status in statuses.items() if party.startswith("c")]
-        print(f"clients ended with {clients}; said: {[it.strip() for it in said.values() if it]}")
-        good = not hang and (asked.quiet or compared(cluster))
-    sys.exit(0 if good else 1)
+        told = f"{answered} of {asked.commands * asked.clients} commands answered in {seconds:.3f} s"
+        print(f"{told}, {answered / seconds:.0f} a second, {'without' if asked.quiet else 'with'} traces")
+        print(f"nodes said: {[f'{party}: {text.strip()}' for party, text in said.items() if text]}")
+        faults = [*faults_of(asked, running, statuses, answered), *([] if asked.quiet else compared(cluster))]
+    print("\n".join(faults), end="\n" if faults else "")
+    sys.exit(1 if faults else 0)
 
 
 if __name__ == "__main__":

@@ -2,7 +2,7 @@
 """Runs the built program again and again, and lets one call to the outside fail in each: the first, the second and the last read
 of the input, write of the output, write of the faults' output, opening of the port, wait for a datagram and sending of one.
 
-    bench/fail_calls.py
+usage: fail_calls.py
 
 Each run has to end as the table of statuses says, with the text of its status, and with a front of what it writes without
 the fault. A datagram that couldn't be sent is a loss, and the node goes on. What is otherwise is told, and the status is then
@@ -12,9 +12,9 @@ import pathlib
 import sys
 import tempfile
 
-from cluster import free_base
-from preload import built, ran
-from timing import TOP
+from cluster import SEED, free_base
+from preload import built
+from programs import TOP, end_in_order, need, parser_of, ran
 
 FAILER = r"""
 #define _GNU_SOURCE
@@ -68,9 +68,11 @@ __attribute__((destructor)) static void tell(void) {
 }
 """
 KINDS = ("in", "out", "err", "open", "recv", "send")
-SEED = "0" * 64
+# What a run of each of these calls at least once.
+CALLED = {"replay": {"in", "out"}, "replay, a bad line": {"in", "err"}, "keys": {"out"}, "node": {"in", "out", "err", "open", "recv", "send"}}
 KEYS = ["keys", *"--plan quorum --f 1 --clients 1 --service kv --lms 5 --party c0 --seed".split(), SEED]
-NODE = ["node", *"--wait 20 --turns 3 --base".split()]
+# It waits so long that no timer runs out before the wait does, however busy the machine is.
+NODE = ["node", *"--wait 500 --turns 3 --base".split()]
 
 
 def wanted(kind, good, failed):
@@ -101,10 +103,13 @@ def commands():
 
 def tried(folder):
     """Yields, of each run in which a call fails, its name, and how it ended if not as it has to, else None."""
-    library, counts = built(folder, FAILER), pathlib.Path(folder, "counts")
+    folder = pathlib.Path(folder)
+    library, counts = built(folder, FAILER), folder / "counts"
     for name, words, text in commands():
         good = ran(words, text, LD_PRELOAD=library, COUNTS=str(counts))
         made = [int(count) for count in counts.read_text().split()]
+        uncalled = CALLED[name] - {kind for kind, last in zip(KINDS, made) if last}
+        yield f"{name}, calls", f"it never called {', '.join(sorted(uncalled))}" if uncalled else None
         for kind, last in zip(KINDS, made):
             for number in sorted({1, 2, last} & set(range(1, last + 1))):
                 failed = ran(words, text, LD_PRELOAD=library, FAIL_KIND=kind, FAIL_NUMBER=str(number))
@@ -113,6 +118,9 @@ def tried(folder):
 
 
 def main():
+    parser_of(__doc__).parse_args()
+    need("abstract_bft")
+    end_in_order()
     bad = runs = 0
     with tempfile.TemporaryDirectory() as folder:
         for name, ended in tried(folder):

@@ -7,18 +7,19 @@ The gate runs in this repository, on the first N processors (all that there are)
 kept. What it writes goes to FILE (gate.log, in the folder that the script is called in). Each of its checks is a process whose
 processor time is read once a second, so that up to a second of each is missed. Prints a line for each crate, the dearest first,
 with processor minutes for its proof, its tests and its edits, and what `rt ci` said last; then the sums, and the minutes from start
-to end. Of a run that is interrupted it tells what has been until then.
-"""
+to end. Of a run that is interrupted it tells what has been until then."""
 
-import argparse
 import collections
 import os
+import pathlib
 import signal
 import subprocess
 import sys
 import time
 
-from timing import TOP
+from programs import TOP, parser_of
+
+PROCESSES = pathlib.Path("/proc")
 
 TICKS = os.sysconf("SC_CLK_TCK")
 KINDS = ("proof", "tests", "edits")
@@ -35,37 +36,40 @@ class Check:
     """A process of the prover, with its crate and its processor time so far."""
 
     def __init__(self, process):
-        with open(f"/proc/{process}/cmdline") as f:
-            words = f.read().split("\0")
+        folder = PROCESSES / process
+        words = (folder / "cmdline").read_text().split("\0")
         self.crate = words[words.index("--crate-name") + 1]
-        self.kind = kind_of(words, os.readlink(f"/proc/{process}/cwd"))
+        self.kind = kind_of(words, os.readlink(folder / "cwd"))
         self.seconds = 0.0
 
 
 def fields_of(process):
     """A process's name, its parent, and its processor time and start in ticks."""
-    with open(f"/proc/{process}/stat") as f:
-        text = f.read()
+    text = (PROCESSES / process / "stat").read_text()
     name = text[text.index("(") + 1 : text.rindex(")")]
     rest = text[text.rindex(")") + 2 :].split()
-    return name, int(rest[1]), int(rest[11]) + int(rest[12]), int(rest[19])
+    return name, rest[1], int(rest[11]) + int(rest[12]), int(rest[19])
+
+
+def is_below(process, above, parents):
+    """Whether a process was started by another, or by one that was, and so on."""
+    while process not in ("0", above):
+        process = parents.get(process, "0")
+    return process == above
 
 
 def look(above, checks):
     """Reads the processor time of each check below a process."""
     found, parents = {}, {}
-    for process in filter(str.isdigit, os.listdir("/proc")):
+    for process in filter(str.isdigit, os.listdir(PROCESSES)):
         try:
-            name, parents[int(process)], ticks, start = fields_of(process)
+            name, parents[process], ticks, start = fields_of(process)
         except (FileNotFoundError, ProcessLookupError):
             continue
         if name == "rattle":
-            found[int(process), start] = ticks / TICKS
+            found[process, start] = ticks / TICKS
     for key, seconds in found.items():
-        process = key[0]
-        while process not in (0, above):
-            process = parents.get(process, 0)
-        if process != above:
+        if not is_below(key[0], str(above), parents):
             continue
         try:
             if key not in checks:
@@ -88,16 +92,16 @@ def tell(checks, minutes, last):
 
 
 def main():
-    parser = argparse.ArgumentParser()
+    parser = parser_of(__doc__)
     parser.add_argument("--anew", action="store_true")
     parser.add_argument("--processors", type=int)
-    parser.add_argument("--log", default="gate.log")
+    parser.add_argument("--log", type=pathlib.Path, default="gate.log")
     asked = parser.parse_args()
     if asked.processors:
         os.sched_setaffinity(0, sorted(os.sched_getaffinity(0))[: asked.processors])
     words = ["rt", "ci"] + ["--anew"] * asked.anew
     checks, begin = {}, time.monotonic()
-    with open(asked.log, "w") as log:
+    with asked.log.open("w") as log:
         gate = subprocess.Popen(words, cwd=TOP, stdout=log, stderr=subprocess.STDOUT)
         try:
             while gate.poll() is None:
@@ -106,10 +110,10 @@ def main():
         except KeyboardInterrupt:
             gate.send_signal(signal.SIGINT)
             gate.wait()
-    with open(asked.log) as log:
-        said = log.read().splitlines() or ["it said nothing"]
+    said = asked.log.read_text().splitlines() or ["it said nothing"]
     tell(checks, (time.monotonic() - begin) / 60, said[-1])
     sys.exit(gate.returncode)
 
 
-main()
+if __name__ == "__main__":
+    main()

@@ -9,11 +9,11 @@ table of all that are planted: functions; bodies that were refused, that the con
 which there was no time; functions without an ensures, and those under which no body could be judged. `rt plant` gives up a check
 after four minutes by the clock, so it judges little on a machine that has other work."""
 
-import argparse
 import re
 import subprocess
+import sys
 
-from timing import TOP
+from programs import TOP, parser_of
 
 PLANTED = TOP / "out" / "planted"
 TESTS_ALONE = re.compile(r"ab_rows|\w+_trials")
@@ -57,14 +57,15 @@ def tell(names):
 
 
 def main():
-    parser = argparse.ArgumentParser()
+    parser = parser_of(__doc__)
     parser.add_argument("names", nargs="*")
     parser.add_argument("--minutes", type=int, default=5)
     asked = parser.parse_args()
     PLANTED.mkdir(parents=True, exist_ok=True)
     ended = [plant(name, asked.minutes) for name in asked.names or crates()]
     tell(crates())
-    return 0 if all(ended) else 1
+    sys.exit(0 if all(ended) else 1)
 
 
-raise SystemExit(main())
+if __name__ == "__main__":
+    main()

@@ -1,14 +1,11 @@
-"""What scripts share that come between a built program and the C library."""
+"""What scripts share that come between a built program and the C library. It needs a C compiler."""
 
-import argparse
 import collections
 import concurrent.futures
-import os
-import pathlib
 import subprocess
 import time
 
-from timing import PROGRAM
+from programs import parser_of
 
 # Refuses the allocation whose number REFUSE has, and with REFUSE_REST all after it. Writes how many there were to the file ASKED.
 REFUSER = r'''
@@ -67,44 +64,36 @@ __attribute__((destructor)) static void tell(void) {
 
 def built(folder, source):
     """The C source as a library to be preloaded."""
-    text, library = pathlib.Path(folder, "between.c"), os.path.join(folder, "between.so")
+    text, library = folder / "between.c", folder / "between.so"
     text.write_text(source)
-    subprocess.run(["cc", "-shared", "-fPIC", "-O1", "-o", library, str(text), "-ldl"], check=True)
-    return library
+    subprocess.run(["cc", "-shared", "-fPIC", "-O1", "-o", library, text, "-ldl"], check=True)
+    return str(library)
 
 
-def ran(words, text, **environment):
-    """The status of the program, and what it writes and says."""
-    done = subprocess.run([PROGRAM, *words], input=text, capture_output=True, env={**os.environ, **environment}, timeout=600)
-    return done.returncode, done.stdout, done.stderr
-
-
-def options_of(names):
-    """The words of a script that refuses allocations, some of them under this name."""
-    parser = argparse.ArgumentParser()
-    parser.add_argument(names, nargs="*")
+def parser_of_refusals(doc):
+    """A parser of the words of a script that refuses allocations."""
+    parser = parser_of(doc)
     parser.add_argument("--lanes", type=int, default=1)
     parser.add_argument("--minutes", type=float, default=10)
     parser.add_argument("--rest", action="store_true")
-    return parser.parse_args()
+    return parser
 
 
-def refusing(library, number, options):
+def refusing(library, number, asked):
     """The environment in which the allocation of this number is refused; none is if it is 0."""
-    return {"LD_PRELOAD": library, "REFUSE": str(number), **({"REFUSE_REST": "1"} if options.rest else {})}
+    return {"LD_PRELOAD": library, "REFUSE": str(number), **({"REFUSE_REST": "1"} if asked.rest else {})}
 
 
-def swept(runs, folder, options):
+def swept(runs, folder, asked):
     """How many allocations the runs ask for, at which step they were refused, and how many of the runs ended in which way. `whole`
-    runs with all memory and has the count written to a file, and `end` says how a run ends where the allocation of a number is
-    refused. Where all would take more than so many minutes, each second is refused, or each third, and so on."""
-    asked, begin = os.path.join(folder, "asked"), time.perf_counter()
-    runs.whole(asked)
+    runs with all memory and has the count written to a file, and `end` says how a run ends if the allocation of a number is
+    refused. If all would take more than so many minutes, each second is refused, or each third, and so on."""
+    counted, begin = folder / "asked", time.perf_counter()
+    runs.whole(str(counted))
     seconds = time.perf_counter() - begin
-    with open(asked) as f:
-        count = int(f.read())
-    step = 1 + int(count * seconds / (60 * options.minutes * options.lanes))
-    with concurrent.futures.ThreadPoolExecutor(options.lanes) as lanes:
+    count = int(counted.read_text())
+    step = 1 + int(count * seconds / (60 * asked.minutes * asked.lanes))
+    with concurrent.futures.ThreadPoolExecutor(asked.lanes) as lanes:
         ends = collections.Counter(lanes.map(runs.end, range(1, count + 1, step)))
     return count, step, ends
 

@@ -2,19 +2,20 @@
 """Times the reading of three messages beside a plain copy of their bytes: a CHAIN, an INIT of histories with one request and
 with 100, and a NEW-VIEW of three million bytes.
 
+usage: reading.py [--quick]
+
 The bytes are of the grammar, with tags and signatures that nobody made: reading looks at none. Each message is read and copied
 10,000 times for each of its lines in a process of its own (`ab_rows`), and the processor time that the same process takes without
 either is taken off. Prints microseconds and bytes per second, the best of five runs each, and how many times as long as a copy the
-reading takes.
-"""
+reading takes. With `--quick` each message has one line, which tells less."""
 
-import resource
 import struct
-import subprocess
+import sys
 
-from timing import TOP
+from programs import need, parser_of, path_of, ran
+from timing import least_processor_time
 
-PROGRAM = TOP / "crates" / "ab_rows" / "out" / "ab_rows"
+READER = path_of("ab_rows")
 TIMES = 10_000
 TAG = b"\x5a" * 32
 SIGNATURE = struct.pack(">H", 2508) + b"\xa5" * 2508
@@ -60,33 +61,35 @@ def new_view():
     return b"\x0c" + of_replica(11, 1) + struct.pack(">I", 1) + TAG + b"\7" + b"".join(view_change(m) for m in range(7))
 
 
-def processor_time():
-    """What the processes that ended took so far."""
-    used = resource.getrusage(resource.RUSAGE_CHILDREN)
-    return used.ru_utime + used.ru_stime
-
-
 def seconds(mark, message, lines):
     """The processor time of a process for so many lines, the best of five."""
     text = (mark + message.hex().encode() + b"\n") * lines
-    best = float("inf")
-    for _ in range(5):
-        begin = processor_time()
-        done = subprocess.run([PROGRAM], input=text, capture_output=True, check=True)
-        best = min(best, processor_time() - begin)
-        assert done.stdout == b"%d as told, 0 not\n" % lines, done.stdout
-    return best
+    wanted = 0, b"%d as told, 0 not\n" % lines
+
+    def read():
+        status, out, said = ran([], text, program=READER)
+        if (status, out) != wanted:
+            sys.exit(f"the reader ended with {status}: {out!r}, {said!r}")
+
+    return least_processor_time(read)
+
+
+def tell(name, message, lines):
+    """Times the reading of a message, and the copying of its bytes."""
+    idle = seconds(b"n", message, lines)
+    read, copied = ((seconds(mark, message, lines) - idle) / (TIMES * lines) for mark in (b"r", b"c"))
+    rates = (f"{what} {1e6 * took:.2f} us, {len(message) / took:.3g} bytes/s" for what, took in (("read", read), ("copied", copied)))
+    print(f"{name}, {len(message)} bytes: {', '.join(rates)}, {read / copied:.2f} times a copy", flush=True)
 
 
 def main():
-    if not PROGRAM.exists():
-        subprocess.run(["rt", "run"], cwd=TOP / "crates" / "ab_rows", stdin=subprocess.DEVNULL, check=True)
+    parser = parser_of(__doc__)
+    parser.add_argument("--quick", action="store_true")
+    quick = parser.parse_args().quick
+    need("ab_rows", by="`rt run` in crates/ab_rows")
     messages = (("CHAIN", chain(), 300), ("INIT", init(1), 30), ("INIT", init(100), 30), ("NEW-VIEW", new_view(), 1))
     for name, message, lines in messages:
-        idle = seconds(b"n", message, lines)
-        read, copied = ((seconds(mark, message, lines) - idle) / (TIMES * lines) for mark in (b"r", b"c"))
-        rates = ", ".join(f"{what} {1e6 * took:.2f} us, {len(message) / took:.3g} bytes/s" for what, took in (("read", read), ("copied", copied)))
-        print(f"{name}, {len(message)} bytes: {rates}, {read / copied:.2f} times a copy")
+        tell(name, message, 1 if quick else lines)
 
 
 if __name__ == "__main__":

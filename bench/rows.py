@@ -3,12 +3,12 @@
 
 usage: rows.py [GROUP..]
 
-Rows are the cases of rows/ (rows/README.md says how they are stored), the schedules of examples/ with their reports, the pictures
-there, the lines and the commits of a cluster of five nodes, and runs in which a call to the outside fails. Cases are run by each build of
-a program that stands in its out/, over its own standard streams, and the status and both streams have to be those that are stored,
-byte for byte. Storms are run twice by each build. Rows go side by side on all processors. What is wrong is told with the first line
-that differs; then each group has a line, and the last line counts all. The words are the groups that are run, or else all are. The
-failing calls need a C compiler."""
+The rows are the cases of rows/ (rows/README.md says how they are stored), the schedules of examples/ with their reports, the pictures
+there, a cluster of five nodes, runs in which a call to the outside fails, and the names in docs/WHERE.md. Each case is run by the built
+program over streams of its own, and the status and both streams have to be those that are stored, byte for byte. What a second compiler
+built is run too, but not on groups that take it long. Storms are run twice. Rows go side by side on all processors. What is wrong is
+told with the first line that differs; then each group has a line, and the last line counts all. The words are the groups that are run;
+without words all are. The failing calls need a C compiler."""
 
 import argparse
 import collections
@@ -24,10 +24,14 @@ import tempfile
 
 import cluster
 import fail_calls
-from timing import TOP
+import where
+from programs import TOP
 
 ROWS, EXAMPLES = TOP / "rows", TOP / "examples"
 PROGRAMS = ("abstract_bft", "draw", "storm_schedule")
+ENDINGS = ("sched", "sched.gz", "words", "node", "out", "err", "status")
+# The groups that take seconds a row, for signatures: these run by one build alone.
+LONG = ("storms", "limits", "hostile")
 SECONDS = 300
 
 
@@ -45,8 +49,6 @@ class Case:
     def words(self):
         """The program and its words."""
         words = self.part("words").decode("utf-8", "surrogateescape")
-        if "{base}" in words:
-            words = words.replace("{base}", str(cluster.free_base()))
         return shlex.split(words) or ["abstract_bft", "replay"]
 
     def given(self):
@@ -61,7 +63,7 @@ def cases():
     """All cases of rows/, by their groups."""
     found = collections.defaultdict(list)
     for path in sorted(ROWS.glob("*/*")):
-        name, ending = path.name.split(".", 1)
+        name, _, ending = path.name.partition(".")
         if ending in ("sched", "sched.gz", "words"):
             found[path.parent.name].append(Case(path.parent.name, name))
     return found
@@ -85,10 +87,11 @@ def short(line):
     return "nothing" if line is None else repr(line[:120].decode("utf-8", "backslashreplace"))
 
 
-def builds(program):
-    """The programs that two compilers made, as far as they are there."""
-    folder = TOP / "crates" / program / "out"
-    return [path for path in (folder / program, folder / f"{program}.by-rattle") if os.access(path, os.X_OK)]
+def builds(name, group=""):
+    """The built program of this name, and the one of a second compiler if it is there and the group doesn't take it long."""
+    folder = TOP / "crates" / name / "out"
+    paths = [folder / name] if group in LONG else [folder / name, folder / f"{name}.by-rattle"]
+    return [path for path in paths if os.access(path, os.X_OK)]
 
 
 class Run:
@@ -101,19 +104,23 @@ class Run:
     def difference(self):
         """How it ends otherwise. None if it doesn't."""
         try:
-            done = subprocess.run([self.program, *self.words], input=self.given, capture_output=True, timeout=SECONDS)
-        except (OSError, subprocess.SubprocessError) as fault:
-            return f"{type(fault).__name__}: {fault}"
+            # Ports are looked for when they are wanted: those that were free long before may be taken.
+            words = [str(cluster.free_base()) if word == "{base}" else word for word in self.words]
+            done = subprocess.run([self.program, *words], input=self.given, capture_output=True, timeout=SECONDS)
+        except subprocess.TimeoutExpired:
+            return f"it didn't end in {SECONDS} seconds"
+        except OSError as fault:
+            return str(fault)
         return difference(self.wanted, (done.returncode, done.stdout, done.stderr))
 
 
 def case_runs(group, found):
     for case in found:
-        name, *words = case.words()
         given, wanted = case.given(), case.wanted()
-        for program in builds(name):
+        for program in builds(case.words()[0], group):
             for _ in range(2 if group == "storms" else 1):
-                yield Run(group, case.name, program, words, given, wanted)
+                # Each run has ports of its own.
+                yield Run(group, case.name, program, case.words()[1:], given, wanted)
 
 
 def example_runs():
@@ -135,23 +142,28 @@ COMMANDS = [b"put color blue", b"get color", b"cas color blue green"]
 REPLIES = [(1, 1, 1, "ok"), (2, 1, 2, "val blue"), (3, 1, 3, "ok")]
 
 
-def cluster_faults():
-    """What is wrong with a cluster of five nodes of Quorum over UDP, whose client has three commands."""
+def cluster_claims():
+    """What has to hold of a cluster of five nodes of Quorum over UDP, whose client has three commands: whether it does, and what is."""
     asked = argparse.Namespace(plan="quorum", clients=1, lms="5", base=cluster.free_base(), quiet=False)
     with tempfile.TemporaryDirectory() as folder:
         nodes = cluster.Cluster(folder, asked)
         try:
-            for r in range(cluster.REPLICAS):
-                nodes.start(f"r{r}", [], 100, 50)
+            replicas = [f"r{r}" for r in range(cluster.REPLICAS)]
+            for party in (*replicas, "c0"):
+                nodes.set_up(party, COMMANDS if party == "c0" else ())
+            for replica in replicas:
+                nodes.start(replica, 200, 50)
             nodes.wait_for_ports(60)
-            nodes.start("c0", COMMANDS, 1000, 5000)
+            nodes.start("c0", 40, 2000)
             for node in nodes.nodes.values():
                 node.wait(SECONDS)
         finally:
             statuses, said = nodes.stop()
         report, fault = nodes.replayed()
+        invoked = [b"invoke c0 " + command for command in COMMANDS]
         yield "each node ends with status 0", set(statuses.values()) == {0}, statuses
         yield "nothing is said on standard error", not any(said.values()), said
+        yield "the commands are invoked one after the other", nodes.lines_of(b"invoke") == invoked, nodes.lines_of(b"invoke")
         yield "the replies are those of the commands", nodes.replies() == REPLIES, nodes.replies()
         yield "each node writes a last line", len(nodes.lines_of(b"end")) == 5, nodes.lines_of(b"end")
         yield "the replay of all traces commits the same", cluster.commits_of(report) == REPLIES, report
@@ -159,13 +171,19 @@ def cluster_faults():
 
 
 def cluster_checks():
-    for name, good, got in cluster_faults():
-        yield name, None if good else f"not so: {got}"
+    for claim, good, found in cluster_claims():
+        yield f"cluster: {claim}", None if good else f"not so: {found}"
 
 
 def call_checks():
     with tempfile.TemporaryDirectory() as folder:
         yield from fail_calls.tried(folder)
+
+
+def is_part(name, there):
+    """Whether a file of this name is part of one of these cases."""
+    stem, _, ending = name.partition(".")
+    return stem in there and ending in ENDINGS
 
 
 def table_checks(found):
@@ -176,7 +194,7 @@ def table_checks(found):
         there = collections.Counter(case.name for case in found.pop(group, []))
         differ = sorted(((told - there) + (there - told)).keys())
         yield f"rows/README.md, {group}", f"the table and the folder differ: {', '.join(differ)}" if differ else None
-        strays = [path.name for path in (ROWS / group).iterdir() if path.name.split(".")[0] not in there]
+        strays = [path.name for path in (ROWS / group).iterdir() if not is_part(path.name, there)]
         yield f"rows/{group}", f"files of no case: {', '.join(strays)}" if strays else None
     for group in found:
         yield f"rows/README.md, {group}", "this folder has no table"
@@ -185,7 +203,7 @@ def table_checks(found):
 def runs():
     """All runs. The longest come first, so that the others fill the processors beside them."""
     found = cases()
-    for group in sorted(found, key=lambda group: (group not in ("storms", "limits"), group)):
+    for group in sorted(found, key=lambda group: (group not in LONG, group)):
         yield from case_runs(group, found[group])
     yield from example_runs()
     yield from picture_runs()
@@ -197,14 +215,14 @@ def answered(checks):
     try:
         for answer in checks:
             answers.append(answer)
-    except (OSError, ValueError, subprocess.SubprocessError) as fault:
+    except Exception as fault:
         answers.append(("the rest", f"{type(fault).__name__}: {fault}"))
     return answers
 
 
 def checked(names):
     """Yields group, name and difference of all that is run."""
-    checks = {"tables": table_checks(cases()), "cluster": cluster_checks(), "calls": call_checks()}
+    checks = {"tables": table_checks(cases()), "where": where.checks(), "cluster": cluster_checks(), "calls": call_checks()}
     with concurrent.futures.ThreadPoolExecutor(os.cpu_count() + len(checks)) as lanes:
         several = {group: lanes.submit(answered, them) for group, them in checks.items() if not names or group in names}
         chosen = [run for run in runs() if not names or run.group in names]

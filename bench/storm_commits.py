@@ -8,21 +8,18 @@ allowed for, and one with two; the number of clients goes by the seed. Of each s
 replayed (`abstract_bft replay`). The report is compared with the summary of `abstract_bft storm`, but for `--no-summary`, and its
 commits are checked with a plain model of the service `kv`, as docs/ORDER.md says what must hold of them; a storm has no faulty
 party. What is otherwise is printed, and ends the script with 1. After each seed it prints how many storms, events and commits there
-were so far.
-"""
+were so far."""
 
-import argparse
+import collections
 import functools
 import hashlib
 import itertools
-import subprocess
 import sys
-import time
 
-from storms import PLANS
-from timing import PROGRAM, TOP
+from programs import need, path_of, ran
+from storms import drawn, parser_of_storms
 
-WRITER = TOP / "crates" / "storm_schedule" / "out" / "storm_schedule"
+WRITER = path_of("storm_schedule")
 LIMIT = 7
 KINDS = {"azyzzyva": ("zlight", "backup"), "aliph": ("quorum", "chain", "backup")}
 MOST_KEYS = 65536
@@ -250,11 +247,6 @@ class Checker:
 # ---- storms
 
 
-def ran(program, words, text=None):
-    done = subprocess.run([program, *words], input=text, text=True, capture_output=True, check=False)
-    return done.returncode, done.stdout, done.stderr
-
-
 def faults_in(schedule, report_text, summary, plan):
     """What is wrong with a storm's report, and how many commits it has."""
     report = Report(report_text, schedule)
@@ -267,53 +259,45 @@ def faults_in(schedule, report_text, summary, plan):
     return faults + checker.check(), len(checker.commits)
 
 
-def checked(plan, options, sums):
+def checked(plan, words, sums):
     """What is wrong with a storm, and how many commits it has; or None where its packets pass the limit."""
-    written, schedule, _ = ran(WRITER, options)
-    status, summary, _ = ran(PROGRAM, ["storm", *options]) if sums else (written, None, "")
+    written, schedule, _ = ran(words, program=WRITER)
+    status, summary, _ = ran(["storm", *words]) if sums else (written, None, "")
     if status == LIMIT and written == LIMIT:
         return None
     if status or written:
         return [f"status {status} of the storm, {written} of its schedule"], 0
-    status, report, said = ran(PROGRAM, ["replay"], schedule)
+    status, report, said = ran(["replay"], schedule)
     if status:
-        return [f"status {status} of its replay: {said}"], 0
-    return faults_in(schedule, report, summary, plan)
+        return [f"status {status} of its replay: {said.decode()}"], 0
+    return faults_in(schedule.decode(), report.decode(), summary.decode() if sums else None, plan)
 
 
-def asked():
-    parser = argparse.ArgumentParser()
-    parser.add_argument("--seconds", type=float, default=3600.0)
-    parser.add_argument("--events", type=int, default=5000)
-    parser.add_argument("--seed", type=int, default=1)
-    parser.add_argument("--no-summary", action="store_true")
-    return parser.parse_args()
+def check_storm(plan, words, sums, counts):
+    """Checks a storm, prints what is wrong with it, and counts it."""
+    answer = checked(plan, words, sums)
+    if answer is None:
+        counts["passed"] += 1
+        return
+    faults, commits = answer
+    counts.update(storms=1, commits=commits, bad=bool(faults))
+    for fault in faults[:10]:
+        print(" ".join(words), fault, flush=True)
 
 
 def main():
-    options = asked()
-    ends = time.monotonic() + options.seconds
-    storms = commits = passed = bad = 0
-    seed = options.seed
-    while time.monotonic() < ends:
-        for plan in PLANS:
-            for f in (1, 2):
-                words = [f"--plan={plan}", f"--f={f}", f"--clients={1 + seed % 16}", f"--seed={seed}", f"--events={options.events}"]
-                answer = checked(plan, words, not options.no_summary)
-                if answer is None:
-                    passed += 1
-                    continue
-                faults, count = answer
-                storms += 1
-                commits += count
-                bad += bool(faults)
-                for fault in faults[:10]:
-                    print(" ".join(words), fault, flush=True)
-        seeds = f"seeds {options.seed} to {seed}"
-        counts = f"{storms} storms of {seeds}, with {storms * options.events} events and {commits} commits"
-        print(f"{counts}: {bad} not as they have to be; {passed} more passed the limit of packets", flush=True)
-        seed += 1
-    sys.exit(1 if bad else 0)
+    parser = parser_of_storms(__doc__)
+    parser.add_argument("--no-summary", action="store_true")
+    asked = parser.parse_args()
+    need("abstract_bft", "storm_schedule")
+    counts = collections.Counter()
+    for seed, storms in drawn(asked):
+        for plan, words in storms:
+            check_storm(plan, words, not asked.no_summary, counts)
+        seen = f"{counts['storms']} storms of seeds {asked.seed} to {seed}, with {counts['storms'] * asked.events} events"
+        ends = f"{counts['bad']} not as they have to be; {counts['passed']} more passed the limit of packets"
+        print(f"{seen} and {counts['commits']} commits: {ends}", flush=True)
+    sys.exit(1 if counts["bad"] or not counts["storms"] else 0)
 
 
 if __name__ == "__main__":

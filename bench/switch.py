@@ -1,11 +1,14 @@
 #!/usr/bin/env python3
 """Times replays in which a client of the plan zlight panics again and again.
 
-In each instance the client commits four requests, panics with a fifth and carries it on into the next instance, where
-it commits. Prints, for 25, 50 and 100 instances, the events, the entries of the logs at the end, the seconds, events
-per second and the peak memory of the program.
-"""
+usage: switch.py [INSTANCES..]
 
+In each instance the client commits four requests, panics with a fifth and carries it on into the next instance, where it commits. The
+words say how many instances there are, up to 205; without words it times 25, 50 and 100. Prints, for each, the entries of the logs at
+the end, the events, the seconds, events per second and the peak memory of the program."""
+
+from programs import need, parser_of
+from schedules import deliveries, head
 from timing import time_replay
 
 REPLICAS = 4
@@ -13,11 +16,11 @@ QUORUM = 3
 COMMITS = 4
 
 
-class Schedule:
+class Switching:
     """The lines of a schedule, and how many packets its events have sent."""
 
     def __init__(self):
-        self.lines = ["abstract 1", "f 1", "plan zlight", "clients 1", "service kv", "lms 10", "run"]
+        self.lines = head("zlight")
         self.sent = 0
         self.requests = 0
 
@@ -28,7 +31,7 @@ class Schedule:
         return range(first, self.sent + 1)
 
     def deliver(self, packets):
-        self.lines.extend(f"deliver {packet}" for packet in packets)
+        self.lines += deliveries(packets)
 
     def invoke(self):
         self.requests += 1
@@ -61,7 +64,7 @@ class Schedule:
 
 
 def schedule(instances):
-    made = Schedule()
+    made = Switching()
     for instance in range(1, instances):
         for _ in range(COMMITS):
             made.commit(made.invoke())
@@ -70,7 +73,11 @@ def schedule(instances):
 
 
 def main():
-    for instances in (25, 50, 100):
+    parser = parser_of(__doc__)
+    parser.add_argument("instances", nargs="*", type=int, default=[25, 50, 100])
+    counts = parser.parse_args().instances
+    need("abstract_bft")
+    for instances in counts:
         made = schedule(instances)
         time_replay(f"{instances} instances, {made.requests} entries", made.lines, made.requests)
 
