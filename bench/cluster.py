@@ -12,8 +12,8 @@ which nothing is taken before it was sent. That is replayed. `--quiet` leaves ou
 that of the clients, from when all replicas listen to the end of the last client's process.
 
 It ends with 1 if no command is answered, or not every command without `--stop` and `--noise`; if a client hangs or ends with a status
-other than 0 and 8, or a replica that isn't stopped ends; if two commits of one number differ; or if the replay doesn't commit exactly
-what the nodes did, or says anything but `premise held`."""
+other than 0 and 8; if a replica ends that isn't stopped, or one isn't stopped that has to be; if two commits of one number differ; or
+if the replay doesn't commit exactly what the nodes did, or says anything but `premise held`."""
 
 import contextlib
 import itertools
@@ -34,21 +34,35 @@ SEED = "0" * 64
 HOST = "127.0.0.1"
 REPLICAS = 4
 SECONDS = 300
-# Two programs that look for ports at once begin at different ones.
-BASES = itertools.count(21_000 + 200 * (os.getpid() % 100), 200)
+BASES = itertools.count(21_000, 200)
+# What holds the bases that were given.
+KEPT = []
 # How a client ends whose commands are answered, and one whose turns are used.
 ANSWERED, SPENT = 0, 8
 # How often noise is made and a stop is thought of.
 PAUSE = 0.005
 
 
+def bound(port):
+    """A socket that has this port."""
+    held = socket.socket(socket.AF_INET, socket.SOCK_DGRAM)
+    try:
+        held.bind((HOST, port))
+    except OSError:
+        held.close()
+        raise
+    return held
+
+
 def free_base():
-    """A number such that the ports of a cluster that begins there are free. No two calls give the same."""
+    """A number such that the ports of a cluster that begins there are free. No two calls give the same, nor do scripts that run side by
+    side: a port behind those of the cluster is held until the script ends."""
     for base in BASES:
-        with contextlib.ExitStack() as sockets, contextlib.suppress(OSError):
+        with contextlib.suppress(OSError), contextlib.ExitStack() as sockets, contextlib.ExitStack() as kept:
+            kept.enter_context(bound(base + 199))
             for port in (*range(base, base + 7), *range(base + 100, base + 116)):
-                held = sockets.enter_context(socket.socket(socket.AF_INET, socket.SOCK_DGRAM))
-                held.bind((HOST, port))
+                sockets.enter_context(bound(port))
+            KEPT.append(kept.pop_all())
             return base
 
 
@@ -100,11 +114,11 @@ class Cluster:
                 files.callback(os.close, file)
                 waiting.register(file, selectors.EVENT_READ)
             while waiting.get_map() and time.monotonic() < end:
+                if meanwhile:
+                    meanwhile()
                 for ended, _ in waiting.select(PAUSE if meanwhile else seconds):
                     last = time.monotonic()
                     waiting.unregister(ended.fileobj)
-                if meanwhile:
-                    meanwhile()
         return last
 
     def running(self):
@@ -173,6 +187,7 @@ class Trouble:
             self.left -= self.new_replies()
             if self.left <= 0:
                 self.cluster.nodes[self.victim].kill()
+                self.cluster.nodes[self.victim].wait()
                 self.victim = ""
 
     def new_replies(self):
@@ -220,6 +235,8 @@ def faults_of(asked, running, statuses, answered):
             yield f"{party} ended with status {status}"
         elif party.startswith("r") and party not in (*running, stopped):
             yield f"{party} ended by itself, with status {status}"
+        elif party == stopped and party in running:
+            yield f"{party} wasn't stopped before the clients ended"
 
 
 def compared(cluster):
