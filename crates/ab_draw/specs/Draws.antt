@@ -5,7 +5,7 @@ use Rattle.ab_text.specs.declared.event.Event.{Event}
 use Rattle.ab_text.specs.Heads.{Script}
 use Rattle.ab_text.specs.Schedules.{ReadsText}
 use Rattle.ab_abs.specs.Ensembles.{Proto}
-use Rattle.ab_post.specs.Packets.{Packet}
+use Rattle.ab_msg.specs.Packets.{Packet}
 use Rattle.ab_world.specs.declared.fault.WorldFault.{WorldFault}
 use Rattle.ab_world.specs.Runs.{outcome}
 use Rattle.ab_world.specs.Steps.{stepped}

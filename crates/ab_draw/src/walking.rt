@@ -6,9 +6,9 @@ ghost use Rattle.ab_replay.specs.Protocols.{any};
 ghost use Rattle.ab_replay.specs.Replays.{EventsCause};
 ghost use Rattle.ab_draw.specs.Draws.{counts_of, parcel_of};
 
+use ab_msg::Packet;
 use ab_num::OutOfMemory;
 use ab_picture::Parcel;
-use ab_post::Packet;
 use ab_replay::{AnyWorld, ReplayFault, fault_of, refusal_of_step};
 use ab_svc::Service;
 use ab_text::Event;

@@ -10,7 +10,8 @@ use Rattle.arrayvec.specs.ArrayVec.{ArrayVec}
 use Rattle.ab_piece.specs.Joining.{Answer, dropped, more, step_of, whole}
 use Rattle.ab_loop.specs.declared.party_core.Commit.{Commit}
 use Rattle.ab_loop.specs.declared.setting.Setting.{Setting}
-use Rattle.ab_loop.specs.Cores.{Event, Rules, Sealed, invoke, message, timeout}
+use Rattle.ab_loop.specs.Cores.{Event, Rules, invoke, message, timeout}
+use Rattle.ab_msg.specs.Packets.{Packet}
 use Rattle.ab_loop.specs.Outside.{capped}
 use Rattle.ab_loop.specs.Texts.{reply_text}
 use Rattle.ab_loop.specs.Nodes.{Node, Out, Turn, after_reply, and_then, command_step, datagram_step, datagrams_in, event_step, first_step, has_expired, joined_step, latest, new_node, next_deadline, no_step, parcel_of, parcels_of, reply_step, run_after, text_step, timer_step, turn_step, with_deadline, with_joiner}
@@ -55,7 +56,7 @@ latest_in old None c is = inl is
 latest_in old (Some d) c is = inr (0, omega arith, same_Some d c is)
 
 -- the numbers of messages behind others
-parcels_of-append : (s : Setting) (n : ℕ) (a b : List Sealed) → n ≤ 2 ^ 64 - 1 → parcels_of s n (a ++ b) ≡ parcels_of s n a ++ parcels_of s (capped (n + length a)) b
+parcels_of-append : (s : Setting) (n : ℕ) (a b : List Packet) → n ≤ 2 ^ 64 - 1 → parcels_of s n (a ++ b) ≡ parcels_of s n a ++ parcels_of s (capped (n + length a)) b
 parcels_of-append s n [] b le = let e : n ≡ capped (n + 0) = omega arith in ap (λ k. parcels_of s k b) e
 parcels_of-append s n (m ∷ a) b le =
     let next : capped (n + 1) ≤ 2 ^ 64 - 1 = omega arith in
@@ -112,20 +113,20 @@ module _ {C : Type 0} (rules : Rules C) (s : Setting) where
       let sends : sends_in rules n.core (a.events ++ b.events) ≡ sends_in rules n.core a.events ++ sends_in rules here b.events = sends_in-append rules n.core a.events b.events in
       let later_sends : sends_in rules a.node.core b.events ≡ sends_in rules here b.events = ap (λ core. sends_in rules core b.events) first.core in
       let count : length (sends_in rules n.core (a.events ++ b.events)) ≡ length (sends_in rules n.core a.events) + length (sends_in rules a.node.core b.events) =
-      ap (λ (ms : List Sealed). length ms) sends ∙ length-append (sends_in rules n.core a.events) (sends_in rules here b.events)
-      ∙ ap (λ (ms : List Sealed). length (sends_in rules n.core a.events) + length ms) (sym later_sends) in
+      ap (λ (ms : List Packet). length ms) sends ∙ length-append (sends_in rules n.core a.events) (sends_in rules here b.events)
+      ∙ ap (λ (ms : List Packet). length (sends_in rules n.core a.events) + length ms) (sym later_sends) in
       let commits : commits_in rules n.core (a.events ++ b.events) ≡ commits_in rules n.core a.events ++ commits_in rules here b.events = commits_in-append rules n.core a.events b.events in
       let spent : spent_in rules n.core (a.events ++ b.events) ≡ spent_in rules n.core a.events + spent_in rules a.node.core b.events =
       spent_in-append rules n.core a.events b.events ∙ ap (λ core. spent_in rules n.core a.events + spent_in rules core b.events) (sym first.core) in
       record {
         core = second.core ∙ ap (λ core. core_after rules core b.events) first.core ∙ sym (core_after-append rules n.core a.events b.events);
         number = omega (arith, first.number, second.number, count);
-        datagrams = sym (ap (λ (ms : List Sealed). datagrams_in (parcels_of s n.number ms)) sends
+        datagrams = sym (ap (λ (ms : List Packet). datagrams_in (parcels_of s n.number ms)) sends
             ∙ ap datagrams_in (parcels_of-append s n.number (sends_in rules n.core a.events) (sends_in rules here b.events) within.number)
             ∙ flat_map-append (λ p. p) (parcels_of s n.number (sends_in rules n.core a.events)) (parcels_of s (capped (n.number + length (sends_in rules n.core a.events))) (sends_in rules here b.events))
             ∙ ap (λ ds. ds ++ datagrams_in (parcels_of s (capped (n.number + length (sends_in rules n.core a.events))) (sends_in rules here b.events))) (sym first.datagrams)
             ∙ ap (λ k. a.effects.datagrams ++ datagrams_in (parcels_of s k (sends_in rules here b.events))) (sym first.number)
-            ∙ ap (λ (ms : List Sealed). a.effects.datagrams ++ datagrams_in (parcels_of s a.node.number ms)) (sym later_sends)
+            ∙ ap (λ (ms : List Packet). a.effects.datagrams ++ datagrams_in (parcels_of s a.node.number ms)) (sym later_sends)
             ∙ ap (λ ds. a.effects.datagrams ++ ds) (sym second.datagrams));
         commit = λ c is. elim (second.commit c is) [
           | inl kept ↦ elim (first.commit c kept) [
@@ -151,8 +152,8 @@ module _ {C : Type 0} (rules : Rules C) (s : Setting) where
       let sends = (rules.step n.core e).sends in
       record {
         core = refl;
-        number = ap (λ (ms : List Sealed). capped (n.number + length ms)) (sym (append-nil sends));
-        datagrams = ap (λ (ms : List Sealed). datagrams_in (parcels_of s n.number ms)) (sym (append-nil sends));
+        number = ap (λ (ms : List Packet). capped (n.number + length ms)) (sym (append-nil sends));
+        datagrams = ap (λ (ms : List Packet). datagrams_in (parcels_of s n.number ms)) (sym (append-nil sends));
         commit = λ c is. latest_in n.commit (rules.step n.core e).commit c is;
         events = refl;
         sent = refl;

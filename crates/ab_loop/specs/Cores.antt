@@ -1,7 +1,7 @@
 -- What a node drives: a party's core, as plain functions.
 use Rattle.std.specs.Prelude.{ℕ, ◌≤◌, List, length, Option, Bool}
-use Rattle.ab_num.specs.declared.party.Party.{Party}
 use Rattle.ab_msg.specs.Fields.{IsParty}
+use Rattle.ab_msg.specs.Packets.{Packet}
 use Rattle.ab_loop.specs.declared.party_core.Commit.{Commit}
 use Rattle.ab_loop.specs.declared.party_core.Input.{Input}
 use Rattle.ab_loop.specs.declared.party_core.Input.TheVariants as input
@@ -17,13 +17,8 @@ event_of (input.Invoke command) = invoke command.now
 event_of (input.Message bytes) = message bytes.now
 event_of input.Timeout = timeout
 
--- a message, and to whom it goes
-pub record Sealed : Type 0 where
-  pub to : Party
-  pub bytes : List ℕ
-
 -- to a party that has a port, and of a length that is cut
-pub record IsSendable (m : Sealed) : Type 0 where
+pub record IsSendable (m : Packet) : Type 0 where
   pub to : IsParty m.to
   pub some : 1 ≤ length m.bytes
   pub few : length m.bytes ≤ 4194304
@@ -31,7 +26,7 @@ pub record IsSendable (m : Sealed) : Type 0 where
 -- what an event leaves and sends, what was committed in it, and whether it was spent
 pub record Reaction (C : Type 0) : Type 0 where
   pub after : C
-  pub sends : List Sealed
+  pub sends : List Packet
   pub commit : Option Commit
   pub spent : Bool
 

@@ -3,7 +3,8 @@ use Rattle.std.specs.Prelude.{◌≡◌, ℕ, ◌+◌, List, [], ◌∷◌, ◌+
 use Rattle.std.specs.List.{cons_option}
 use Rattle.ab_loop.specs.declared.party_core.Commit.{Commit}
 use Rattle.ab_loop.specs.declared.setting.Setting.{Setting}
-use Rattle.ab_loop.specs.Cores.{Event, Rules, Sealed}
+use Rattle.ab_loop.specs.Cores.{Event, Rules}
+use Rattle.ab_msg.specs.Packets.{Packet}
 use Rattle.ab_loop.specs.Outside.{capped}
 use Rattle.ab_loop.specs.Nodes.{Node, Out, Turn, and_then, datagram_step, datagrams_in, parcels_of, run_after, timer_step}
 
@@ -13,7 +14,7 @@ core_after rules core [] = core
 core_after rules core (e ∷ es) = core_after rules (rules.step core e).after es
 
 -- what it sends in them, in order
-abbrev pub sends_in : {C : Type 0} → Rules C → C → List Event → List Sealed
+abbrev pub sends_in : {C : Type 0} → Rules C → C → List Event → List Packet
 sends_in rules core [] = []
 sends_in rules core (e ∷ es) = (rules.step core e).sends ++ sends_in rules (rules.step core e).after es
 

@@ -10,7 +10,8 @@ use Rattle.ab_num.specs.declared.party.Party.TheVariants.{Replica, Client}
 use Rattle.ab_piece.specs.Pieces.{cut_of}
 use Rattle.ab_piece.specs.Joining.{Opened, Answer, whole, more, dropped, step_of}
 use Rattle.ab_loop.specs.declared.party_core.Commit.{Commit}
-use Rattle.ab_loop.specs.Cores.{Event, invoke, message, timeout, Sealed, Reaction, Rules}
+use Rattle.ab_loop.specs.Cores.{Event, invoke, message, timeout, Reaction, Rules}
+use Rattle.ab_msg.specs.Packets.{Packet}
 use Rattle.ab_loop.specs.Outside.{capped, Datagram, Effects, nothing, writing, sending, both, Outside, Counts, Does, Counted}
 use Rattle.ab_loop.specs.Texts.{event_text, reply_text}
 use Rattle.ab_loop.specs.declared.setting.Setting.{Setting}
@@ -56,11 +57,11 @@ port_of base (Replica r) = base + r
 port_of base (Client c) = base + 100 + c
 
 -- the datagrams of a message
-unfoldable pub parcel_of : Setting → ℕ → Sealed → List Datagram
+unfoldable pub parcel_of : Setting → ℕ → Packet → List Datagram
 parcel_of s number m = map (λ piece. (port_of s.base m.to, piece)) (cut_of s.me number m.bytes)
 
 -- the datagrams of each message, where the last one before them had this number
-abbrev pub parcels_of : Setting → ℕ → List Sealed → List (List Datagram)
+abbrev pub parcels_of : Setting → ℕ → List Packet → List (List Datagram)
 parcels_of s number [] = []
 parcels_of s number (m ∷ ms) = parcel_of s (capped (number + 1)) m ∷ parcels_of s (capped (number + 1)) ms
 

@@ -13,6 +13,6 @@ mod texts;
 
 pub use fault::ServeFault;
 pub use laws::nodes_follow_their_core;
-pub use party_core::{Commit, Input, PartyCore, Reaction, Sealed};
+pub use party_core::{Commit, Input, PartyCore, Reaction};
 pub use serving::{Commands, Job, Served, serve};
 pub use setting::Setting;

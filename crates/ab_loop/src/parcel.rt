@@ -6,8 +6,8 @@ ghost use Rattle.ab_loop.specs.Cores.{IsSendable};
 ghost use Rattle.ab_loop.specs.Outside.{capped};
 ghost use Rattle.ab_loop.specs.Nodes.{port_of, parcel_of, parcels_of, datagrams_in};
 
-use crate::party_core::Sealed;
 use crate::setting::Setting;
+use ab_msg::Packet;
 use ab_num::{OutOfMemory, Party};
 use ab_piece::{Pieces, cut};
 use std::alloc::Global;
@@ -49,7 +49,7 @@ impl Parcel {
         alloc: Global,
         setting: &Setting,
         number: u64,
-        m: &Sealed,
+        m: &Packet,
     ) -> Result<Parcel, OutOfMemory>
         requires base { setting.now.base ≤ 65000 }
         requires me { IsParty setting.now.me }
@@ -82,7 +82,7 @@ pub(crate) fn parcels(
     alloc: Global,
     setting: &Setting,
     number: u64,
-    messages: &[Sealed],
+    messages: &[Packet],
 ) -> Result<Vec<Parcel>, OutOfMemory>
     requires base { setting.now.base ≤ 65000 }
     requires me { IsParty setting.now.me }

@@ -1,11 +1,9 @@
 //! What a node drives.
 
-ghost use Rattle.std.specs.Prelude.{◌≡◌};
-
-use ab_num::{OutOfMemory, Party};
+use ab_msg::Packet;
+use ab_num::OutOfMemory;
 use arrayvec::ArrayVec;
 use std::alloc::Global;
-use std::marker::Model;
 
 /// What comes to a party's core.
 #[derive(Clone, Copy)]
@@ -27,49 +25,10 @@ pub struct Commit {
     pub reply: ArrayVec<u8, 72>,
 }
 
-/// The bytes of a message, with its tags, and to whom it goes.
-#[derive(Drop)]
-pub struct Sealed {
-    to: Party,
-    bytes: Vec<u8>,
-}
-
-/// Its bytes are seen as a list.
-impl Model for Sealed {
-    ghost use Rattle.ab_loop.specs.Cores.{Sealed as Sent};
-
-    ghost Value = { Sent };
-
-    ghost view = { λ m. record { to = m.to; bytes = m.bytes.items } };
-}
-
-impl Sealed {
-    /// These bytes to this party.
-    pub fn new(to: Party, bytes: Vec<u8>) -> Sealed
-        ensures { result ≡ record { to = to; bytes = bytes.items } }
-    {
-        Sealed { to, bytes }
-    }
-
-    /// To whom it goes.
-    pub fn to(&self) -> Party
-        ensures { result ≡ self.now.to }
-    {
-        self.to
-    }
-
-    /// The message.
-    pub fn bytes(&self) -> &[u8]
-        ensures { result.now ≡ self.now.bytes }
-    {
-        self.bytes.as_slice()
-    }
-}
-
 /// What a core sends and shows in one event.
 #[derive(Drop)]
 pub struct Reaction {
-    pub sends: Vec<Sealed>,
+    pub sends: Vec<Packet>,
     pub commit: Option<Commit>,
     pub spent: bool,
 }

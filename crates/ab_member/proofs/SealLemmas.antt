@@ -18,7 +18,8 @@ use Rattle.ab_open.specs.Opening.{opening}
 use Rattle.ab_open.proofs.ByteLemmas.{all_bytes}
 use Rattle.ab_sign.specs.Judges.{judge_of}
 use Rattle.ab_seal.specs.Sealing.{sealed, tagged}
-use Rattle.ab_loop.specs.Cores.{IsSendable, Sealed}
+use Rattle.ab_loop.specs.Cores.{IsSendable}
+use Rattle.ab_msg.specs.Packets.{Packet}
 use Rattle.ab_member.specs.Credentials.{Credentials, IsLast, IsPartyRing, opened, sealed_all, sealed_by, sealed_for}
 
 -- ---- opening
@@ -59,12 +60,12 @@ pub unsent_more : (ring : Ring) (outs : List Out) (i : ℕ) (o : Out) → i < le
 unsent_more ring outs i o lt is to =
     more ring outs i o lt is ∙ ap (λ b. sealed_all ring (take i outs) ++ (if b then sealed_by ring o ∷ [] else [])) to ∙ append-nil (sealed_all ring (take i outs))
 
-at_end : (m : Sealed) (all : List Sealed) → slice_get (all ++ m ∷ []) (length all) ≡ Some m
+at_end : (m : Packet) (all : List Packet) → slice_get (all ++ m ∷ []) (length all) ≡ Some m
 at_end m [] = refl
 at_end m (x ∷ all) = at_end m all
 
 -- the last of a list with one more
-pub is_last : (m : Sealed) (all : List Sealed) → IsLast m (all ++ m ∷ [])
+pub is_last : (m : Packet) (all : List Packet) → IsLast m (all ++ m ∷ [])
 is_last m all =
     let end : length (all ++ m ∷ []) - 1 ≡ length all = omega (arith, length-append all (m ∷ [])) in
     ap (slice_get (all ++ m ∷ [])) end ∙ at_end m all

@@ -18,7 +18,7 @@ use Rattle.ab_sign.specs.declared.key.SignKey.{SignKey}
 use Rattle.ab_sign.specs.declared.key.SignKey.TheVariants as key
 use Rattle.ab_sign.specs.Judges.{judge_of}
 use Rattle.ab_seal.specs.Sealing.{sealed}
-use Rattle.ab_loop.specs.Cores.{Sealed}
+use Rattle.ab_msg.specs.Packets.{Packet}
 
 -- its key ring, and the signature keys of the replicas, from replica 0 on
 pub record Credentials : Type 0 where
@@ -57,16 +57,16 @@ abbrev pub opened : Credentials → List ℕ → Option Msg
 opened c bytes = if list_all (λ b. nat_lt b 256) bytes then result_ok (opening (judge_of c.ring c.keys) c.ring.f c.ring.clients c.ring.me bytes) else None
 
 -- a message with the tags of its maker, and to whom it goes
-abbrev pub sealed_by : Ring → Out → Sealed
+abbrev pub sealed_by : Ring → Out → Packet
 sealed_by ring o = record { to = o.to; bytes = sealed ring o }
 
 -- to a party of the cluster; to no other is anything sent
-abbrev pub sealed_for : Ring → Out → List Sealed
+abbrev pub sealed_for : Ring → Out → List Packet
 sealed_for ring o = if is_party ring.f ring.clients o.to then sealed_by ring o ∷ [] else []
 
-abbrev pub sealed_all : Ring → List Out → List Sealed
+abbrev pub sealed_all : Ring → List Out → List Packet
 sealed_all ring outs = flat_map (sealed_for ring) outs
 
 -- it is the last of these
-abbrev pub IsLast : Sealed → List Sealed → Type 0
+abbrev pub IsLast : Packet → List Packet → Type 0
 IsLast m all = slice_get all (length all - 1) ≡ Some m

@@ -14,8 +14,7 @@ ghost use Rattle.ab_member.specs.Credentials.{IsLast, IsPartyRing, credentials_i
 
 use ab_key_text::{PartyKeys, Secret};
 use ab_keys::{KeyRing, is_party};
-use ab_loop::Sealed;
-use ab_msg::Out;
+use ab_msg::{Out, Packet};
 use ab_num::{Height, OutOfMemory, Party};
 use ab_open::open;
 use ab_seal::{drafts_are_sealed_as_messages, is_sealed_alike, seal};
@@ -123,7 +122,7 @@ impl Credentials {
     fn bytes_of(
         &self,
         alloc: Global,
-        messages: &[Sealed],
+        messages: &[Packet],
         before: Option<&Out>,
         out: &Out,
     ) -> Result<Vec<u8>, OutOfMemory>
@@ -147,7 +146,7 @@ impl Credentials {
     fn add(
         &self,
         alloc: Global,
-        messages: &mut Vec<Sealed>,
+        messages: &mut Vec<Packet>,
         before: Option<&Out>,
         out: &Out,
     ) -> Result<(), OutOfMemory>
@@ -161,12 +160,12 @@ impl Credentials {
     {
         drafts_are_sealed_as_messages();
         let bytes = self.bytes_of(alloc, messages.as_slice(), before, out)?;
-        messages.push(Sealed::new(out.to, bytes))?;
+        messages.push(Packet::new(out.to, bytes))?;
         Ok(())
     }
 
     /// These messages to parties of the cluster, each with the tags of its maker.
-    pub(crate) fn seal_all(&self, alloc: Global, outs: &[Out]) -> Result<Vec<Sealed>, OutOfMemory>
+    pub(crate) fn seal_all(&self, alloc: Global, outs: &[Out]) -> Result<Vec<Packet>, OutOfMemory>
         requires ring { IsPartyRing self.now.ring }
         requires drafts { All (IsDraftOf self.now.ring.f self.now.ring.me) outs.now }
         ensures sealed { IfOk result (λ v. v.items ≡ sealed_all self.now.ring outs.now) }

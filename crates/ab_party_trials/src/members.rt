@@ -12,10 +12,9 @@ use ab_hist::array_of;
 use ab_io::{MemClock, MemLink, SureSink};
 use ab_key_text::{PartyKeys, keys_are_whole};
 use ab_kv::Kv;
-use ab_loop::{
-    Commands, Input, Job, PartyCore, Reaction, Sealed, ServeFault, Served, Setting, serve,
-};
+use ab_loop::{Commands, Input, Job, PartyCore, Reaction, ServeFault, Served, Setting, serve};
 use ab_member::{ClientMember, ReplicaMember};
+use ab_msg::Packet;
 use ab_num::{Cluster, Height, OutOfMemory, Party, Plan, ServiceName};
 use ab_piece::cut;
 use ab_quorum::Quorum;
@@ -106,7 +105,7 @@ fn told(alloc: Global, r: u8, bytes: &[u8]) -> Result<Reaction, OutOfMemory>
 /// Adds what a replica answers to a request that is for it.
 fn add_replies(
     alloc: Global,
-    request: &Sealed,
+    request: &Packet,
     datagrams: &mut Vec<Vec<u8>>,
 ) -> Result<(), OutOfMemory> {
     let Party::Replica(r) = request.to() else {

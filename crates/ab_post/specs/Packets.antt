@@ -1,11 +1,6 @@
 -- What was sent in a run.
 use Rattle.std.specs.Prelude.{ℕ, zero, suc, ◌+◌, List, [], ◌∷◌, length, Option, None, slice_get}
-use Rattle.ab_num.specs.declared.party.Party.{Party}
-
--- to whom, and its bytes
-pub record Packet : Type 0 where
-  pub to : Party
-  pub bytes : List ℕ
+use Rattle.ab_msg.specs.Packets.{Packet}
 
 -- how many bytes there are in all of them
 abbrev pub total : List Packet → ℕ

@@ -2,12 +2,10 @@
 #![tactic(auto)]
 
 mod fault;
-mod packet;
 mod packets;
 mod statements;
 
 pub use fault::SendFault;
-pub use packet::Packet;
 pub use packets::Packets;
 pub use statements::Statements;
 

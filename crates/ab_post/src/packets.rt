@@ -6,7 +6,7 @@ ghost use Rattle.ab_post.specs.Packets.{total, most_bytes, nth};
 ghost use Rattle.ab_post.specs.Faults.{SendCause};
 
 use crate::fault::SendFault;
-use crate::packet::Packet;
+use ab_msg::Packet;
 use std::alloc::Global;
 use std::marker::Model;
 
@@ -23,7 +23,8 @@ pub struct Packets {
 /// It is seen as the list of the packets.
 impl Model for Packets {
     ghost use Rattle.std.specs.Prelude.{◌≡◌, ◌≤◌, List};
-    ghost use Rattle.ab_post.specs.Packets.{Packet as Sent, total, most_bytes};
+    ghost use Rattle.ab_msg.specs.Packets.{Packet as Sent};
+    ghost use Rattle.ab_post.specs.Packets.{total, most_bytes};
 
     ghost Value = { List Sent };
 

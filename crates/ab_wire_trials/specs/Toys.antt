@@ -2,14 +2,15 @@
 use Rattle.std.specs.Prelude.{ℕ, ◌+◌, ◌==◌, List, [], ◌∷◌, Option, None, Some, false, if◌then◌else◌}
 use Rattle.ab_num.specs.declared.party.Party.TheVariants.{Replica}
 use Rattle.ab_loop.specs.declared.party_core.Commit.{Commit}
-use Rattle.ab_loop.specs.Cores.{Event, invoke, message, timeout, Sealed, Reaction, Rules}
+use Rattle.ab_loop.specs.Cores.{Event, invoke, message, timeout, Reaction, Rules}
+use Rattle.ab_msg.specs.Packets.{Packet}
 use Rattle.ab_loop.specs.Outside.{capped}
 
 pub record Toy : Type 0 where
   pub stamp : ℕ
   pub votes : ℕ
 
-abbrev pub asks : List Sealed
+abbrev pub asks : List Packet
 asks =
     record { to = Replica 0; bytes = 7 ∷ [] } ∷ record { to = Replica 1; bytes = 7 ∷ [] } ∷ record { to = Replica 2; bytes = 7 ∷ [] }
     ∷ record { to = Replica 3; bytes = 7 ∷ [] } ∷ []

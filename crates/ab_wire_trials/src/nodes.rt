@@ -7,8 +7,9 @@ ghost use Rattle.ab_wire_trials.specs.Toys.{asks};
 use ab_hist::array_of;
 use ab_io::{MemClock, MemLink, SureSink};
 use ab_loop::{
-    Commands, Commit, Input, Job, PartyCore, Reaction, Sealed, ServeFault, Served, Setting, serve,
+    Commands, Commit, Input, Job, PartyCore, Reaction, ServeFault, Served, Setting, serve,
 };
+use ab_msg::Packet;
 use ab_num::{OutOfMemory, Party};
 use ab_piece::cut;
 use arrayvec::ArrayVec;
@@ -30,15 +31,15 @@ impl Model for ToyCore {
     ghost view = { λ c. record { stamp = c.stamp; votes = c.votes } };
 }
 
-fn ask(alloc: Global, r: u8) -> Result<Sealed, OutOfMemory>
+fn ask(alloc: Global, r: u8) -> Result<Packet, OutOfMemory>
     ensures { IfOk result (λ m. m ≡ record { to = Replica r; bytes = 7 ∷ [] }) }
 {
     let mut bytes = Vec::new(alloc);
     bytes.push(7u8)?;
-    Ok(Sealed::new(Party::Replica(r), bytes))
+    Ok(Packet::new(Party::Replica(r), bytes))
 }
 
-fn asks(alloc: Global) -> Result<Vec<Sealed>, OutOfMemory>
+fn asks(alloc: Global) -> Result<Vec<Packet>, OutOfMemory>
     ensures { IfOk result (λ v. v.items ≡ asks) }
 {
     let mut sends = Vec::new(alloc);

@@ -7,7 +7,7 @@ use Rattle.std.proofs.lemmas.List.Elements.{filter_more}
 use Rattle.ab_num.specs.declared.party.Party.{Party}
 use Rattle.ab_keys.specs.Keys.{is_party}
 use Rattle.ab_msg.specs.declared.message.Out.{Out}
-use Rattle.ab_post.specs.Packets.{Packet}
+use Rattle.ab_msg.specs.Packets.{Packet}
 use Rattle.ab_cast.specs.Setups.{Setup, ring_at}
 use Rattle.ab_world.specs.Sending.{IsLast}
 use Rattle.ab_world.specs.Steps.{packet_by, packets_by, posted}

@@ -1,6 +1,7 @@
 use Rattle.std.proofs.Common.{◌≡◌, ◌∙◌, List, ℕ, All, ap, subst, sym}
 use Rattle.std.proofs.lemmas.List.Elements.{All-push}
-use Rattle.ab_loop.specs.Cores.{IsSendable, Sealed}
+use Rattle.ab_loop.specs.Cores.{IsSendable}
+use Rattle.ab_msg.specs.Packets.{Packet}
 use Rattle.ab_member.specs.Credentials.{sealed_by}
 use Rattle.ab_member.proofs.SealLemmas.{can_send}
 use Rattle.ab_member.proofs.credentials.Credentials.add.Goals as goal
@@ -10,7 +11,7 @@ returns-clause-sendable c =
     let ring = c.args.self.now.ring in
     let out = c.args.out.now in
     let is = c.requires.ring in
-    let made : c.new.result ≡ sealed_by ring out = c.new.ensures ∙ ap (λ (bytes : List ℕ). let m : Sealed = record { to = out.to; bytes = bytes } in m) c.in_ok-bytes.ensures in
+    let made : c.new.result ≡ sealed_by ring out = c.new.ensures ∙ ap (λ (bytes : List ℕ). let m : Packet = record { to = out.to; bytes = bytes } in m) c.in_ok-bytes.ensures in
     let one : IsSendable c.new.result =
     subst IsSendable (sym made) (can_send ring out is (c.drafts_are_sealed_as_messages.ensures.size ring out is.bounds is.party c.requires.draft.draft) c.requires.to) in
     subst (All IsSendable) (sym c.in_ok-push.ensures.items) (All-push IsSendable c.args.messages.now.items c.new.result c.requires.sendable one)

@@ -1,7 +1,8 @@
 use Rattle.std.proofs.Common.{◌≡◌, ◌∙◌, ◌++◌, ◌∷◌, [], ◌+◌, ◌<◌, All, Bor, IfSome, List, Option, ap, arith, length, subst, sym}
 use Rattle.ab_keys.specs.Keys.{is_party}
 use Rattle.ab_msg.specs.declared.message.Out.{Out}
-use Rattle.ab_loop.specs.Cores.{IsSendable, Sealed}
+use Rattle.ab_loop.specs.Cores.{IsSendable}
+use Rattle.ab_msg.specs.Packets.{Packet}
 use Rattle.ab_member.specs.Credentials.{IsLast, sealed_by}
 use Rattle.ab_member.proofs.SealLemmas.{is_last, sent_more, unsent_more}
 use Rattle.ab_member.proofs.credentials.Credentials.seal_all.Goals as goal
@@ -33,7 +34,7 @@ loop-out-preserved c =
             (
               subst (All IsSendable) (sym items) was.1.0,
               subst (λ (b : Option (Bor Out)). IfSome b (λ x. IsLast (sealed_by ring x.now) c.if-is_party.messages.items)) (sym w.before-is)
-                  (subst (λ (ms : List Sealed). IfSome c.loop-out.before (λ x. IsLast (sealed_by ring x.now) ms)) (sym items) was.1.1),
+                  (subst (λ (ms : List Packet). IfSome c.loop-out.before (λ x. IsLast (sealed_by ring x.now) ms)) (sym items) was.1.1),
             ),
           )
     ]

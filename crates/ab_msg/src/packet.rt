@@ -19,7 +19,7 @@ impl Drop for Packet {
 
 /// Its bytes are seen as a list.
 impl Model for Packet {
-    ghost use Rattle.ab_post.specs.Packets.{Packet as Sent};
+    ghost use Rattle.ab_msg.specs.Packets.{Packet as Sent};
 
     ghost Value = { Sent };
 
