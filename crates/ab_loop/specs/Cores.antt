@@ -1,6 +1,5 @@
 -- What a node drives: a party's core, as plain functions.
-use Rattle.std.specs.Prelude.{ℕ, ◌≤◌, List, length, Option, Bool}
-use Rattle.ab_msg.specs.Fields.{IsParty}
+use Rattle.std.specs.Prelude.{ℕ, List, Option, Bool}
 use Rattle.ab_msg.specs.Packets.{Packet}
 use Rattle.ab_loop.specs.declared.party_core.Commit.{Commit}
 use Rattle.ab_loop.specs.declared.party_core.Input.{Input}
@@ -16,12 +15,6 @@ abbrev pub event_of : Input → Event
 event_of (input.Invoke command) = invoke command.now
 event_of (input.Message bytes) = message bytes.now
 event_of input.Timeout = timeout
-
--- to a party that has a port, and of a length that is cut
-pub record IsSendable (m : Packet) : Type 0 where
-  pub to : IsParty m.to
-  pub some : 1 ≤ length m.bytes
-  pub few : length m.bytes ≤ 4194304
 
 -- what an event leaves and sends, what was committed in it, and whether it was spent
 pub record Reaction (C : Type 0) : Type 0 where

@@ -2,7 +2,7 @@
 
 ghost use Rattle.std.specs.Prelude.{◌≡◌, ◌+◌, ◌<◌, ◌≤◌, All, IfOk, length, map, slice_index_or};
 ghost use Rattle.ab_msg.specs.Fields.{IsParty};
-ghost use Rattle.ab_loop.specs.Cores.{IsSendable};
+ghost use Rattle.ab_msg.specs.Packets.{IsSendable};
 ghost use Rattle.ab_loop.specs.Outside.{capped};
 ghost use Rattle.ab_loop.specs.Nodes.{port_of, parcel_of, parcels_of, datagrams_in};
 

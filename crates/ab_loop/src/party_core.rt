@@ -36,7 +36,8 @@ pub struct Reaction {
 /// One party's state, as functions of what comes to it.
 pub trait PartyCore: Sized + Drop {
     ghost use Rattle.std.specs.Prelude.{◌≡◌, ◌⊎◌, All, IfOk, OnErr};
-    ghost use Rattle.ab_loop.specs.Cores.{Rules, IsSendable, event_of};
+    ghost use Rattle.ab_loop.specs.Cores.{Rules, event_of};
+    ghost use Rattle.ab_msg.specs.Packets.{IsSendable};
 
     /// What each event leaves, sends and shows.
     ghost rules: { Rules Self };

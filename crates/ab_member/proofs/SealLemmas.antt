@@ -18,8 +18,7 @@ use Rattle.ab_open.specs.Opening.{opening}
 use Rattle.ab_open.proofs.ByteLemmas.{all_bytes}
 use Rattle.ab_sign.specs.Judges.{judge_of}
 use Rattle.ab_seal.specs.Sealing.{sealed, tagged}
-use Rattle.ab_loop.specs.Cores.{IsSendable}
-use Rattle.ab_msg.specs.Packets.{Packet}
+use Rattle.ab_msg.specs.Packets.{IsSendable, Packet}
 use Rattle.ab_member.specs.Credentials.{Credentials, IsLast, IsPartyRing, opened, sealed_all, sealed_by, sealed_for}
 
 -- ---- opening

@@ -4,7 +4,8 @@ use Rattle.ab_wire.specs.Views.{IsReceived, message as message_of}
 use Rattle.ab_abs.specs.Messages.{Call, took, timed}
 use Rattle.ab_run.specs.Local.{Cue, cue_message, cue_time}
 use Rattle.ab_loop.specs.declared.party_core.Reaction.{Reaction as Answer}
-use Rattle.ab_loop.specs.Cores.{IsSendable, Reaction}
+use Rattle.ab_loop.specs.Cores.{Reaction}
+use Rattle.ab_msg.specs.Packets.{IsSendable}
 use Rattle.ab_member.specs.declared.given.Given.{Given}
 use Rattle.ab_member.specs.declared.given.Given.TheVariants.{Message, Time}
 

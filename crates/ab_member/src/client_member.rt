@@ -6,7 +6,7 @@ ghost use Rattle.ab_keys.specs.Keys.{is_party};
 ghost use Rattle.ab_key_text.specs.Keys.{IsWhole};
 ghost use Rattle.ab_client.specs.Clients.{told};
 ghost use Rattle.ab_run.specs.Forms.{IsDraftOf};
-ghost use Rattle.ab_loop.specs.Cores.{IsSendable};
+ghost use Rattle.ab_msg.specs.Packets.{IsSendable};
 ghost use Rattle.ab_member.specs.Credentials.{IsPartyRing, sealed_all};
 ghost use Rattle.ab_member.specs.Given.{IsGiven, Reacts, given_cue};
 ghost use Rattle.ab_member.specs.Clients.{Does, Heard, IsFirstClient, client_after, client_takes, commit_in, is_command};

@@ -8,7 +8,7 @@ ghost use Rattle.ab_sign.specs.Signers.{leaves_of};
 ghost use Rattle.ab_sign.specs.declared.key.SignKey.TheVariants.{Public};
 ghost use Rattle.ab_wire.specs.Views.{IsReceived, message};
 ghost use Rattle.ab_run.specs.Forms.{IsDraftOf};
-ghost use Rattle.ab_loop.specs.Cores.{IsSendable};
+ghost use Rattle.ab_msg.specs.Packets.{IsSendable};
 ghost use Rattle.ab_seal.specs.Sealing.{sealed};
 ghost use Rattle.ab_member.specs.Credentials.{IsLast, IsPartyRing, credentials_in, opened, own_key, sealed_all, sealed_by, with_own};
 

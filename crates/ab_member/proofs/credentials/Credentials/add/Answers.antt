@@ -1,7 +1,6 @@
 use Rattle.std.proofs.Common.{◌≡◌, ◌∙◌, List, ℕ, All, ap, subst, sym}
 use Rattle.std.proofs.lemmas.List.Elements.{All-push}
-use Rattle.ab_loop.specs.Cores.{IsSendable}
-use Rattle.ab_msg.specs.Packets.{Packet}
+use Rattle.ab_msg.specs.Packets.{IsSendable, Packet}
 use Rattle.ab_member.specs.Credentials.{sealed_by}
 use Rattle.ab_member.proofs.SealLemmas.{can_send}
 use Rattle.ab_member.proofs.credentials.Credentials.add.Goals as goal

@@ -1,8 +1,7 @@
 use Rattle.std.proofs.Common.{◌≡◌, ◌∙◌, ◌++◌, ◌∷◌, [], ◌+◌, ◌<◌, All, Bor, IfSome, List, Option, ap, arith, length, subst, sym}
 use Rattle.ab_keys.specs.Keys.{is_party}
 use Rattle.ab_msg.specs.declared.message.Out.{Out}
-use Rattle.ab_loop.specs.Cores.{IsSendable}
-use Rattle.ab_msg.specs.Packets.{Packet}
+use Rattle.ab_msg.specs.Packets.{IsSendable, Packet}
 use Rattle.ab_member.specs.Credentials.{IsLast, sealed_by}
 use Rattle.ab_member.proofs.SealLemmas.{is_last, sent_more, unsent_more}
 use Rattle.ab_member.proofs.credentials.Credentials.seal_all.Goals as goal

@@ -1,6 +1,6 @@
 use Rattle.std.proofs.Common.{◌≡◌, All, take}
 use Rattle.std.specs.Prelude.{IfSome}
-use Rattle.ab_loop.specs.Cores.{IsSendable}
+use Rattle.ab_msg.specs.Packets.{IsSendable}
 use Rattle.ab_member.specs.Credentials.{IsLast, sealed_all, sealed_by}
 use Rattle.ab_member.proofs.credentials.Credentials.seal_all.Given as goal
 
