@@ -1,4 +1,4 @@
-//! Tests of key rings, one-time signatures, trees and signers: apart from their crates, so that these aren't proved once more for them.
+//! Tests of key rings, one-time signatures, trees, signers and signatures in two levels: apart from their crates, so that these aren't proved once more for them.
 #![tactic(auto)]
 
 #[cfg(test)]
@@ -13,3 +13,5 @@ mod signers;
 mod standard;
 #[cfg(test)]
 mod trees;
+#[cfg(test)]
+mod two_levels;
