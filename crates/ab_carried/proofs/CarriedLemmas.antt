@@ -1,24 +1,12 @@
 -- What claims and values carry.
-use Rattle.std.proofs.Common.{◌≡◌, List, [], ◌∷◌, ◌++◌, map, refl, ap}
+use Rattle.std.proofs.Common.{◌≡◌, List, [], ◌++◌, map, refl}
 use Rattle.std.specs.List.{flat_map}
 use Rattle.std.proofs.lemmas.List.Folds.{flat_map-map}
 use Rattle.ab_num.specs.declared.party.Party.{Party}
-use Rattle.ab_hist.specs.declared.request.Request.{Request}
 use Rattle.ab_msg.specs.declared.content.Content.{Content}
 use Rattle.ab_msg.specs.declared.message.Msg.{Msg}
 use Rattle.ab_msg.specs.declared.value.Value.TheVariants as value
-use Rattle.ab_msg.specs.Carried.{value_histories, value_requests}
 use Rattle.ab_open.specs.Claimed.{by_maker}
-
--- the values of requests have no histories
-pub histories_of : (ms : List Request) → value_histories (map value.Request ms) ≡ []
-histories_of [] = refl
-histories_of (m ∷ ms) = histories_of ms
-
--- and have the requests themselves
-pub requests_of : (ms : List Request) → value_requests (map value.Request ms) ≡ ms
-requests_of [] = refl
-requests_of (m ∷ ms) = ap (λ xs. m ∷ xs) (requests_of ms)
 
 -- what claims say, and behind it what a message has
 pub carried_from : {A : Type 0} (says : Content → List A) (has : Msg → List A) (none first all : List A) (pairs : List (Party × Content)) (claims : List Content) (given m : Msg)

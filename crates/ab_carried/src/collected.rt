@@ -76,7 +76,7 @@ impl Carried {
     }
 
     /// Adds the values of a view change.
-    #[tactic(auto, using(crate::proofs::CarriedLemmas::histories_of, crate::proofs::CarriedLemmas::requests_of))]
+    #[tactic(auto, using(ab_open::proofs::NamedLemmas::histories_of, ab_open::proofs::NamedLemmas::requests_of))]
     fn add_values(&mut self, alloc: Global, given: &ValuesRef<'_>) -> Result<(), OutOfMemory>
         requires { AreSlotValues (values given.now) }
         ensures histories { OnOk result (self.new.histories.items ≡ self.old.histories.items ++ value_histories (values given.now)) }

@@ -6,11 +6,12 @@ use Rattle.ab_num.specs.declared.memory.OutOfMemory.{OutOfMemory}
 use Rattle.ab_replica.specs.declared.effects.Effects.{Effects}
 use Rattle.std.specs.Option.{option_map}
 use Rattle.std.proofs.lemmas.Bool.{cases_eq, cases_order}
-use Rattle.std.proofs.lemmas.Option.{slice_get-map, slice_get_past, slice_get_within, slice_get_read}
+use Rattle.std.proofs.lemmas.Option.{slice_get-map, slice_get_past, slice_get_within, slice_get_read, same_Some}
 use Rattle.std.proofs.lemmas.List.{length-map}
 use Rattle.ab_num.specs.declared.cluster.Cluster.{Cluster}
 use Rattle.ab_num.specs.declared.plan.Kind.{Kind}
 use Rattle.ab_num.specs.declared.party.Party.TheVariants.{Replica, Client}
+use Rattle.ab_num.proofs.Lists.{slice_get_there, length-slice_set, slice_get-push}
 use Rattle.ab_hist.specs.declared.request.Request.{Request}
 use Rattle.ab_msg.specs.declared.message.Msg.{Msg}
 use Rattle.ab_msg.specs.declared.message.Out.{Out}
@@ -23,7 +24,7 @@ use Rattle.ab_abs.specs.Promises.{ServesAll}
 use Rattle.ab_run.specs.Replicas.{is_spent}
 use Rattle.ab_replica.specs.Sites.{Site}
 use Rattle.ab_run.specs.Local.{Cue, cue_message, cue_time, rep_marks, cli_after, cli_sends, cli_marks}
-use Rattle.ab_run.proofs.Listed.{set_hit, set_miss, set_length, get_before, get_last}
+use Rattle.ab_run.proofs.Listed.{set_hit, set_miss, get_before}
 use Rattle.ab_client.specs.Clients.{Seat, alone, after, sends, marks}
 use Rattle.ab_client.specs.Moved.{IsLastVote}
 use Rattle.ab_run.specs.Forms.{IsDraftOf}
@@ -36,7 +37,7 @@ use Rattle.ab_cast.specs.Cores.{ClientCommits, CommitsAtOnce, Core, replica, cli
 use Rattle.ab_cast.specs.declared.given.Given.{Given}
 use Rattle.ab_cast.specs.Hearing.{CliHears, IsGiven, RepHears, call_of, cue_of}
 use Rattle.ab_cast.specs.Casts.{Cast, core_at, with_core, next, first_seat, first_seats, first_site, first_sites, first_cast, is_idle, command_refusal, IsTaken, IsSeat, AreSeats, AreTwinSeats, IsSite, AreOwn, AreTwins, IsCast}
-use Rattle.ab_cast.proofs.StandLemmas.{IsThere, some_injective, mapped_cases, is_there}
+use Rattle.ab_cast.proofs.StandLemmas.{IsThere, mapped_cases, is_there}
 use Rattle.ab_cast.proofs.ReplicaLemmas.{given_formed, after_given, sends_given, marks_given, spends_given, first_is_site, after_is, goes_on, sends_is, own_drafts}
 
 -- ---- lists
@@ -50,7 +51,7 @@ Each-set Q xs i was now there is are j x at =
     elim (cases_eq j i) [
       | inl same ↦
           let e : Some now ≡ Some x = sym (set_hit xs i now was there) ∙ (ap (slice_get (slice_set xs i now)) (sym same) ∙ at) in
-          subst (λ (k : ℕ). Q k x) (sym same) (subst (Q i) (some_injective now x e) is)
+          subst (λ (k : ℕ). Q k x) (sym same) (subst (Q i) (same_Some now x e) is)
       | inr other ↦ are j x (sym (set_miss xs i j now other) ∙ at)
     ]
 
@@ -58,16 +59,11 @@ Each-push : {A : Type 0} (Q : ℕ → A → Type 0) (xs : List A) (y : A) → Q 
 Each-push Q xs y is are j x at =
     elim (cases_order j (length xs)) [
       | inl same ↦
-          let e : Some y ≡ Some x = sym (get_last xs y) ∙ (ap (slice_get (xs ++ y ∷ [])) (sym same) ∙ at) in
-          subst (λ (k : ℕ). Q k x) (sym same) (subst (Q (length xs)) (some_injective y x e) is)
+          let e : Some y ≡ Some x = sym (slice_get-push xs y) ∙ (ap (slice_get (xs ++ y ∷ [])) (sym same) ∙ at) in
+          subst (λ (k : ℕ). Q k x) (sym same) (subst (Q (length xs)) (same_Some y x e) is)
       | inr (inl below) ↦ are j x (sym (get_before xs y j below) ∙ at)
       | inr (inr above) ↦ absurd (let e : None ≡ Some x = sym (slice_get_past (xs ++ y ∷ []) j (omega (arith, length-append xs (y ∷ []), above))) ∙ at in cc)
     ]
-
-pub get_there : {A : Type 0} (xs : List A) (i : ℕ) → i < length xs → (x : A) × (slice_get xs i ≡ Some x)
-get_there [] i lt = absurd (omega arith)
-get_there (x ∷ xs) zero lt = (x, refl)
-get_there (x ∷ xs) (suc i) lt = get_there xs i (omega arith)
 
 pub read_there : {A : Type 0} (xs : List A) (i : ℕ) (t : A) → i < length xs → t ≡ get_or xs i t → slice_get xs i ≡ Some t
 read_there xs i t lt read = slice_get_read xs (length xs) i t refl lt read
@@ -80,7 +76,7 @@ put_back (x ∷ xs) (suc i) t u there same = ap (λ ys. x ∷ ys) (put_back xs i
 
 -- what stands at a place is what was read there
 pub the_same : {A : Type 0} (xs : List A) (i : ℕ) (s t : A) → slice_get xs i ≡ Some s → i < length xs → t ≡ get_or xs i t → s ≡ t
-the_same xs i s t at lt read = some_injective s t (sym at ∙ slice_get_read xs (length xs) i t refl lt read)
+the_same xs i s t at lt read = same_Some s t (sym at ∙ slice_get_read xs (length xs) i t refl lt read)
 
 -- ---- events
 
@@ -126,7 +122,7 @@ module _ {P : Type 0} (proto : Proto P) (serves : Kind → Bool) (x : Cast P) (i
     IsCast-replica : (s now : Site P) (all : List (Site P)) → slice_get x.replicas at ≡ Some s → IsSite proto serves x.setup at now
         → all ≡ slice_set x.replicas at now → IsCast proto serves (record x { replicas = all; events = x.events + 1 })
     IsCast-replica s now all there here set = record {
-      all_replicas = ap length set ∙ (set_length x.replicas at now ∙ is.all_replicas);
+      all_replicas = ap length set ∙ (length-slice_set x.replicas at now ∙ is.all_replicas);
       all_clients = is.all_clients;
       all_replica_twins = is.all_replica_twins;
       all_client_twins = is.all_client_twins;
@@ -143,7 +139,7 @@ module _ {P : Type 0} (proto : Proto P) (serves : Kind → Bool) (x : Cast P) (i
     IsCast-replica_twin s now all there here set = record {
       all_replicas = is.all_replicas;
       all_clients = is.all_clients;
-      all_replica_twins = ap length set ∙ (set_length x.replica_twins at now ∙ is.all_replica_twins);
+      all_replica_twins = ap length set ∙ (length-slice_set x.replica_twins at now ∙ is.all_replica_twins);
       all_client_twins = is.all_client_twins;
       serves_all = is.serves_all;
       own_replicas = is.own_replicas;
@@ -159,7 +155,7 @@ module _ {P : Type 0} (proto : Proto P) (serves : Kind → Bool) (x : Cast P) (i
         → all ≡ slice_set x.clients at now → IsCast proto serves (record x { clients = all; events = x.events + 1 })
     IsCast-client s now all there goes set = record {
       all_replicas = is.all_replicas;
-      all_clients = ap length set ∙ (set_length x.clients at now ∙ is.all_clients);
+      all_clients = ap length set ∙ (length-slice_set x.clients at now ∙ is.all_clients);
       all_replica_twins = is.all_replica_twins;
       all_client_twins = is.all_client_twins;
       serves_all = is.serves_all;
@@ -176,7 +172,7 @@ module _ {P : Type 0} (proto : Proto P) (serves : Kind → Bool) (x : Cast P) (i
       all_replicas = is.all_replicas;
       all_clients = is.all_clients;
       all_replica_twins = is.all_replica_twins;
-      all_client_twins = ap length set ∙ (set_length x.client_twins at now ∙ is.all_client_twins);
+      all_client_twins = ap length set ∙ (length-slice_set x.client_twins at now ∙ is.all_client_twins);
       serves_all = is.serves_all;
       own_replicas = is.own_replicas;
       twin_replicas = is.twin_replicas;
@@ -190,16 +186,16 @@ module _ {P : Type 0} (proto : Proto P) (serves : Kind → Bool) (x : Cast P) (i
   -- ---- where cores are
 
   replica_at : (r : ℕ) → IsThere x.setup (place.Replica r) → (s : Site P) × (slice_get x.replicas r ≡ Some s)
-  replica_at r there = get_there x.replicas r (omega (arith, there, is.all_replicas))
+  replica_at r there = slice_get_there x.replicas r (omega (arith, there, is.all_replicas))
 
   client_at : (n : ℕ) → IsThere x.setup (place.Client n) → (s : Seat) × (slice_get x.clients n ≡ Some s)
-  client_at n there = get_there x.clients n (omega (arith, there, is.all_clients))
+  client_at n there = slice_get_there x.clients n (omega (arith, there, is.all_clients))
 
   replica_twin_at : (r at : ℕ) → IsThere x.setup (place.ReplicaTwin r at) → (s : Site P) × (slice_get x.replica_twins at ≡ Some s)
-  replica_twin_at r at there = get_there x.replica_twins at (omega (arith, slice_get_within (replica_twins x.setup.faulty) at there.1.0 there.1.1.0, is.all_replica_twins))
+  replica_twin_at r at there = slice_get_there x.replica_twins at (omega (arith, slice_get_within (replica_twins x.setup.faulty) at there.1.0 there.1.1.0, is.all_replica_twins))
 
   client_twin_at : (n at : ℕ) → IsThere x.setup (place.ClientTwin n at) → (s : Seat) × (slice_get x.client_twins at ≡ Some s)
-  client_twin_at n at there = get_there x.client_twins at (omega (arith, slice_get_within (client_twins x.setup.faulty) at there.1.0 there.1.1.0, is.all_client_twins))
+  client_twin_at n at there = slice_get_there x.client_twins at (omega (arith, slice_get_within (client_twins x.setup.faulty) at there.1.0 there.1.1.0, is.all_client_twins))
 
   pub client_twin_within : (n at : ℕ) → IsThere x.setup (place.ClientTwin n at) → at < length x.client_twins
   client_twin_within n at there = omega (arith, slice_get_within (client_twins x.setup.faulty) at there.1.0 there.1.1.0, is.all_client_twins)
@@ -255,7 +251,7 @@ module _ {P : Type 0} (proto : Proto P) (serves : Kind → Bool) (x : Cast P) (i
         let h = hears s.0 s.1 in
         let now = goes_on proto serves form x.setup is.serves_all r there.0 s.0 h.now (call_of g) outs marks spent (given_formed g given) (twin_of r at s.0 there s.1) h.hears h.used in
         let number : (k : ℕ × ℕ) → slice_get (replica_twins x.setup.faulty) at ≡ Some k → r ≡ k.0
-        = λ k is_k. sym there.1.1.1 ∙ ap (λ (k : ℕ × ℕ). k.0) (some_injective there.1.0 k (sym there.1.1.0 ∙ is_k)) in
+        = λ k is_k. sym there.1.1.1 ∙ ap (λ (k : ℕ × ℕ). k.0) (same_Some there.1.0 k (sym there.1.1.0 ∙ is_k)) in
         IsCast-replica_twin few at s.0 h.now all s.1 (λ k is_k. subst (λ (q : ℕ). IsSite proto serves x.setup q h.now) (number k is_k) now) h.set
 
     pub replica_twin_taken : (s : Site P) → slice_get x.replica_twins at ≡ Some s
@@ -408,17 +404,13 @@ module _ {P : Type 0} where
     at_there twin given =
         subst (IsThere x.setup) placed (subst (λ (y : Cast P). IsThere y.setup p) (sym view) (is_there now.setup (party_at p) twin p given))
 
-pub on_err : {T E Q : Type 0} (r : Result T E) → Q → OnErr r Q
-on_err (Ok x) q = tt
-on_err (Err e) q = q
-
 -- a client without an open request takes a command
 pub is_free_core : (P : Type 0) (s : Seat) → s.cli.phase ≡ Idle → command_refusal {P = P} (client s) ≡ None
 is_free_core P s idle = ap (λ p. if is_idle p then None else Some Busy) idle
 
 -- ---- before the first event
 
-length-first_seats : (c : Cluster) (n : ℕ) → length (first_seats c n) ≡ n
+pub length-first_seats : (c : Cluster) (n : ℕ) → length (first_seats c n) ≡ n
 length-first_seats c zero = refl
 length-first_seats c (suc n) = length-append (first_seats c n) (first_seat c n ∷ []) ∙ omega (arith, length-first_seats c n)
 
@@ -433,7 +425,7 @@ first_are_seats c (suc n) m s at =
 -- where both lists are made of the same numbers
 mapped : {A : Type 0} (f : ℕ → A) (numbers : List (ℕ × ℕ)) (at : ℕ) (k : ℕ × ℕ) (s : A) → slice_get numbers at ≡ Some k → slice_get (map (λ k. f k.0) numbers) at ≡ Some s → f k.0 ≡ s
 mapped f numbers at k s number there =
-    some_injective (f k.0) s (sym (slice_get-map (λ k. f k.0) numbers at ∙ ap (option_map (λ k. f k.0)) number) ∙ there)
+    same_Some (f k.0) s (sym (slice_get-map (λ k. f k.0) numbers at ∙ ap (option_map (λ k. f k.0)) number) ∙ there)
 
 module _ {P : Type 0} (proto : Proto P) (serves : Kind → Bool) (form : KeepsForm proto serves) (x : Setup) (served : ServesAll serves x.cluster) where
   abbrev first : ℕ → Site P

@@ -2,9 +2,10 @@
 use Rattle.std.proofs.Common.{◌≡◌, ◌↔◌, ℕ, zero, suc, ◌⊎◌, inl, inr, ◌≤◌, ◌+◌, ◌-◌, Bool, true, false, not, ◌&&◌, ◌||◌, cond, eqb, ltb, IsTrue, IsSome, is_some, List, [], ◌∷◌, map, position, length, get_or, Option, Some, None, All, Contains, refl, sym, ◌∙◌, ap, subst, arith, add-one}
 use Rattle.std.specs.List.{list_any, range_with_len, position_or_len}
 use Rattle.std.specs.Option.{option_map}
-use Rattle.std.proofs.lemmas.Bool.{and_from}
+use Rattle.std.proofs.lemmas.Bool.{and_from, or_cases, and_parts}
 use Rattle.std.proofs.lemmas.Bool.Decides.{Decides-eqb, nat_tests}
 use Rattle.std.proofs.lemmas.List.Folds.{list_any-append, list_any_at, Any-from_list_any}
+use Rattle.std.proofs.Math.Bool.{and-true}
 use Rattle.ab_num.specs.declared.party.Party.{Party}
 use Rattle.ab_num.specs.declared.party.Party.TheVariants.{Replica, Client}
 use Rattle.ab_num.specs.Parties.{party_eq}
@@ -13,7 +14,6 @@ use Rattle.ab_keys.specs.Keys.{is_party}
 use Rattle.ab_cast.specs.declared.place.Place.{Place}
 use Rattle.ab_cast.specs.Setups.{Setup, is_bad, twins_of_replica, twins_of_client, replica_twins, client_twins, own_place, twin_place, numbered_place, place_of}
 use Rattle.ab_cast.proofs.SetupLemmas.{faulty_of}
-use Rattle.ab_cast.proofs.PlaceLemmas.{both}
 
 -- whether party q with n cores is p and has a further core of number t
 abbrev has_further : Party → ℕ → Party → ℕ → Bool
@@ -105,7 +105,7 @@ entry : (p : Party) (faulty : List (Party × ℕ)) (test : ℕ → Bool) → lis
 entry p faulty test h =
     let a = Any-from_list_any (λ e. party_eq p e.0 && test e.1) faulty h in
     let e : Party × ℕ = a.1 in
-    let b = both (party_eq p e.0) (test e.1) a.4 in
+    let b = and_parts (party_eq p e.0) (test e.1) a.4 in
     let is : e ≡ (p, e.1) = ap (λ (q : Party). (q, e.1)) (sym (same_party p e.0 b.0)) in
     (e.1, (a.0, a.2, subst (λ (d : Party × ℕ). get_or faulty a.0 d ≡ d) is a.3), b.1)
 
@@ -116,23 +116,15 @@ entered p faulty test n c h =
     list_any_at (λ e. party_eq p e.0 && test e.1) faulty c.0 (p, n) c.1
     (subst (λ (e : Party × ℕ). (party_eq p e.0 && test e.1) ≡ true) (sym c.2) (and_from (party_eq p p) (test n) (party_eq-refl p) h))
 
-and_true : (b : Bool) → (b && true) ≡ b
-and_true true = refl
-and_true false = refl
-
 any_true : (p : Party) (faulty : List (Party × ℕ)) → list_any (λ e. party_eq p e.0 && true) faulty ≡ list_any (λ e. party_eq p e.0) faulty
 any_true p [] = refl
-any_true p (e ∷ es) = ap (λ b. b || list_any (λ e. party_eq p e.0 && true) es) (and_true (party_eq p e.0)) ∙ ap (λ b. party_eq p e.0 || b) (any_true p es)
+any_true p (e ∷ es) = ap (λ b. b || list_any (λ e. party_eq p e.0 && true) es) (and-true (party_eq p e.0)) ∙ ap (λ b. party_eq p e.0 || b) (any_true p es)
 
 bad_is : (x : Setup) (p : Party) → list_any (λ e. party_eq p e.0 && true) x.faulty ≡ is_bad x p
 bad_is x p = any_true p x.faulty ∙ faulty_of p x.faulty
 
 abbrev HasCore : Setup → Party → ℕ → Type 0
 HasCore x p t = (n : ℕ) × Contains x.faulty (p, n) × (1 ≤ t) × (t ≤ n)
-
-or_cases : (a b : Bool) → (a || b) ≡ true → (a ≡ true) ⊎ (b ≡ true)
-or_cases true b h = inl refl
-or_cases false b h = inr h
 
 has_core : (x : Setup) (p : Party) (t : ℕ) → All (λ e. 1 ≤ e.1) x.faulty → is_bad x p ≡ true
     → (eqb t 1 ≡ true) ⊎ (list_any (λ e. has_further p t e.0 e.1) x.faulty ≡ true) → HasCore x p t
@@ -143,7 +135,7 @@ has_core x p t some bad (inl first) =
     (c.0, c.1, omega arith, omega arith)
 has_core x p t some bad (inr later) =
     let c = entry p x.faulty (λ n. ltb 1 t && ltb t (n + 1)) later in
-    let b = both (ltb 1 t) (ltb t (c.0 + 1)) c.2 in
+    let b = and_parts (ltb 1 t) (ltb t (c.0 + 1)) c.2 in
     (c.0, c.1, grind (arith, nat_tests), grind (arith, nat_tests))
 
 further : (t n : ℕ) → 1 ≤ t → t ≤ n → eqb t 1 ≡ false → (ltb 1 t && ltb t (n + 1)) ≡ true
@@ -159,8 +151,8 @@ pub numbered_is : (x : Setup) (p : Party) (t : ℕ) → All (λ e. 1 ≤ e.1) x.
 numbered_is x p t some =
     let later = list_any (λ e. has_further p t e.0 e.1) x.faulty in (
       λ h.
-          let a = both (is_party x.cluster.f x.cluster.clients p) (is_bad x p && (eqb t 1 || later)) (sym (place_is x p t) ∙ h) in
-          let b = both (is_bad x p) (eqb t 1 || later) a.1 in
+          let a = and_parts (is_party x.cluster.f x.cluster.clients p) (is_bad x p && (eqb t 1 || later)) (sym (place_is x p t) ∙ h) in
+          let b = and_parts (is_bad x p) (eqb t 1 || later) a.1 in
           (a.0, has_core x p t some b.0 (or_cases (eqb t 1) later b.1)),
       λ h.
           let bad = sym (bad_is x p) ∙ entered p x.faulty (λ _. true) h.1.0 h.1.1 refl in

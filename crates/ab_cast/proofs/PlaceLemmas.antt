@@ -1,9 +1,9 @@
 -- A place is that of one core.
 use Rattle.std.proofs.Common.{◌≡◌, ℕ, Bool, true, false, ◌&&◌, cond, eqb, List, Option, Some, None, position, slice_get, refl, sym, ◌∙◌, ap}
 use Rattle.std.specs.Option.{option_map, unwrap_or}
-use Rattle.std.proofs.lemmas.Bool.{false≢true}
+use Rattle.std.proofs.lemmas.Bool.{and_parts}
 use Rattle.std.proofs.lemmas.Bool.Decides.{Decides-eqb}
-use Rattle.std.proofs.lemmas.Option.{slice_get-get_or}
+use Rattle.std.proofs.lemmas.Option.{slice_get-get_or, same_Some}
 use Rattle.std.proofs.lemmas.List.Quantifiers.{position-Some}
 use Rattle.ab_num.specs.declared.party.Party.{Party}
 use Rattle.ab_num.specs.declared.party.Party.TheVariants.{Replica, Client}
@@ -11,10 +11,6 @@ use Rattle.ab_keys.specs.Keys.{is_party}
 use Rattle.ab_cast.specs.declared.place.Place.{Place}
 use Rattle.ab_cast.specs.declared.place.Place.TheVariants as place
 use Rattle.ab_cast.specs.Setups.{Setup, is_bad, replica_twins, client_twins, own_place, twin_place, numbered_place, place_of, core_number, party_at}
-
-pub both : (a b : Bool) → (a && b) ≡ true → (a ≡ true) × (b ≡ true)
-both true b h = (refl, h)
-both false b h = absurd (false≢true h)
 
 -- the number of the core that stands at a place
 abbrev number_at : List (Party × ℕ) → Place → ℕ
@@ -27,12 +23,9 @@ number_at faulty (place.ClientTwin c at) = (unwrap_or (slice_get (client_twins f
 abbrev StandsAt : List (Party × ℕ) → Party → ℕ → Place → Type 0
 StandsAt faulty p n at = (party_at at ≡ p) × (number_at faulty at ≡ n)
 
-some_injective : {A : Type 0} (x y : A) → Some x ≡ Some y → x ≡ y
-some_injective x y e = cc
-
 mapped : {A B : Type 0} (f : A → B) (o : Option A) (y : B) → option_map f o ≡ Some y → (x : A) × (o ≡ Some x) × (f x ≡ y)
 mapped f None y e = absurd cc
-mapped f (Some x) y e = (x, refl, some_injective (f x) y e)
+mapped f (Some x) y e = (x, refl, same_Some (f x) y e)
 
 given : {A : Type 0} (b : Bool) (o : Option A) (y : A) → cond b o None ≡ Some y → o ≡ Some y
 given true o y e = e
@@ -40,7 +33,7 @@ given false o y e = absurd cc
 
 named : (k : ℕ × ℕ) (r t : ℕ) → (eqb k.0 r && eqb k.1 t) ≡ true → k ≡ (r, t)
 named k r t h =
-    let b = both (eqb k.0 r) (eqb k.1 t) h in
+    let b = and_parts (eqb k.0 r) (eqb k.1 t) h in
     ap (λ (n : ℕ). (n, k.1)) ((Decides-eqb k.0 r).0 b.0) ∙ ap (λ (n : ℕ). (r, n)) ((Decides-eqb k.1 t).0 b.1)
 
 found : (r t : ℕ) (twins : List (ℕ × ℕ)) (i : ℕ) → position (λ k. eqb k.0 r && eqb k.1 t) twins ≡ Some i → slice_get twins i ≡ Some (r, t)
@@ -66,12 +59,12 @@ twin_stands faulty (Client c) t at h =
 either_stands : (faulty : List (Party × ℕ)) (p : Party) (t : ℕ) (at : Place) (first : Bool) → (first ≡ true → t ≡ 1)
     → cond first (Some (own_place p)) (twin_place faulty p t) ≡ Some at → StandsAt faulty p t at
 either_stands faulty p t at true is h =
-    let s = moved faulty p 1 (own_place p) at (some_injective (own_place p) at h) (own_stands faulty p) in
+    let s = moved faulty p 1 (own_place p) at (same_Some (own_place p) at h) (own_stands faulty p) in
     (s.0, s.1 ∙ sym (is refl))
 either_stands faulty p t at false is h = twin_stands faulty p t at h
 
 numbered_stands : (x : Setup) (p : Party) (t : Option ℕ) (at : Place) → numbered_place x p t ≡ Some at → StandsAt x.faulty p (core_number t) at
-numbered_stands x p None at h = moved x.faulty p 1 (own_place p) at (some_injective (own_place p) at h) (own_stands x.faulty p)
+numbered_stands x p None at h = moved x.faulty p 1 (own_place p) at (same_Some (own_place p) at h) (own_stands x.faulty p)
 numbered_stands x p (Some t) at h = either_stands x.faulty p t at (eqb t 1) (Decides-eqb t 1).0 (given (is_bad x p) _ at h)
 
 stands : (x : Setup) (p : Party) (t : Option ℕ) (at : Place) → place_of x p t ≡ Some at → StandsAt x.faulty p (core_number t) at

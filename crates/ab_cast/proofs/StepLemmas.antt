@@ -1,21 +1,14 @@
 -- Lists of first cores.
-use Rattle.std.proofs.Common.{◌≡◌, ℕ, zero, suc, ◌+◌, ◌-◌, ◌<◌, ◌≤◌, List, [], ◌∷◌, ◌++◌, length, map, take, get_or, refl, sym, ap, ◌∙◌, arith, add-one}
+use Rattle.std.proofs.Common.{◌≡◌, ℕ, zero, suc, ◌+◌, ◌-◌, ◌<◌, List, [], ◌∷◌, ◌++◌, length, map, take, get_or, refl, sym, ap, ◌∙◌, arith, add-one}
 use Rattle.std.specs.Prelude.{replicate}
 use Rattle.std.specs.List.{range_with_len}
-use Rattle.std.proofs.lemmas.List.{map-append, append_assoc}
+use Rattle.std.proofs.lemmas.List.{map-append, append_assoc, replicate_more, append-nil}
 use Rattle.std.proofs.lemmas.Grind.{flat_map-append}
 use Rattle.ab_num.specs.declared.party.Party.{Party}
 use Rattle.ab_num.specs.declared.party.Party.TheVariants.{Replica, Client}
 use Rattle.ab_cast.specs.Setups.{twins_of_replica, twins_of_client, replica_twins, client_twins}
 
 -- ---- lists
-
-replicate_last : {A : Type 0} (n : ℕ) (x : A) → replicate n x ++ x ∷ [] ≡ x ∷ replicate n x
-replicate_last zero x = refl
-replicate_last (suc n) x = ap (λ xs. x ∷ xs) (replicate_last n x)
-
-pub replicate_more : {A : Type 0} (n : ℕ) (x : A) → replicate n x ++ x ∷ [] ≡ replicate (n + 1) x
-replicate_more n x = rw add-one (replicate_last n x)
 
 -- one like the ones before is added
 pub one_more : {A : Type 0} (new old first : List A) (n : ℕ) (q x : A) → new ≡ old ++ q ∷ [] → old ≡ first ++ replicate n x → q ≡ x → new ≡ first ++ replicate (n + 1) x
@@ -27,28 +20,18 @@ same_first : {A : Type 0} (f : ℕ → A) (r low n : ℕ) → map (λ (k : ℕ �
 same_first f r low zero = refl
 same_first f r low (suc n) = ap (λ xs. f r ∷ xs) (same_first f r (low + 1) n)
 
-append_nil : {A : Type 0} (xs : List A) → xs ++ [] ≡ xs
-append_nil [] = refl
-append_nil (x ∷ xs) = ap (λ ys. x ∷ ys) (append_nil xs)
-
 module _ {A : Type 0} (f : ℕ → A) (entries : List (Party × ℕ)) (e : Party × ℕ) where
   pub more_replicas : map (λ k. f k.0) (replica_twins (entries ++ e ∷ [])) ≡ map (λ k. f k.0) (replica_twins entries) ++ map (λ k. f k.0) (twins_of_replica e.0 e.1)
-  more_replicas = ap (map (λ k. f k.0)) (flat_map-append (λ e. twins_of_replica e.0 e.1) entries (e ∷ []) ∙ ap (λ xs. replica_twins entries ++ xs) (append_nil (twins_of_replica e.0 e.1))) ∙ map-append (λ k. f k.0) (replica_twins entries) (twins_of_replica e.0 e.1)
+  more_replicas = ap (map (λ k. f k.0)) (flat_map-append (λ e. twins_of_replica e.0 e.1) entries (e ∷ []) ∙ ap (λ xs. replica_twins entries ++ xs) (append-nil (twins_of_replica e.0 e.1))) ∙ map-append (λ k. f k.0) (replica_twins entries) (twins_of_replica e.0 e.1)
 
   pub more_clients : map (λ k. f k.0) (client_twins (entries ++ e ∷ [])) ≡ map (λ k. f k.0) (client_twins entries) ++ map (λ k. f k.0) (twins_of_client e.0 e.1)
-  more_clients = ap (map (λ k. f k.0)) (flat_map-append (λ e. twins_of_client e.0 e.1) entries (e ∷ []) ∙ ap (λ xs. client_twins entries ++ xs) (append_nil (twins_of_client e.0 e.1))) ∙ map-append (λ k. f k.0) (client_twins entries) (twins_of_client e.0 e.1)
+  more_clients = ap (map (λ k. f k.0)) (flat_map-append (λ e. twins_of_client e.0 e.1) entries (e ∷ []) ∙ ap (λ xs. client_twins entries ++ xs) (append-nil (twins_of_client e.0 e.1))) ∙ map-append (λ k. f k.0) (client_twins entries) (twins_of_client e.0 e.1)
 
 pub replica_first : {A : Type 0} (f : ℕ → A) (p : Party) (r cores : ℕ) → p ≡ Replica r → map (λ k. f k.0) (twins_of_replica p cores) ≡ replicate (cores - 1) (f r)
 replica_first f p r cores is = ap (λ q. map (λ k. f k.0) (twins_of_replica q cores)) is ∙ same_first f r 2 (cores - 1)
 
 pub client_first : {A : Type 0} (f : ℕ → A) (p : Party) (c cores : ℕ) → p ≡ Client c → map (λ k. f k.0) (twins_of_client p cores) ≡ replicate (cores - 1) (f c)
 client_first f p c cores is = ap (λ q. map (λ k. f k.0) (twins_of_client q cores)) is ∙ same_first f c 2 (cores - 1)
-
-pub take_past : {A : Type 0} (n : ℕ) (xs : List A) → length xs ≤ n → take n xs ≡ xs
-take_past zero [] le = refl
-take_past zero (x ∷ xs) le = absurd (omega (arith, le))
-take_past (suc n) [] le = refl
-take_past (suc n) (x ∷ xs) le = ap (λ ys. x ∷ ys) (take_past n xs (omega (arith, le)))
 
 -- the next of the first n elements
 pub take_next : {A : Type 0} (n : ℕ) (xs : List A) (d : A) → n < length xs → take (n + 1) xs ≡ take n xs ++ get_or xs n d ∷ []
@@ -76,7 +59,7 @@ module _ {A : Type 0} (f : ℕ → A) (entries : List (Party × ℕ)) (n : ℕ) 
 
   pub other_replica : (r : ℕ) → e.0 ≡ Client r → new ≡ old → old ≡ first_replicas (take n entries) → new ≡ first_replicas (take (n + 1) entries)
   other_replica r party same before =
-      same ∙ (before ∙ (sym (append_nil (first_replicas (take n entries)))
+      same ∙ (before ∙ (sym (append-nil (first_replicas (take n entries)))
       ∙ (ap (λ p. first_replicas (take n entries) ++ map (λ k. f k.0) (twins_of_replica p e.1)) (sym party) ∙ sym (ap first_replicas (take_next n entries d lt) ∙ more_replicas f (take n entries) e))))
 
   -- the further cores of one entry more
@@ -86,5 +69,5 @@ module _ {A : Type 0} (f : ℕ → A) (entries : List (Party × ℕ)) (n : ℕ) 
 
   pub other_client : (r : ℕ) → e.0 ≡ Replica r → new ≡ old → old ≡ first_clients (take n entries) → new ≡ first_clients (take (n + 1) entries)
   other_client r party same before =
-      same ∙ (before ∙ (sym (append_nil (first_clients (take n entries)))
+      same ∙ (before ∙ (sym (append-nil (first_clients (take n entries)))
       ∙ (ap (λ p. first_clients (take n entries) ++ map (λ k. f k.0) (twins_of_client p e.1)) (sym party) ∙ sym (ap first_clients (take_next n entries d lt) ∙ more_clients f (take n entries) e))))

@@ -15,7 +15,7 @@ use Rattle.ab_sign.specs.Judges.{judge_of}
 use Rattle.ab_keys.specs.Keys.{is_party}
 use Rattle.ab_keys.specs.Rings.{Ring, ring_of}
 use Rattle.ab_abs.specs.Faults.{is_faulty}
-use Rattle.ab_run.specs.Setups.{Setup as RunSetup}
+use Rattle.ab_run.specs.Setups.{RunSetup}
 use Rattle.ab_cast.specs.declared.place.Place.{Place}
 use Rattle.ab_cast.specs.declared.place.Place.TheVariants as place
 

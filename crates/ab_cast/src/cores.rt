@@ -65,7 +65,7 @@ pub(crate) fn first_clients(alloc: Global, cluster: &Cluster) -> Result<Vec<Clie
 }
 
 /// Adds so many further cores of a replica.
-#[tactic(auto, using(crate::proofs::StepLemmas::replicate_more))]
+#[tactic(auto, using(std::proofs::lemmas::List::replicate_more))]
 fn add_replicas<S: Service, P: Protocol<S>>(
     alloc: Global,
     setup: &Setup,
@@ -84,7 +84,7 @@ fn add_replicas<S: Service, P: Protocol<S>>(
 }
 
 /// Adds so many further cores of a client.
-#[tactic(auto, using(crate::proofs::StepLemmas::replicate_more))]
+#[tactic(auto, using(std::proofs::lemmas::List::replicate_more))]
 fn add_clients(
     alloc: Global,
     cluster: &Cluster,

@@ -14,6 +14,7 @@ use Rattle.ab_num.specs.declared.plan.Kind.TheVariants as kind
 use Rattle.ab_num.specs.Parties.{party_eq}
 use Rattle.ab_num.specs.declared.party.Party.TheVariants.{Replica, Client}
 use Rattle.ab_num.specs.Places.{at_position_of, position_in}
+use Rattle.ab_num.proofs.Lists.{Contains-head, Contains-tail, Contains-cons_cases, Contains-filter_cases, flat_map_cases, Contains-one, Contains-none, Contains-filter}
 use Rattle.ab_hist.specs.declared.request.Request.{Request}
 use Rattle.ab_hist.specs.Histories.{place_in, can_push}
 use Rattle.ab_svc.specs.Machines.{Machine, Reply, IsReply, serve}
@@ -45,18 +46,14 @@ use Rattle.ab_abs.specs.Messages.{Call, took, call_claims, call_values, claims_i
 use Rattle.ab_abs.specs.Ensembles.{begin_of, asked_of, halt_of, statements_of, MayTake}
 use Rattle.ab_abs.specs.FormLaws.{KeepsForm, Belongs, begun, called, halted, Arises, from_entry, by_call, by_stop}
 use Rattle.ab_abs.specs.Members.{Member, member_state, respond, IsAt}
-use Rattle.ab_abs.proofs.Counting.{Contains-head, Contains-tail}
-use Rattle.ab_abs.proofs.Lists.{Contains-cons_cases, Contains-filter_cases, flat_map_cases}
-use Rattle.ab_abs.proofs.Statements.{one_of, none_of}
 use Rattle.ab_abs.proofs.Positions.{position_here, position_there}
 use Rattle.ab_abs.proofs.ChainClaims.{tags_checked, request_checked}
-use Rattle.ab_abs.proofs.Certified.{keeps_passing}
 use Rattle.ab_abs.proofs.Drafts.{IsBounded, written_logged, few_replicas, drafts_answer}
 use Rattle.ab_abs.proofs.Steps.{vote_on, logged_more}
 use Rattle.ab_abs.proofs.TailSteps.{KeepsTail, tail_calls, tail_rests, tail_starts, tail_others}
 use Rattle.ab_chain.specs.Tags.{by_client}
 use Rattle.ab_chain.specs.Passing.{firsts-all, few_passed}
-use Rattle.ab_chain.specs.Rules.{Link, is_chain, position_at, Task, idle, passes, is_numbered, agrees, agreed, passing, reply_from, same_reply, answer_of, kept_of, task, log_after, sends_with, moved, sent_by, chain}
+use Rattle.ab_chain.specs.Rules.{ChainState, is_chain, position_at, Task, idle, passes, is_numbered, agrees, agreed, passing, reply_from, same_reply, answer_of, kept_of, task, log_after, sends_with, moved, sent_by, chain}
 
 -- its clients commit on the tail of the chain
 rule_of_chain : (k : Kind) (f : ℕ) → IsTrue (is_chain k) → rule_of k f ≡ rules.Tail
@@ -126,11 +123,11 @@ two_own : (r i : ℕ) (a b s : Content) → (maker_of a ≡ Replica r) × (insta
 two_own r i a b s own_a own_b has =
     elim (Contains-cons_cases a (b ∷ []) s has) [
       | inl e ↦ (ap maker_of (sym e) ∙ own_a.0, ap instance_of (sym e) ∙ own_a.1)
-      | inr more ↦ let e = one_of b s more in (ap maker_of (sym e) ∙ own_b.0, ap instance_of (sym e) ∙ own_b.1)
+      | inr more ↦ let e = Contains-one b s more in (ap maker_of (sym e) ∙ own_b.0, ap instance_of (sym e) ∙ own_b.1)
     ]
 
 one_own : (r i : ℕ) (a s : Content) → (maker_of a ≡ Replica r) × (instance_of a ≡ i) → Contains (a ∷ []) s → (maker_of s ≡ Replica r) × (instance_of s ≡ i)
-one_own r i a s own has = let e = one_of a s has in (ap maker_of (sym e) ∙ own.0, ap instance_of (sym e) ∙ own.1)
+one_own r i a s own has = let e = Contains-one a s has in (ap maker_of (sym e) ∙ own.0, ap instance_of (sym e) ∙ own.1)
 
 passed_own : (f i : ℕ) (m : Request) (n : ℕ) (d : List ℕ) (reply : Option Reply) (r p : ℕ) (s : Content) → Contains (passed_at f i m n d reply r p) s → (maker_of s ≡ Replica r) × (instance_of s ≡ i)
 passed_own f i m n d None r p s has = one_own r i (ChainTag (Replica r) i m.client m.stamp n d) s (refl, refl) has
@@ -144,14 +141,14 @@ passed_own f i m n d (Some reply) r p s has = of_tests (nat_le p (2 * f)) (nat_l
     of_tests false false has = one_own r i (Resp (Replica r) i m.client m.stamp n d reply) s (refl, refl) has
 
 sends_own : (f g i p r : ℕ) (t : Task) (o : Out) (s : Content) → Contains (sends_with g i p t) o → Contains (fresh f (Replica r) o.msg) s → (maker_of s ≡ Replica r) × (instance_of s ≡ i)
-sends_own f g i p r idle o s sent has = absurd (none_of o sent)
+sends_own f g i p r idle o s sent has = absurd (Contains-none o sent)
 sends_own f g i p r (passes m vote reply tags) o s sent has =
-    let is = one_of _ o sent in
+    let is = Contains-one _ o sent in
     passed_own f i m vote.n vote.d reply r (position_in f i r) s (subst (λ (z : Out). Contains (fresh f (Replica r) z.msg) s) (sym is) has)
 
 sends_unsigned : (g i p : ℕ) (t : Task) (o : Out) (v : Signed) → Contains (sends_with g i p t) o → Contains (signed_in o.msg) v → ⊥
-sends_unsigned g i p idle o v sent has = none_of o sent
-sends_unsigned g i p (passes m vote reply tags) o v sent has = let is = one_of _ o sent in none_of v (subst (λ (z : Out). Contains (signed_in z.msg) v) (sym is) has)
+sends_unsigned g i p idle o v sent has = Contains-none o sent
+sends_unsigned g i p (passes m vote reply tags) o v sent has = let is = Contains-one _ o sent in Contains-none v (subst (λ (z : Out). Contains (signed_in z.msg) v) (sym is) has)
 
 -- ---- what is sent has bytes
 
@@ -162,7 +159,7 @@ tags_between client low (t ∷ tags) few fit =
 
 module _ {S : Type 0} (machine : Machine S) where
   -- a request and tags of the grammar, with a reply of the grammar or its own
-  record HasForm (q : Link) (m : Request) (vote : Vote) (reply : Option Reply) (tags : List TagBetween) : Type 0 where
+  record HasForm (q : ChainState) (m : Request) (vote : Vote) (reply : Option Reply) (tags : List TagBetween) : Type 0 where
     answers : answer_of machine q.at m ≡ Some vote
     fits : IsRequest 0 15 m
     replied : FitsInside FitsReply reply ⊎ (reply ≡ Some vote.reply)
@@ -177,7 +174,7 @@ module _ {S : Type 0} (machine : Machine S) where
         | inr late ↦ inr (rw late at is)
       ]
 
-  has_form : (q : Link) (call : Call) → IsFormed call → (m : Request) (vote : Vote) (reply : Option Reply) (tags : List TagBetween) → task machine q call ≡ passes m vote reply tags → HasForm q m vote reply tags
+  has_form : (q : ChainState) (call : Call) → IsFormed call → (m : Request) (vote : Vote) (reply : Option Reply) (tags : List TagBetween) → task machine q call ≡ passes m vote reply tags → HasForm q m vote reply tags
   has_form q (took (msg.Req (Req maker i n) tags')) formed m vote reply tags is =
       let p = position_at q in
       let given : Request → List TagBetween = λ z. kept_of q z (map (by_client z.client) tags'.items) in
@@ -213,7 +210,7 @@ module _ {S : Type 0} (machine : Machine S) where
   written_with log (passes m vote reply tags) fits was = written_logged log m (fits m vote reply tags refl) was
 
   -- a stopped replica does nothing
-  no_pass : (q : Link) (call : Call) → q.at.stopped ≡ true → task machine q call ≡ idle
+  no_pass : (q : ChainState) (call : Call) → q.at.stopped ≡ true → task machine q call ≡ idle
   no_pass q (took (msg.Req (Req maker i m) tags)) stopped =
       let none : answer_of machine q.at m ≡ None = ap (λ b. if b then None else answer_to machine (length q.at.base) q.at.log m) stopped in
       rw none (either_idle (position_at q == 1))
@@ -231,27 +228,27 @@ module _ {S : Type 0} (machine : Machine S) where
   no_pass q _ stopped = refl
 
   -- where a value is
-  record IsHere (f i r : ℕ) (q : Link) : Type 0 where
+  record IsHere (f i r : ℕ) (q : ChainState) : Type 0 where
     sized : q.f ≡ f
     placed : q.at.instance ≡ i
     owned : q.at.me ≡ r
 
-  here : (c : Cluster) (i r : ℕ) (q : Link) → Belongs (chain machine) is_chain c i r q → IsHere c.f i r q
+  here : (c : Cluster) (i r : ℕ) (q : ChainState) → Belongs (chain machine) is_chain c i r q → IsHere c.f i r q
   here c i r q (begun e served) = record { sized = refl; placed = refl; owned = refl }
   here c i r q (called pen p call was) = let h = here c i r p was in record { sized = h.sized; placed = h.placed; owned = h.owned }
   here c i r q (halted p was) = let h = here c i r p was in record { sized = h.sized; placed = h.placed; owned = h.owned }
 
-  own_law : (c : Cluster) (i r : ℕ) (pen : Pen) (q : Link) (call : Call) (o : Out) (s : Content) → Belongs (chain machine) is_chain c i r q → Contains ((chain machine).sends pen q call) o → Contains (fresh c.f (Replica r) o.msg) s → (maker_of s ≡ Replica r) × (instance_of s ≡ i)
+  own_law : (c : Cluster) (i r : ℕ) (pen : Pen) (q : ChainState) (call : Call) (o : Out) (s : Content) → Belongs (chain machine) is_chain c i r q → Contains ((chain machine).sends pen q call) o → Contains (fresh c.f (Replica r) o.msg) s → (maker_of s ≡ Replica r) × (instance_of s ≡ i)
   own_law c i r pen q call o s was sent has =
       let w = sends_own c.f q.f q.at.instance (position_at q) r (task machine q call) o s sent has in (w.0, w.1 ∙ (here c i r q was).placed)
 
   -- values with bytes
-  record IsBoundedLink (c : Cluster) (i r : ℕ) (q : Link) : Type 0 where
+  record IsBoundedLink (c : Cluster) (i r : ℕ) (q : ChainState) : Type 0 where
     is : IsHere c.f i r q
     within : r < 3 * c.f + 1
     at : IsBounded q.at
 
-  bounded : (c : Cluster) (i r : ℕ) (q : Link) → Arises (chain machine) is_chain c i r q → IsBoundedLink c i r q
+  bounded : (c : Cluster) (i r : ℕ) (q : ChainState) → Arises (chain machine) is_chain c i r q → IsBoundedLink c i r q
   bounded c i r q (from_entry e served placed lt entry) =
       record { is = record { sized = refl; placed = refl; owned = refl }; within = lt; at = record { placed = placed; owned = few_replicas c r lt; based = entry.base.0.1; written = entry.base } }
   bounded c i r q (by_call pen p call signs formed was) =
@@ -272,7 +269,7 @@ module _ {S : Type 0} (machine : Machine S) where
     reply_fits reply own fits (inl came) = came
     reply_fits reply own fits (inr is) = subst (λ (r : Option Reply). FitsInside FitsReply r) (sym is) fits
 
-    pass_draft : (f : ℕ) (q : Link) (m : Request) (vote : Vote) (reply : Option Reply) (tags : List TagBetween) → q.f ≤ 2 → position_at q ≤ 3 * q.f + 1 → IsBounded q.at → HasForm q m vote reply tags
+    pass_draft : (f : ℕ) (q : ChainState) (m : Request) (vote : Vote) (reply : Option Reply) (tags : List TagBetween) → q.f ≤ 2 → position_at q ≤ 3 * q.f + 1 → IsBounded q.at → HasForm q m vote reply tags
         → IsDraft (msg.Chain q.at.instance m vote.n vote.d reply tags)
     pass_draft f q m vote reply tags few most b form =
         let v = answer_draft q.at m vote b form.fits form.answers _ (Contains-head _ []) in
@@ -283,13 +280,13 @@ module _ {S : Type 0} (machine : Machine S) where
         let each : All IsBetween tags = subst (λ (ts : List TagBetween). All IsBetween ts) (sym form.carried) (firsts-all IsBetween _ [] form.came (All-nil IsBetween) form.between) in
         (b.placed, (form.fits, (n, (d, (reply_fits reply vote.reply own form.replied, ((omega arith, omega (arith, short')), each))))))
 
-    drafts_with : (q : Link) (t : Task) → q.f ≤ 2 → position_at q ≤ 3 * q.f + 1 → IsBounded q.at → ((m : Request) (vote : Vote) (reply : Option Reply) (tags : List TagBetween) → t ≡ passes m vote reply tags → HasForm q m vote reply tags)
+    drafts_with : (q : ChainState) (t : Task) → q.f ≤ 2 → position_at q ≤ 3 * q.f + 1 → IsBounded q.at → ((m : Request) (vote : Vote) (reply : Option Reply) (tags : List TagBetween) → t ≡ passes m vote reply tags → HasForm q m vote reply tags)
         → (o : Out) → Contains (sent_by q t) o → IsDraft o.msg
-    drafts_with q idle few most b forms o sent = absurd (none_of o sent)
+    drafts_with q idle few most b forms o sent = absurd (Contains-none o sent)
     drafts_with q (passes m vote reply tags) few most b forms o sent =
-        subst (λ (z : Out). IsDraft z.msg) (one_of _ o sent) (pass_draft q.f q m vote reply tags few most b (forms m vote reply tags refl))
+        subst (λ (z : Out). IsDraft z.msg) (Contains-one _ o sent) (pass_draft q.f q m vote reply tags few most b (forms m vote reply tags refl))
 
-    drafts_law : (c : Cluster) (i r : ℕ) (q : Link) (call : Call) → IsBoundedLink c i r q → IsFormed call → (o : Out) → Contains (sent_by q (task machine q call)) o → IsDraft o.msg
+    drafts_law : (c : Cluster) (i r : ℕ) (q : ChainState) (call : Call) → IsBoundedLink c i r q → IsFormed call → (o : Out) → Contains (sent_by q (task machine q call)) o → IsDraft o.msg
     drafts_law c i r q call b formed o sent =
         let f_few = c.in_bounds.few_faulty in
         let same = b.is.sized in
@@ -308,9 +305,9 @@ module _ {S : Type 0} (machine : Machine S) where
       entered_stays = λ pen q call. refl;
       entered_rests = λ q. refl;
       own = own_law;
-      silent = λ c i r pen q call o s was stopped sent has. absurd (none_of o (subst (λ (t : Task). Contains (sent_by q t) o) (no_pass q call stopped) sent));
+      silent = λ c i r pen q call o s was stopped sent has. absurd (Contains-none o (subst (λ (t : Task). Contains (sent_by q t) o) (no_pass q call stopped) sent));
       signed = λ pen q call o v sent has. absurd (sends_unsigned q.f q.at.instance (position_at q) (task machine q call) o v sent has);
-      sent = λ pen q call s has. absurd (none_of s has);
+      sent = λ pen q call s has. absurd (Contains-none s has);
       settles = λ c i r pen q call cert was is formed. inl refl;
       written = λ c i r q was. (bounded c i r q was).at.written;
       drafts = λ c i r pen q call signs was formed o sent. drafts_law c i r q call (bounded c i r q was) formed o sent;
@@ -340,12 +337,12 @@ module _ {S : Type 0} (machine : Machine S) (x : Setting) where
   states_passed : (claims : List Content) (here : State) (p r : ℕ) (m : Request) (n : ℕ) (d : List ℕ) (own : Reply) (reply : Option Reply) → IsPassed x claims here p m n d → IsReply machine (take n here.log) m own → (2 * x.cluster.f < p → reply ≡ Some own)
       → (s : Content) → Contains (passed_at x.cluster.f x.i m n d reply r p) s → IsTailContent machine x claims here p r s
   states_passed claims here p r m n d own None passed replied reply_is s has =
-      for_positions m n d passed (sym (one_of (ChainTag (Replica r) x.i m.client m.stamp n d) s has))
+      for_positions m n d passed (sym (Contains-one (ChainTag (Replica r) x.i m.client m.stamp n d) s has))
   states_passed claims here p r m n d own (Some reply) passed replied reply_is s has =
       let tag : Content = ChainTag (Replica r) x.i m.client m.stamp n d in
       let resp : Content = Resp (Replica r) x.i m.client m.stamp n d reply in
       elim (cases_Bool (nat_le p (2 * x.cluster.f))) [
-        | inl early ↦ for_positions m n d passed (sym (one_of tag s (rw early at has)))
+        | inl early ↦ for_positions m n d passed (sym (Contains-one tag s (rw early at has)))
         | inr late ↦
             let e : Some reply ≡ Some own = reply_is (over p (2 * x.cluster.f) late) in
             let same : own ≡ reply = cc (e) in
@@ -354,9 +351,9 @@ module _ {S : Type 0} (machine : Machine S) (x : Setting) where
             elim (cases_Bool (nat_lt p (3 * x.cluster.f + 1))) [
               | inl middle ↦ elim (Contains-cons_cases tag (resp ∷ []) s (rw middle at has')) [
                 | inl e' ↦ for_positions m n d passed (sym e')
-                | inr more ↦ for_client m n d reply passed replied' (sym (one_of resp s more))
+                | inr more ↦ for_client m n d reply passed replied' (sym (Contains-one resp s more))
               ]
-              | inr last ↦ for_client m n d reply passed replied' (sym (one_of resp s (rw last at has')))
+              | inr last ↦ for_client m n d reply passed replied' (sym (Contains-one resp s (rw last at has')))
             ]
       ]
     where
@@ -407,7 +404,7 @@ module _ {S : Type 0} (machine : Machine S) (x : Setting) where
           ];
           states = λ s has.
               let found = flat_map_cases (λ (o : Out). stated x.cluster.f (Replica me) o.msg) (sends_with x.cluster.f x.i p (passes m vote reply tags)) s has in
-              let one = one_of _ found.0 found.1 in
+              let one = Contains-one _ found.0 found.1 in
               let has' = subst (λ (o : Out). Contains (stated x.cluster.f (Replica me) o.msg) s) (sym one) found.2 in
               states_passed claims new p me m vote.n vote.d vote.reply reply passed v.replied ok.reply_is s
               (Contains-filter_cases (λ t. party_eq (maker_of t) (Replica me)) (passed_at x.cluster.f x.i m vote.n vote.d reply me p) s has').0;
@@ -415,7 +412,7 @@ module _ {S : Type 0} (machine : Machine S) (x : Setting) where
         (record { placed = was.placed; owned = was.owned; stands = next.0 }, next.1)
 
     -- a call, where it is known that the value is this replica's
-    may_pass : (me : ℕ) (q : Link) (call : Call) → q.f ≡ x.cluster.f → q.at.instance ≡ x.i → q.at.me ≡ me → IsFor x.i call
+    may_pass : (me : ℕ) (q : ChainState) (call : Call) → q.f ≡ x.cluster.f → q.at.instance ≡ x.i → q.at.me ≡ me → IsFor x.i call
         → (m : Request) (vote : Vote) (reply : Option Reply) (tags : List TagBetween) → task machine q call ≡ passes m vote reply tags → IsFormed call
         → MayPass machine x (claims_in x.i (call_claims x.cluster.f me call)) (position_in x.cluster.f x.i me) q.at m vote reply
     may_pass me q (took (msg.Req (Req maker i n) tags')) same placed owned for m vote reply tags is formed =
@@ -438,7 +435,7 @@ module _ {S : Type 0} (machine : Machine S) (x : Setting) where
           asked = λ near.
               let s : Content = Req maker i n in
               let e : s ≡ Req (Client m.client) x.i m = cc (own, here, n_is) in
-              subst (λ (z : Content). Contains (claims_in x.i (s ∷ [])) z) e (keeps_passing (λ t. instance_of t == x.i) (s ∷ []) s (Contains-head s []) (is_here i x.i here));
+              subst (λ (z : Content). Contains (claims_in x.i (s ∷ [])) z) e (Contains-filter (λ t. instance_of t == x.i) (s ∷ []) s (Contains-head s []) (is_here i x.i here));
           stated' = λ r one' lt near. absurd (omega (arith, lt, one', at_one));
         }
     may_pass me q (took (msg.Chain i n k d came tags')) same placed owned for m vote reply tags is formed =
@@ -465,17 +462,17 @@ module _ {S : Type 0} (machine : Machine S) (x : Setting) where
               let s : Content = Req (Client n.client) i n in
               let has : Contains all s = request_checked x.cluster.f i n k d came tags' me (omega (arith, near, pos_i)) in
               let e : s ≡ Req (Client m.client) x.i m = cc (here, n_is) in
-              subst (λ (z : Content). Contains (claims_in x.i all) z) e (keeps_passing (λ t. instance_of t == x.i) all s has (is_here i x.i here));
+              subst (λ (z : Content). Contains (claims_in x.i all) z) e (Contains-filter (λ t. instance_of t == x.i) all s has (is_here i x.i here));
           stated' = λ r one' lt near.
               let s : Content = ChainTag (Replica (at_position_of x.cluster.f i r)) i n.client n.stamp k d in
               let has : Contains all s = tags_checked x.cluster.f i n k d came tags' me r one' (omega (arith, lt, pos_i)) (omega (arith, near, pos_i)) in
               let e : s ≡ ChainTag (Replica (at_position_of x.cluster.f x.i r)) x.i m.client m.stamp vote.n vote.d = cc (here, n_is, k_is, d_is) in
-              subst (λ (z : Content). Contains (claims_in x.i all) z) e (keeps_passing (λ t. instance_of t == x.i) all s has (is_here i x.i here));
+              subst (λ (z : Content). Contains (claims_in x.i all) z) e (Contains-filter (λ t. instance_of t == x.i) all s has (is_here i x.i here));
         }
     may_pass me q _ same placed owned for m vote reply tags is formed = absurd (cc (is))
 
     -- where a replica of this cluster stands
-    abbrev pub LinkStands : Link → ℕ → Type 0
+    abbrev pub LinkStands : ChainState → ℕ → Type 0
     LinkStands q me = IsAt x q.at me (state_of acts me) × (q.f ≡ x.cluster.f)
 
     pub start_law : (me : ℕ) (e : Entry) → MayStart x acts me e.base → LinkGoes me ((chain machine).begin x.cluster x.i me e).at (begin_of (chain machine) x me e)
@@ -483,13 +480,13 @@ module _ {S : Type 0} (machine : Machine S) (x : Setting) where
         let next = tail_starts machine x acts me e.base (member_state ((chain machine).begin x.cluster x.i me e).at) (record { based = refl; logged = refl }) may in
         (record { placed = refl; owned = refl; stands = next.0 }, next.1)
 
-    pub stop_law : (me : ℕ) (q : Link) → LinkStands q me → LinkGoes me ((chain machine).halt q).at (halt_of (chain machine) me q)
+    pub stop_law : (me : ℕ) (q : ChainState) → LinkStands q me → LinkGoes me ((chain machine).halt q).at (halt_of (chain machine) me q)
     stop_law me q was =
         let p = position_there x.cluster.f x.i me was.0.stands.within in
         let next = tail_rests machine x acts me p.0 [] [] [] (member_state q.at) (member_state ((chain machine).halt q).at) (unmarked refl) p.1 p.2 p.3 refl refl (λ _. refl) was.0.stands in
         (record { placed = was.0.placed; owned = was.0.owned; stands = next.0 }, next.1)
 
-    pub on_law : (me : ℕ) (pen : Pen) (q : Link) (call : Call) (seen : List Seen) → MayTake (chain machine) x acts me pen q call seen → LinkStands q me
+    pub on_law : (me : ℕ) (pen : Pen) (q : ChainState) (call : Call) (seen : List Seen) → MayTake (chain machine) x acts me pen q call seen → LinkStands q me
         → LinkGoes me ((chain machine).after pen q call).at (asked_of (chain machine) x me pen q call seen)
     on_law me pen q call seen may was =
         let t = task machine q call in

@@ -27,11 +27,11 @@ is_chain kind.Chain = true
 is_chain kind.Backup = false
 
 -- a replica, and how many may be faulty
-pub record Link : Type 0 where
+pub record ChainState : Type 0 where
   pub f : ℕ
   pub at : Member
 
-abbrev pub position_at : Link → ℕ
+abbrev pub position_at : ChainState → ℕ
 position_at q = position_in q.f q.at.instance q.at.me
 
 -- what a call asks of a replica: nothing, or to log m with this answer, and to pass it on with this reply and these tags
@@ -78,11 +78,11 @@ passing f p m came tags (Some vote) = passes m vote (reply_from f p came vote.re
 abbrev pub answer_of : {S : Type 0} → Machine S → Member → Request → Option Vote
 answer_of machine q m = if q.stopped then None else answer_to machine (length q.base) q.log m
 
-abbrev pub kept_of : Link → Request → List TagBetween → List TagBetween
+abbrev pub kept_of : ChainState → Request → List TagBetween → List TagBetween
 kept_of q m tags = passed_on q.f q.at.instance m.client (position_at q) tags
 
 module _ {S : Type 0} (machine : Machine S) where
-  abbrev pub task_of : Link → Msg → Task
+  abbrev pub task_of : ChainState → Msg → Task
   task_of q (msg.Req (Req maker i m) tags) =
       if position_at q == 1 then passing q.f (position_at q) m None (kept_of q m (map (by_client m.client) tags.items)) (answer_of machine q.at m) else idle
   task_of q (msg.Chain i m n d reply tags) =
@@ -91,7 +91,7 @@ module _ {S : Type 0} (machine : Machine S) where
       else passing q.f (position_at q) m reply (kept_of q m tags) (agreed q.f (position_at q) n d reply (answer_of machine q.at m))
   task_of q _ = idle
 
-  abbrev pub task : Link → Call → Task
+  abbrev pub task : ChainState → Call → Task
   task q (took m) = task_of q m
   task q timed = idle
 
@@ -110,18 +110,18 @@ sends_with f i p (passes m vote reply tags) = record { to = next_of f i p m.clie
 abbrev pub moved : Member → Task → Member
 moved q t = record { instance = q.instance; me = q.me; base = q.base; log = log_after q.log t; stopped = q.stopped }
 
-abbrev pub goes : Link → Task → Link
+abbrev pub goes : ChainState → Task → ChainState
 goes q t = record { f = q.f; at = moved q.at t }
 
 -- with an answer the request is logged
-abbrev pub logging : Link → Request → Option Vote → Link
+abbrev pub logging : ChainState → Request → Option Vote → ChainState
 logging q m None = q
 logging q m (Some vote) = record { f = q.f; at = record { instance = q.at.instance; me = q.at.me; base = q.at.base; log = logged q.at.log m; stopped = q.at.stopped } }
 
-abbrev pub sent_by : Link → Task → List Out
+abbrev pub sent_by : ChainState → Task → List Out
 sent_by q t = sends_with q.f q.at.instance (position_at q) t
 
-abbrev pub chain : {S : Type 0} → Machine S → Proto Link
+abbrev pub chain : {S : Type 0} → Machine S → Proto ChainState
 chain machine = record {
   begin = λ c i r e. record { f = c.f; at = record { instance = i; me = r; base = e.base; log = e.base; stopped = false } };
   after = λ pen q call. goes q (task machine q call);

@@ -56,10 +56,10 @@ impl<S: Service> Drop for Chain<S> {
 
 impl<S: Service> Model for Chain<S> {
     ghost use Rattle.std.specs.Prelude.{◌+◌, ◌*◌, ◌<◌, ◌≤◌, length, take};
-    ghost use Rattle.ab_chain.specs.Rules.{Link};
+    ghost use Rattle.ab_chain.specs.Rules.{ChainState};
     ghost use Rattle.ab_chain.specs.Trials.{HasServed};
 
-    ghost Value = { Link };
+    ghost Value = { ChainState };
 
     ghost view = { λ q. record { f = q.cluster.f; at = record { instance = q.instance; me = q.me; base = take q.base q.book; log = q.book; stopped = q.stopped } } };
 

@@ -5,7 +5,7 @@ use Rattle.std.specs.Borrow.{Bor}
 use Rattle.ab_num.specs.declared.party.Party.TheVariants.{Replica}
 use Rattle.ab_msg.specs.declared.content.Content.{Content}
 use Rattle.ab_msg.specs.Claims.{maker_of, each_before}
-use Rattle.ab_check.specs.declared.chain.LinkRef.{LinkRef}
+use Rattle.ab_check.specs.declared.chain.PassingRef.{PassingRef}
 use Rattle.ab_check.specs.Chains.{said, said_by}
 use Rattle.ab_check.specs.Checks.{slot_checks, slots_checks}
 
@@ -33,11 +33,11 @@ passed-some says n p left false e m =
 pub passed-first : (says : ℕ → Content) (n p left : ℕ) → left ≡ min (p - 1) n → each_before left says p ≡ each_before n says p
 passed-first says n p left m = sym (passed-some says n p left (leb (p - 1) n) refl m)
 
-maker_said : (l : LinkRef) (o : Option (Bor (List ℕ))) (r : ℕ) → maker_of (said_by l o r) ≡ Replica r
+maker_said : (l : PassingRef) (o : Option (Bor (List ℕ))) (r : ℕ) → maker_of (said_by l o r) ≡ Replica r
 maker_said l None r = refl
 maker_said l (Some reply) r = refl
 
-pub said_maker : (l : LinkRef) (r : ℕ) → maker_of (said l r) ≡ Replica r
+pub said_maker : (l : PassingRef) (r : ℕ) → maker_of (said l r) ≡ Replica r
 said_maker l r = maker_said l l.reply r
 
 -- ---- behind a view change

@@ -9,15 +9,15 @@ use Rattle.ab_msg.specs.declared.content.Content.TheVariants.{Resp, ChainTag}
 use Rattle.ab_msg.specs.declared.chain_tags.TagBetween.{TagBetween}
 use Rattle.ab_hist.specs.declared.request.Request.{Request}
 use Rattle.ab_msg.specs.Claims.{maker_of, asked, each_before}
-use Rattle.ab_check.specs.declared.chain.LinkRef.{LinkRef}
+use Rattle.ab_check.specs.declared.chain.PassingRef.{PassingRef}
 use Rattle.ab_check.specs.Checks.{Check, tagged, tag_between}
 
 -- what replica r states of it: a tag for later positions, or with a reply the response
-abbrev pub said_by : LinkRef → Option (Bor (List ℕ)) → ℕ → Content
+abbrev pub said_by : PassingRef → Option (Bor (List ℕ)) → ℕ → Content
 said_by l None r = ChainTag (Replica r) l.instance l.client l.stamp l.n l.d.now
 said_by l (Some reply) r = Resp (Replica r) l.instance l.client l.stamp l.n l.d.now (record { items = reply.now })
 
-abbrev pub said : LinkRef → ℕ → Content
+abbrev pub said : PassingRef → ℕ → Content
 said l r = said_by l l.reply r
 
 -- a content, and the tag of its maker for a party
@@ -25,7 +25,7 @@ abbrev pub passed_to : Party → List TagBetween → Content → Check
 passed_to me tags c = tagged c (tag_between (maker_of c) me tags)
 
 -- what the f + 1 positions before position p state
-abbrev pub said_before : ℕ → LinkRef → ℕ → List Content
+abbrev pub said_before : ℕ → PassingRef → ℕ → List Content
 said_before f l p = each_before (f + 1) (λ q. said l (at_position_of f l.instance q)) p
 
 -- the client's request, at the first f + 1 positions

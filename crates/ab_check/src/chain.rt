@@ -11,7 +11,7 @@ use crate::text::{Text, add};
 /// What the positions of a chain state of a request; with a reply of at most 72 bytes, what its client
 /// checks.
 #[derive(Clone, Copy, Debug)]
-pub struct LinkRef<'a> {
+pub struct PassingRef<'a> {
     pub instance: u32,
     pub client: u16,
     pub stamp: u64,
@@ -22,7 +22,7 @@ pub struct LinkRef<'a> {
 
 /// The 52 bytes of a tag along a chain.
 #[tactic(auto, unfolding(ab_form::specs::Formats::u8_bytes, ab_form::specs::Formats::u16_bytes, ab_form::specs::Formats::u32_bytes, ab_form::specs::Formats::u64_bytes))]
-fn passed_text(l: &LinkRef<'_>, r: u8) -> Text
+fn passed_text(l: &PassingRef<'_>, r: u8) -> Text
     ensures { result.items ≡ spell_content (ChainTagContent (Replica r) l.now.instance l.now.client l.now.stamp l.now.n l.now.d.now) }
 {
     let d = l.d;
@@ -39,7 +39,7 @@ fn passed_text(l: &LinkRef<'_>, r: u8) -> Text
 
 /// The at most 125 bytes of a response.
 #[tactic(auto, unfolding(ab_form::specs::Formats::u8_bytes, ab_form::specs::Formats::u16_bytes, ab_form::specs::Formats::u32_bytes, ab_form::specs::Formats::u64_bytes))]
-fn answer_text(l: &LinkRef<'_>, r: u8, reply: &[u8]) -> Text
+fn answer_text(l: &PassingRef<'_>, r: u8, reply: &[u8]) -> Text
     requires { length reply.now ≤ 72 }
     ensures { result.items ≡ spell_content (RespContent (Replica r) l.now.instance l.now.client l.now.stamp l.now.n l.now.d.now (record { items = reply.now })) }
 {
@@ -59,7 +59,7 @@ fn answer_text(l: &LinkRef<'_>, r: u8, reply: &[u8]) -> Text
 }
 
 /// What replica `r` states, in bytes. They take no memory.
-pub(crate) fn said_text(l: &LinkRef<'_>, r: u8) -> Text
+pub(crate) fn said_text(l: &PassingRef<'_>, r: u8) -> Text
     requires { IfSome l.now.reply (λ reply. length reply.now ≤ 72) }
     ensures { result.items ≡ spell_content (said l.now r) }
 {

@@ -6,7 +6,7 @@ ghost use Rattle.ab_msg.specs.Contents.{spell_content};
 ghost use Rattle.ab_check.specs.Chains.{said};
 ghost use Rattle.ab_check.specs.Listing.{IsClaim, bytes_of, claimed};
 
-use crate::chain::{LinkRef, said_text};
+use crate::chain::{PassingRef, said_text};
 use crate::stated_bytes::StatedBytes;
 use crate::text::{prepare_text, request_text};
 use ab_content::{ContentRef, RequestRef};
@@ -30,7 +30,7 @@ pub enum ClaimRef<'a> {
     },
     /// What replica `r` states of a request in a chain.
     Said {
-        link: LinkRef<'a>,
+        link: PassingRef<'a>,
         r: u8,
     },
     /// What a replica states of a slot that a view change names.
@@ -44,7 +44,7 @@ pub enum ClaimRef<'a> {
 }
 
 /// What replica `r` states of a request in a chain, as a content of its own.
-fn own_said(link: &LinkRef<'_>, r: u8) -> Content
+fn own_said(link: &PassingRef<'_>, r: u8) -> Content
     requires { IfSome link.now.reply (λ reply. length reply.now ≤ 72) }
     ensures { result ≡ said link.now r }
 {

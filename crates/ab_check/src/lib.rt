@@ -16,7 +16,7 @@ mod prepared;
 mod stated_bytes;
 mod text;
 
-pub use chain::LinkRef;
+pub use chain::PassingRef;
 pub use check_ref::{CheckRef, TokenRef};
 pub use checker::Checker;
 pub use checking::check;

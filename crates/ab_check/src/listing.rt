@@ -15,7 +15,7 @@ ghost use Rattle.ab_check.specs.Chains.{IsPlaced, asked_at, passed_to, said_befo
 ghost use Rattle.ab_wire.specs.Views.{IsReceived, Spells, aborts as shown_aborts, chain_tags, message, offered, proof, proofs, reply_of, tags as shown_tags};
 ghost use Rattle.ab_check.specs.Listing.{IsClaim, checked, one_left};
 
-use crate::chain::LinkRef;
+use crate::chain::PassingRef;
 use crate::check_ref::{CheckRef, TokenRef};
 use crate::checks::Checks;
 use crate::claim_ref::ClaimRef;
@@ -124,7 +124,7 @@ fn chain_at_replica<'a>(
 {
     let me = Party::Replica(r);
     let p = k.position_of(instance, r);
-    let link = LinkRef {
+    let link = PassingRef {
         instance,
         client: m.client,
         stamp: m.stamp,
@@ -161,7 +161,7 @@ fn chain_at_client<'a>(
     match reply {
         None => Checks::of(None, None, none_passed(k), none(), none_prepared(), none()),
         Some(reply) => {
-            let link = LinkRef {
+            let link = PassingRef {
                 instance,
                 client: m.client,
                 stamp: m.stamp,

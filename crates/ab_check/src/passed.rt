@@ -7,7 +7,7 @@ ghost use Rattle.ab_check.specs.Checks.{tag_between};
 ghost use Rattle.ab_check.specs.Chains.{passed_to, said_before};
 ghost use Rattle.ab_check.specs.Listing.{IsClaim, IsPassed, checked, passed_left};
 
-use crate::chain::LinkRef;
+use crate::chain::PassingRef;
 use crate::check_ref::{CheckRef, TokenRef};
 use crate::claim_ref::ClaimRef;
 use crate::copied::{copy_of, none};
@@ -23,7 +23,7 @@ const NOTHING: &[u8; 32] = &[0; 32];
 #[derive(Clone, Copy, Debug)]
 pub(crate) struct Passed<'a> {
     pub(crate) k: Cluster,
-    pub(crate) link: LinkRef<'a>,
+    pub(crate) link: PassingRef<'a>,
     pub(crate) position: u8,
     pub(crate) left: u8,
     pub(crate) me: Party,
@@ -49,7 +49,7 @@ pub(crate) fn tag_between<'a>(
 /// The f + 1 positions before this one, as far as they are there.
 pub(crate) fn passed_before<'a>(
     k: &Cluster,
-    link: LinkRef<'a>,
+    link: PassingRef<'a>,
     position: u8,
     me: Party,
     tags: ListRef<'a, BetweenRef<'a>>,
@@ -76,7 +76,7 @@ pub(crate) fn none_passed<'a>(k: &Cluster) -> Passed<'a>
     ensures none { passed_left result ≡ [] }
     ensures lawful { IsPassed result }
 {
-    let link = LinkRef {
+    let link = PassingRef {
         instance: 1,
         client: 0,
         stamp: 0,

@@ -24,7 +24,7 @@ use Rattle.ab_abs.specs.Votes.{has_voted, voted, same_vote, all_voted, is_full_b
 use Rattle.ab_abs.specs.Kinds.{rule_of, counts_responses}
 use Rattle.ab_run.specs.declared.phase.Phase.{Phase}
 use Rattle.ab_run.specs.declared.phase.Phase.TheVariants.{Idle, Waiting, Panicking}
-use Rattle.ab_run.specs.Clients.{Move, move_vote, move_commit, vote_claim, if_open, counting, hears_response}
+use Rattle.ab_run.specs.Clients.{CliAction, move_vote, move_commit, vote_claim, if_open, counting, hears_response}
 use Rattle.ab_run.specs.Local.{cue_message, marks_in_moves}
 use Rattle.ab_client.specs.Clients.{Seat, alone, is_waiting, moves_on, marks}
 use Rattle.ab_client.specs.Moved.{IsLastVote, IsMoved, is_answer}
@@ -32,7 +32,7 @@ use Rattle.ab_client.proofs.MovedLemmas.{moved_nothing, moved_so}
 
 -- ---- answers that are awaited
 
-pub heard_so : (p : Phase) (last : Option Request) (x y : Bool) (moves : Request → List Move) (m : Request) → ((is_waiting p && x) && y) ≡ true → last ≡ Some m
+pub heard_so : (p : Phase) (last : Option Request) (x y : Bool) (moves : Request → List CliAction) (m : Request) → ((is_waiting p && x) && y) ≡ true → last ≡ Some m
     → if_open p last (λ waits m. if (waits && x) && y then moves m else []) ≡ moves m
 heard_so Idle last x y moves m e is = absurd (cc (e))
 heard_so Waiting None x y moves m e is = absurd (cc (is))
@@ -40,7 +40,7 @@ heard_so Waiting (Some q) x y moves m e is = let same : q ≡ m = cc (is) in ap 
 heard_so Panicking last x y moves m e is = absurd (cc (e))
 
 -- where there was no request nothing moves
-pub heard_none : (p : Phase) (last : Option Request) (moves : Bool → Request → List Move) → last ≡ None → if_open p last moves ≡ []
+pub heard_none : (p : Phase) (last : Option Request) (moves : Bool → Request → List CliAction) → last ≡ None → if_open p last moves ≡ []
 heard_none Idle last moves e = refl
 heard_none Waiting None moves e = refl
 heard_none Waiting (Some m) moves e = absurd (cc (e))
@@ -120,7 +120,7 @@ module _ (s : Seat) (m : Request) (b : Ballot) (kinds : (kind_of s.cluster.plan 
       is_lt : (x y : ℕ) → x < y → nat_lt x y ≡ true
       is_lt x y lt = grind (arith, nat_tests)
 
-      chosen : (x y z : Bool) {t u : Move} → x ≡ true → y ≡ false → z ≡ true → (if x then (if y then [] else t ∷ (if z then u ∷ [] else [])) else []) ≡ t ∷ u ∷ []
+      chosen : (x y z : Bool) {t u : CliAction} → x ≡ true → y ≡ false → z ≡ true → (if x then (if y then [] else t ∷ (if z then u ∷ [] else [])) else []) ≡ t ∷ u ∷ []
       chosen x y z {t} {u} e f g = λ i. if e i then (if f i then [] else t ∷ (if g i then u ∷ [] else [])) else []
 
   heard : hears_response (alone s.cluster) s.me s.cli true m (Resp (Replica b.by) s.cli.at s.me s.cli.stamp b.n b.d b.reply) ≡ counting (alone s.cluster) s.me s.cli m b
@@ -130,7 +130,7 @@ module _ (s : Seat) (m : Request) (b : Ballot) (kinds : (kind_of s.cluster.plan 
       same : (n : ℕ) → (n == n) ≡ true
       same n = grind (arith, nat_tests)
 
-      answered : (w x y z : Bool) {ts : List Move} → w ≡ true → x ≡ true → y ≡ true → z ≡ true → (if (true && w) && (x && (y && z)) then ts else []) ≡ ts
+      answered : (w x y z : Bool) {ts : List CliAction} → w ≡ true → x ≡ true → y ≡ true → z ≡ true → (if (true && w) && (x && (y && z)) then ts else []) ≡ ts
       answered w x y z {ts} e f g h = λ i. if (true && e i) && (f i && (g i && h i)) then ts else []
 
   last_moves : (tag : List ℕ) → moves_on s (cue_message (msg.Resp (Resp (Replica b.by) s.cli.at s.me s.cli.stamp b.n b.d b.reply) tag))

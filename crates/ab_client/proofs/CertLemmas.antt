@@ -1,8 +1,8 @@
 -- Kept ABORTs, and the certificates that they make.
-use Rattle.std.proofs.Common.{◌≡◌, ℕ, suc, ◌+◌, ◌-◌, ◌*◌, ◌<◌, ◌≤◌, Bool, true, false, Option, Some, None, List, [], ◌∷◌, length, map, arith, refl, sym, ap, ◌∙◌, subst, inl, inr}
+use Rattle.std.proofs.Common.{◌≡◌, ℕ, suc, ◌+◌, ◌-◌, ◌*◌, ◌≤◌, Bool, true, false, Option, Some, None, List, [], ◌∷◌, length, map, arith, refl, sym, ap, ◌∙◌, subst, inl, inr}
 use Rattle.std.specs.Prelude.{◌==◌, ◌&&◌, nat_lt, nat_le, if◌then◌else◌, All, ◌↔◌, Result, Err, IsErrOf}
 use Rattle.std.specs.List.{list_all}
-use Rattle.std.proofs.lemmas.Bool.{cases_Bool}
+use Rattle.std.proofs.lemmas.Bool.{cases_Bool, and_parts, ltb-true}
 use Rattle.std.proofs.lemmas.Bool.Decides.{nat_tests}
 use Rattle.std.proofs.lemmas.List.Elements.{All-nil, All-cons, All-head, All-tail, All-filter}
 use Rattle.ab_num.specs.declared.cluster.Cluster.{Cluster}
@@ -53,19 +53,12 @@ is_abort_of-instance j s is = ap (is_abort_of j) (signed_content s is)
 abbrev all_within : ℕ → List Signed → Bool
 all_within n cert = list_all (λ s. nat_lt s.maker n) cert
 
-both_true : (a b : Bool) → (a && b) ≡ true → (a ≡ true) × (b ≡ true)
-both_true true b e = (refl, e)
-both_true false b e = absurd (cc (e))
-
-lt_from : (a b : ℕ) → nat_lt a b ≡ true → a < b
-lt_from a b e = grind (arith, nat_tests)
-
 pub aborts_within : (n : ℕ) (cert : List Signed) → All (IsSigned IsAbort) cert → list_all (λ s. nat_lt s.maker n) cert ≡ true → AreAbortsWithin n cert
 aborts_within n [] all within = All-nil (λ s. IsAbortWithin n s)
 aborts_within n (s ∷ cert) all within =
-    let both = both_true (nat_lt s.maker n) (all_within n cert) within in
+    let both = and_parts (nat_lt s.maker n) (all_within n cert) within in
     All-cons (λ s. IsAbortWithin n s) s cert
-    (record { content_is = signed_content s (All-head (IsSigned IsAbort) s cert all); within = lt_from s.maker n both.0 })
+    (record { content_is = signed_content s (All-head (IsSigned IsAbort) s cert all); within = ltb-true s.maker n both.0 })
     (aborts_within n cert (All-tail (IsSigned IsAbort) s cert all) both.1)
 
 module _ (c : Cluster) (j : ℕ) where
@@ -109,7 +102,7 @@ module _ (c : Cluster) (j : ℕ) where
   whole_count : (q : ℕ) (held : List Held) (o : Option (List Request)) (h : List Request) → (if is_whole q held then o else None) ≡ Some h → length held ≡ q
   whole_count q held o h is =
       elim (cases_Bool (is_whole q held)) [
-        | inl whole ↦ let n = (both_true (length held == q) (are_apart (map (λ v. v.by) held)) whole).0 in same_from (length held) q n
+        | inl whole ↦ let n = (and_parts (length held == q) (are_apart (map (λ v. v.by) held)) whole).0 in same_from (length held) q n
         | inr none ↦ let e : None ≡ Some h = sym (ap (λ b. if b then o else None) none) ∙ is in absurd (cc (e))
       ]
     where

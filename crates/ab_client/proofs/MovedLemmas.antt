@@ -29,7 +29,7 @@ use Rattle.ab_abs.specs.Certificates.{history_of}
 use Rattle.ab_run.specs.declared.phase.Phase.{Phase}
 use Rattle.ab_run.specs.declared.phase.Phase.TheVariants.{Idle, Waiting, Panicking}
 use Rattle.ab_run.specs.Replicas.{cert_instance}
-use Rattle.ab_run.specs.Clients.{Cli, Move, move_again, move_keep, move_panic, move_take, after_move, if_open, cert_out, request_out, to_all, own_cert, taking, taking_with, is_abort_of}
+use Rattle.ab_run.specs.Clients.{Cli, CliAction, move_again, move_keep, move_panic, move_take, after_move, if_open, cert_out, request_out, to_all, own_cert, taking, taking_with, is_abort_of}
 use Rattle.ab_run.specs.Local.{cue_message}
 use Rattle.ab_client.specs.Clients.{Seat, after, alone, is_waiting, marks, moves_on, request_msg, panic_msg, sends}
 use Rattle.ab_run.specs.Forms.{IsDraftOf}
@@ -39,14 +39,14 @@ use Rattle.ab_client.proofs.Targets.{requests_are_drafts, certs_are_drafts, pani
 
 -- ---- the open request
 
-pub if_open-some : (p : Phase) (last : Option Request) (moves : Bool → Request → List Move) (m : Request) → open_request p last ≡ Some m → if_open p last moves ≡ moves (is_waiting p) m
+pub if_open-some : (p : Phase) (last : Option Request) (moves : Bool → Request → List CliAction) (m : Request) → open_request p last ≡ Some m → if_open p last moves ≡ moves (is_waiting p) m
 if_open-some Idle last moves m e = absurd (cc (e))
 if_open-some Waiting None moves m e = absurd (cc (e))
 if_open-some Waiting (Some q) moves m e = let e' : q ≡ m = cc (e) in ap (moves true) e'
 if_open-some Panicking None moves m e = absurd (cc (e))
 if_open-some Panicking (Some q) moves m e = let e' : q ≡ m = cc (e) in ap (moves false) e'
 
-if_open-still : (p : Phase) (last : Option Request) (moves : Bool → Request → List Move) → ((waits : Bool) (m : Request) → moves waits m ≡ []) → if_open p last moves ≡ []
+if_open-still : (p : Phase) (last : Option Request) (moves : Bool → Request → List CliAction) → ((waits : Bool) (m : Request) → moves waits m ≡ []) → if_open p last moves ≡ []
 if_open-still Idle last moves each = refl
 if_open-still Waiting None moves each = refl
 if_open-still Waiting (Some m) moves each = each true m
@@ -55,17 +55,17 @@ if_open-still Panicking (Some m) moves each = each false m
 
 -- ---- no move, and other ones
 
-pub moved_not : (s : Seat) (moves : List Move) → moves ≡ [] → IsMoved s moves s [] []
+pub moved_not : (s : Seat) (moves : List CliAction) → moves ≡ [] → IsMoved s moves s [] []
 moved_not s moves none =
-    subst (λ (ms : List Move). IsMoved s ms s [] []) (sym none)
+    subst (λ (ms : List CliAction). IsMoved s ms s [] []) (sym none)
     (record { client = refl; stamp = refl; outs = refl; marks = refl; drafts = λ few. All-nil (IsDraftOf s.cluster.f (Client s.me)) })
 
-pub moved_nothing : (s : Seat) (moves : List Move) (sent : List Out) (shown : List Seen) → sent ≡ [] → shown ≡ [] → moves ≡ [] → IsMoved s moves s sent shown
+pub moved_nothing : (s : Seat) (moves : List CliAction) (sent : List Out) (shown : List Seen) → sent ≡ [] → shown ≡ [] → moves ≡ [] → IsMoved s moves s sent shown
 moved_nothing s moves sent shown none unseen still =
     subst (λ (o : List Out). IsMoved s moves s o shown) (sym none) (subst (λ (l : List Seen). IsMoved s moves s [] l) (sym unseen) (moved_not s moves still))
 
-pub moved_so : (s : Seat) (moves other : List Move) (now : Seat) (sent : List Out) (shown : List Seen) → moves ≡ other → IsMoved s other now sent shown → IsMoved s moves now sent shown
-moved_so s moves other now sent shown e is = subst (λ (ms : List Move). IsMoved s ms now sent shown) (sym e) is
+pub moved_so : (s : Seat) (moves other : List CliAction) (now : Seat) (sent : List Out) (shown : List Seen) → moves ≡ other → IsMoved s other now sent shown → IsMoved s moves now sent shown
+moved_so s moves other now sent shown e is = subst (λ (ms : List CliAction). IsMoved s ms now sent shown) (sym e) is
 
 -- ---- what it sends gets bytes
 
@@ -171,14 +171,14 @@ module _ (c : Cluster) (s : Cli) (m : Request) (j : ℕ) (cert : List Signed) wh
 -- ---- ABORTs that come
 
 module _ (s : Seat) (v : Signed) (is : IsSigned IsAbort v) where
-  again : (a b : Bool) (moves : List Move) → b ≡ true → (if a then (if b then [] else moves) else []) ≡ []
+  again : (a b : Bool) (moves : List CliAction) → b ≡ true → (if a then (if b then [] else moves) else []) ≡ []
   again true b moves e = ap (λ t. if t then [] else moves) e
   again false b moves e = refl
 
   pub abort_again : list_any (λ w. w.maker == v.maker) s.cli.kept ≡ true → moves_on s (cue_message (msg.Abort v)) ≡ []
   abort_again out = if_open-still s.cli.phase s.cli.last _ (λ waits m. again (is_abort_of s.cli.at v.content) (list_any (λ w. w.maker == v.maker) s.cli.kept) _ out)
 
-  first : (a b : Bool) (moves : List Move) → a ≡ true → b ≡ false → (if a then (if b then [] else moves) else []) ≡ moves
+  first : (a b : Bool) (moves : List CliAction) → a ≡ true → b ≡ false → (if a then (if b then [] else moves) else []) ≡ moves
   first a b moves e f = ap (λ t. if t then (if b then [] else moves) else []) e ∙ ap (λ t. if t then [] else moves) f
 
   pub abort_first : (m : Request) → open_request s.cli.phase s.cli.last ≡ Some m → instance_of v.content ≡ s.cli.at → list_any (λ w. w.maker == v.maker) s.cli.kept ≡ false
@@ -193,7 +193,7 @@ module _ (s : Seat) (v : Signed) (is : IsSigned IsAbort v) where
 -- ---- results
 
 -- what holds of one list of moves holds of another
-pub moved_ok : (s : Seat) (moves other : List Move) (now : Seat) (r : Result (List Out × ArrayVec Seen) OutOfMemory)
+pub moved_ok : (s : Seat) (moves other : List CliAction) (now : Seat) (r : Result (List Out × ArrayVec Seen) OutOfMemory)
     → ((sent : List Out) (shown : List Seen) → IsMoved s moves now sent shown → IsMoved s other now sent shown)
     → IfOk r (λ x. IsMoved s moves now x.0 x.1.items) → IfOk r (λ x. IsMoved s other now x.0 x.1.items)
 moved_ok s moves other now (Ok x) same is = same x.0 x.1.items is

@@ -10,8 +10,8 @@ use Rattle.ab_msg.specs.declared.message.Out.{Out}
 use Rattle.ab_abs.specs.declared.seen.Seen.{Seen}
 use Rattle.ab_run.specs.declared.phase.Phase.{Phase}
 use Rattle.ab_run.specs.declared.phase.Phase.TheVariants.{Idle, Waiting, Panicking}
-use Rattle.ab_run.specs.Setups.{Setup}
-use Rattle.ab_run.specs.Clients.{Cli, Move}
+use Rattle.ab_run.specs.Setups.{RunSetup}
+use Rattle.ab_run.specs.Clients.{Cli, CliAction}
 use Rattle.ab_run.specs.Local.{Cue, cue_command, moves_at, cli_after, cli_sends, cli_marks}
 use Rattle.ab_client.specs.declared.client.InvokeFault.{InvokeFault}
 use Rattle.ab_client.specs.declared.client.InvokeFault.TheVariants.{Busy, TooLong, Empty, OutOfMemory}
@@ -32,7 +32,7 @@ abbrev pub told : List ℕ → Cue
 told command = cue_command (record { items = command })
 
 -- a cluster in which nobody is faulty and nothing is signed: what a client does depends on neither
-abbrev pub alone : Cluster → Setup
+abbrev pub alone : Cluster → RunSetup
 alone c = record { cluster = c; faulty = []; signatures = 0; sig = λ r s n. [] }
 
 -- where a client is after what comes to it, what it sends, and what is seen of it
@@ -46,7 +46,7 @@ abbrev pub marks : Seat → Cue → List Seen
 marks s cue = cli_marks (alone s.cluster) s.me s.cli cue
 
 -- what it does as something comes to it
-abbrev pub moves_on : Seat → Cue → List Move
+abbrev pub moves_on : Seat → Cue → List CliAction
 moves_on s cue = moves_at (alone s.cluster) s.me s.cli cue
 
 -- a client's request in an instance, before it has tags

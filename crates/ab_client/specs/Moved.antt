@@ -18,7 +18,7 @@ use Rattle.ab_abs.specs.declared.seen.Seen.{Seen}
 use Rattle.ab_abs.specs.Votes.{has_voted, voted}
 use Rattle.ab_run.specs.declared.phase.Phase.{Phase}
 use Rattle.ab_run.specs.declared.phase.Phase.TheVariants.{Idle, Waiting, Panicking}
-use Rattle.ab_run.specs.Clients.{Cli, Move}
+use Rattle.ab_run.specs.Clients.{Cli, CliAction}
 use Rattle.ab_run.specs.Local.{after_moves, marks_in_moves, sent_in_moves}
 use Rattle.ab_client.specs.Clients.{Seat, alone}
 use Rattle.ab_run.specs.Forms.{IsDraftOf}
@@ -42,7 +42,7 @@ pub record IsPlaced (me : ℕ) (s : Cli) : Type 0 where
   pub kept : All (IsSigned IsAbort) s.kept
 
 -- by these moves client s comes to now, sends this and shows this. Its stamp stays, and all that it sends gets bytes
-pub record IsMoved (s : Seat) (moves : List Move) (now : Seat) (sent : List Out) (shown : List Seen) : Type 0 where
+pub record IsMoved (s : Seat) (moves : List CliAction) (now : Seat) (sent : List Out) (shown : List Seen) : Type 0 where
   pub client : now ≡ record s { cli = after_moves s.cli moves }
   pub stamp : now.cli.stamp ≡ s.cli.stamp
   pub outs : sent ≡ sent_in_moves (alone s.cluster) s.me s.cli moves

@@ -6,7 +6,7 @@ use Rattle.ab_io.specs.Causes.{Rose}
 use Rattle.ab_text.specs.Lines.{lines_of}
 use Rattle.ab_key_text.specs.declared.fault.NodeFault.{NodeFault}
 use Rattle.ab_key_text.specs.Keys.{PartyKeys}
-use Rattle.ab_key_text.specs.Nodes.{Node, node_in}
+use Rattle.ab_key_text.specs.Nodes.{NodeText, node_in}
 use Rattle.ab_words.specs.Commands.{NodeCommand}
 use Rattle.ab_words.specs.declared.command.Command.TheVariants as command
 use Rattle.ab_loop.specs.declared.fault.ServeFault.TheVariants.{LinkFailed, WriteFailed, TurnsSpent as Unanswered}
@@ -43,18 +43,18 @@ leaves_as_client (Replica r) k commands x n stopped = stopped.fault.client
 leaves_as_client (Client c) k commands x n stopped = refl
 
 module _ (c : Call) (k : NodeCommand) (clear : IsClearForNode c k) where
-  read_as : (text : List ℕ) (r : Result Node NodeFault) → IsInput c.left text → node_in (lines_of text) ≡ r → Ok clear.node ≡ r
+  read_as : (text : List ℕ) (r : Result NodeText NodeFault) → IsInput c.left text → node_in (lines_of text) ≡ r → Ok clear.node ≡ r
   read_as text r input reads = sym clear.reads ∙ (ap (λ (t : List ℕ). node_in (lines_of t)) (sym (same_input c.left clear.text text clear.input input)) ∙ reads)
 
   not_refused : (text : List ℕ) (r : Refusal) → IsInput c.left text → IsRefused text r → ⊥
-  not_refused text r input refused = let e : ◌≡◌ {A = Result Node NodeFault} (Ok clear.node) (Err refused.fault) = read_as text (Err refused.fault) input refused.reads in cc
+  not_refused text r input refused = let e : ◌≡◌ {A = Result NodeText NodeFault} (Ok clear.node) (Err refused.fault) = read_as text (Err refused.fault) input refused.reads in cc
 
   is_clients : (text : List ℕ) (n : ℕ) (x : Meeting) → IsInput c.left text → IsStopped text x (Unanswered n) → is_client clear.node.keys.me ≡ true
   is_clients text n x input stopped =
-      let e : ◌≡◌ {A = Result Node NodeFault} (Ok clear.node) (Ok stopped.node) = read_as text (Ok stopped.node) input stopped.reads in
+      let e : ◌≡◌ {A = Result NodeText NodeFault} (Ok clear.node) (Ok stopped.node) = read_as text (Ok stopped.node) input stopped.reads in
       let same : stopped.node ≡ clear.node = cc in
       let node = stopped.node in
-      subst (λ (m : Node). is_client m.keys.me ≡ true) same (leaves_as_client node.keys.me node.keys node.commands x n stopped.fault)
+      subst (λ (m : NodeText). is_client m.keys.me ≡ true) same (leaves_as_client node.keys.me node.keys node.commands x n stopped.fault)
 
   pub node_status : (s : Status) → StatusCause s c → IsServedOut (code_of s) clear.node c
   node_status Done (inl (words, report), kept) = absurd (replay_or_node c.words k words clear.words)

@@ -1,10 +1,11 @@
 -- What words ask for, and the key text that is written.
 use Rattle.std.specs.Prelude.{◌≡◌, ◌⊎◌, ℕ, List, None, Some}
 use Rattle.ab_key_text.specs.Derived.{keys_of}
-use Rattle.ab_key_text.specs.Spelling.{key_lines, text_of}
+use Rattle.ab_key_text.specs.Spelling.{key_lines}
 use Rattle.ab_words.specs.declared.command.Command.TheVariants.{Replay, Storm, Keys, Node}
 use Rattle.ab_words.specs.Commands.{KeysCommand, NodeCommand, StormCommand}
 use Rattle.ab_words.specs.Language.{command_in}
+use Rattle.ab_text.specs.Texts.{text_of}
 
 -- the words are no command
 abbrev pub IsNoCommand : List (List ℕ) → Type 0

@@ -19,7 +19,7 @@ use Rattle.ab_text.specs.declared.line.Premise.{Premise}
 use Rattle.ab_text.specs.declared.line.Premise.TheVariants as premise
 use Rattle.ab_world.specs.declared.fault.WorldFault.TheVariants.{PacketLimit}
 use Rattle.ab_world.specs.Worlds.{World, premise_of}
-use Rattle.ab_key_text.specs.Nodes.{Node, node_in}
+use Rattle.ab_key_text.specs.Nodes.{NodeText, node_in}
 use Rattle.ab_words.specs.Commands.{KeysCommand, NodeCommand, StormCommand}
 use Rattle.ab_abs.specs.Ensembles.{Proto}
 use Rattle.ab_kv.specs.KvMachines.{kv_machine}
@@ -139,7 +139,7 @@ pub record IsToldWhole (n : ℕ) (k : StormCommand) (c : Call) : Type 0 where
 pub record IsClearForNode (c : Call) (k : NodeCommand) : Type 0 where
   pub words : AsksNode c.words k
   pub text : List ℕ
-  pub node : Node
+  pub node : NodeText
   pub input : c.left ≡ Some text
   pub short : length text ≤ 67108864
   pub reads : node_in (lines_of text) ≡ Ok node
@@ -150,7 +150,7 @@ pub record IsClearForNode (c : Call) (k : NodeCommand) : Type 0 where
 
 -- the party was served to the end; or it is a client whose turns were used before its commands were answered; or an allocation
 -- failed
-abbrev pub IsServedOut : ℕ → Node → Call → Type 0
+abbrev pub IsServedOut : ℕ → NodeText → Call → Type 0
 IsServedOut n node c =
     ((n ≡ 0) × ServesNode c)
     ⊎ (((n ≡ 8) × (is_client node.keys.me ≡ true) × ((unanswered : ℕ) × StopsNode (stop.Serving (serving.TurnsSpent unanswered)) c))

@@ -1,6 +1,5 @@
 -- The picture of the first events of a schedule.
 use Rattle.std.proofs.Common.{◌≡◌, ◌⊎◌, ℕ, ◌≤◌, List, [], ◌∷◌, Result, Ok, Err, length, take, sym, ap, ◌∙◌, subst, inl, inr, arith}
-use Rattle.std.specs.Prelude.{IfOk, OnOk}
 use Rattle.std.proofs.lemmas.List.{length-take, take_all}
 use Rattle.ab_num.specs.declared.party.Party.{Party}
 use Rattle.ab_text.specs.declared.event.Event.{Event}
@@ -92,11 +91,3 @@ module _ (proto : Proto Any) where
 -- few events are drawn
 pub few_drawn : (events fs : List Event) → fs ≡ take most_drawn events → length fs ≤ most_drawn
 few_drawn events fs first = omega (arith, ap length first, length-take most_drawn events)
-
-pub on_ok_then : {T E : Type 0} (r : Result T E) (P Q : Type 0) → (P → Q) → OnOk r P → OnOk r Q
-on_ok_then (Ok t) P Q each is = each is
-on_ok_then (Err e) P Q each is = tt
-
-pub if_ok_then : {T E : Type 0} (r : Result T E) (P Q : T → Type 0) → ((t : T) → P t → Q t) → IfOk r P → IfOk r Q
-if_ok_then (Ok t) P Q each is = each t is
-if_ok_then (Err e) P Q each is = tt

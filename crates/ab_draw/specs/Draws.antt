@@ -12,7 +12,7 @@ use Rattle.ab_world.specs.Steps.{stepped}
 use Rattle.ab_world.specs.Worlds.{World, premise_of, start}
 use Rattle.ab_replay.specs.Protocols.{Any}
 use Rattle.ab_replay.specs.Replays.{IsClusterOf, proto_of, run_in, setup_in}
-use Rattle.ab_picture.specs.declared.picture.Parcel.{Parcel}
+use Rattle.ab_picture.specs.declared.picture.SentPacket.{SentPacket}
 use Rattle.ab_picture.specs.declared.picture.Picture.{Picture}
 use Rattle.ab_picture.specs.Composed.{IsPicture, Tale}
 use Rattle.ab_picture.specs.Telling.{Tells}
@@ -33,7 +33,7 @@ counts_of proto w [] = []
 counts_of proto w (e ∷ es) = counts_or (stepped proto w e) (λ v. length v.packets ∷ counts_of proto v es)
 
 -- to whom a packet goes, and its first byte
-abbrev pub parcel_of : Packet → Parcel
+abbrev pub parcel_of : Packet → SentPacket
 parcel_of p = record { to = p.to; code = unwrap_or (slice_get p.bytes 0) 0 }
 
 -- what is told of a world to which these events led, where this tells how many packets there were after each

@@ -17,7 +17,7 @@ use ab_cast::Setup;
 use ab_io::Source;
 use ab_kv::Kv;
 use ab_num::{OutOfMemory, ServiceName};
-use ab_picture::{Picture, Told, compose, svg};
+use ab_picture::{Picture, Tale, compose, svg};
 use ab_replay::{
     AnyWorld, MOST_EVENTS, ReadFault, ReplayFault, fault_of, read_all, refusal_of_text, run_events,
 };
@@ -53,7 +53,7 @@ fn picture_of<S: Service>(
     ensures count { IfOk result (λ p. length p.moments.items ≡ length events.now) }
 {
     let parcels = parcels(alloc, world.sent())?;
-    let told = Told {
+    let told = Tale {
         events,
         counts,
         parcels: parcels.as_slice(),

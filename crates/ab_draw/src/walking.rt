@@ -8,7 +8,7 @@ ghost use Rattle.ab_draw.specs.Draws.{counts_of, parcel_of};
 
 use ab_msg::Packet;
 use ab_num::OutOfMemory;
-use ab_picture::Parcel;
+use ab_picture::SentPacket;
 use ab_replay::{AnyWorld, ReplayFault, fault_of, refusal_of_step};
 use ab_svc::Service;
 use ab_text::Event;
@@ -52,17 +52,17 @@ pub(crate) fn walk<S: Service>(
 }
 
 /// To whom a packet goes, and the code of its message.
-fn parcel_of(packet: &Packet) -> Parcel
+fn parcel_of(packet: &Packet) -> SentPacket
     ensures { result ≡ parcel_of packet.now }
 {
-    Parcel {
+    SentPacket {
         to: packet.to(),
         code: packet.bytes().first().copied().unwrap_or(0),
     }
 }
 
 /// The packets as they are told.
-pub(crate) fn parcels(alloc: Global, packets: &[Packet]) -> Result<Vec<Parcel>, OutOfMemory>
+pub(crate) fn parcels(alloc: Global, packets: &[Packet]) -> Result<Vec<SentPacket>, OutOfMemory>
     ensures { IfOk result (λ v. v.items ≡ map parcel_of packets.now) }
 {
     let mut parcels = Vec::new(alloc);

@@ -5,6 +5,7 @@ use base.Growing.{prefix_refl}
 use Rattle.ab_num.specs.declared.plan.Kind.{Kind}
 use Rattle.ab_num.specs.declared.plan.Kind.TheVariants as kind
 use Rattle.ab_num.specs.declared.cluster.Cluster.{Cluster}
+use Rattle.ab_num.proofs.Lists.{Contains-none}
 use Rattle.ab_msg.specs.Fields.{IsWritten}
 use Rattle.ab_svc.specs.Machines.{Machine}
 use Rattle.ab_msg.specs.declared.value.Value.{Value}
@@ -26,7 +27,6 @@ use Rattle.ab_abs.specs.Messages.{Call, call_claims, call_values, claims_in}
 use Rattle.ab_abs.specs.Ensembles.{begin_of, asked_of, halt_of, MayTake}
 use Rattle.ab_abs.specs.FormLaws.{KeepsForm, Arises, from_entry, by_call, by_stop}
 use Rattle.ab_abs.specs.Members.{IsAt, member_state}
-use Rattle.ab_abs.proofs.Statements.{none_of}
 use Rattle.ab_abs.proofs.Positions.{position_there}
 use Rattle.ab_abs.proofs.Following.{IsLater, named_here}
 use Rattle.ab_abs.proofs.Abstracts.{promises}
@@ -64,13 +64,13 @@ form_law = record {
   enters = λ c i r e. refl;
   entered_stays = λ pen q call. refl;
   entered_rests = λ q. refl;
-  own = λ c i r pen q call o s was sent has. absurd (none_of o sent);
-  silent = λ c i r pen q call o s was stopped sent has. absurd (none_of o sent);
-  signed = λ pen q call o v sent has. absurd (none_of o sent);
-  sent = λ pen q call s has. absurd (none_of s has);
+  own = λ c i r pen q call o s was sent has. absurd (Contains-none o sent);
+  silent = λ c i r pen q call o s was stopped sent has. absurd (Contains-none o sent);
+  signed = λ pen q call o v sent has. absurd (Contains-none o sent);
+  sent = λ pen q call s has. absurd (Contains-none s has);
   settles = λ c i r pen q call cert was is formed. inl refl;
   written = λ c i r q was. written_of c i r q was;
-  drafts = λ c i r pen q call lawful was formed o sent. absurd (none_of o sent);
+  drafts = λ c i r pen q call lawful was formed o sent. absurd (Contains-none o sent);
 }
 
 module _ {S : Type 0} (machine : Machine S) (x : Setting) where

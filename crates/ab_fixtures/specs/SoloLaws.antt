@@ -14,16 +14,15 @@ use Rattle.ab_hist.specs.declared.request.Request.{Request}
 use Rattle.ab_hist.specs.Histories.{IsHistory, CanPush, Precedes, can_push}
 use Rattle.ab_hist.proofs.RequestLemmas.{can_push-Decides}
 use Rattle.ab_num.specs.declared.cluster.Cluster.{Cluster}
+use Rattle.ab_num.proofs.Lists.{Contains-head, Contains-none}
 use Rattle.ab_msg.specs.declared.content.Content.TheVariants.{Req}
 use Rattle.ab_msg.specs.Fields.{IsRequest, IsWritten}
 use Rattle.ab_abs.specs.Acts.{Setting, Act, MayStart, observations, state_of, own_acts, start_of, log_at, log_of, base_at as state_base, base_of}
 use Rattle.ab_abs.specs.Observations.{IsInitHistory}
 use Rattle.ab_abs.specs.OrderRules.{WasClaimed}
-use Rattle.ab_abs.proofs.Counting.{Contains-head}
 use Rattle.ab_abs.proofs.Drafts.{written_logged}
 use Rattle.ab_abs.proofs.Facts.{state_cases, state_own, init_first}
-use Rattle.ab_abs.proofs.Statements.{none_of}
-use Rattle.ab_order.specs.Inputs.{Input, request, handed, asked_by, Given}
+use Rattle.ab_order.specs.Inputs.{Reading, request, handed, asked_by, Given}
 use Rattle.ab_order.specs.Orders.{IsOneOrder, IsQuiet}
 use Rattle.ab_order.specs.Orderers.{IsReached, from_start, by_input, IsTurn, IsOrderly, IsLawfulOrderer, begun_empty}
 use Rattle.ab_order.specs.Protos.{Obeys}
@@ -108,7 +107,7 @@ solo_orderly = record {
   at_most = λ k q g was is. base_most q.begun k q.entered q.behind g (within k q was).1 is;
   opens = λ q e h is. inl refl;
   idles = λ q. refl;
-  orders = λ q e s has. absurd (none_of s has);
+  orders = λ q e s has. absurd (Contains-none s has);
   placed = λ k f i me h. (refl, refl);
   stays = λ q e. (refl, refl);
 }
@@ -119,10 +118,10 @@ solo_obeys = record {
   placed = λ c i r e. (refl, refl);
   goes_on = λ pen p call. refl;
   stays = λ pen p call. (refl, refl);
-  stated = λ pen p call s has. absurd (none_of s has);
-  only = λ pen p call o s f r has. absurd (none_of o has);
-  signed = λ pen p call o v has. absurd (none_of o has);
-  sent = λ pen p call s has. absurd (none_of s has);
+  stated = λ pen p call s has. absurd (Contains-none s has);
+  only = λ pen p call o s f r has. absurd (Contains-none o has);
+  signed = λ pen p call o v has. absurd (Contains-none o has);
+  sent = λ pen p call s has. absurd (Contains-none s has);
 }
 
 -- ---- the law
@@ -131,7 +130,7 @@ idle_still : (z b : Bool) → (z ≡ false → b ≡ false) → z ≡ false → 
 idle_still true b was is = absurd (cc (is))
 idle_still false b was is = was is
 
-asks_own : (i : ℕ) (e : Input) (m : Request) → asked_by e ≡ Some m → Contains (handed.claims i e) (Req (Client m.client) i m)
+asks_own : (i : ℕ) (e : Reading) (m : Request) → asked_by e ≡ Some m → Contains (handed.claims i e) (Req (Client m.client) i m)
 asks_own i (request n) m is = subst (λ (z : Request). Contains (Req (Client n.client) i n ∷ []) (Req (Client z.client) i z)) (same_Some n m is) (Contains-head (Req (Client n.client) i n) [])
 asks_own i _ m is = absurd (none-some m is)
 
@@ -204,11 +203,11 @@ module _ (x : Setting) (k : ℕ) where
         init = init_first x own a me base (begun_empty base) one may.nothing refl;
         rises = subst IsHistory (sym (append-nil base)) may.rises;
         short = omega arith;
-        claimed = λ m has. absurd (none_of m has);
+        claimed = λ m has. absurd (Contains-none m has);
         idle = λ is. refl;
       }
 
-  turns : (own : List Act) (me : ℕ) (q : Sole) (e : Input) (a : Act) → StandsSolo x k q me own → IsTurn handed solo x own me q e a → StandsSolo x k (next q (asked_by e)) me (a ∷ own)
+  turns : (own : List Act) (me : ℕ) (q : Sole) (e : Reading) (a : Act) → StandsSolo x k q me own → IsTurn handed solo x own me q e a → StandsSolo x k (next q (asked_by e)) me (a ∷ own)
   turns own me q e a was turn =
       let o = asked_by e in
       let goes = extends (q.me == 0) q.k q.entered q.behind o in
@@ -256,7 +255,7 @@ module _ (x : Setting) (k : ℕ) where
           init = λ is. absurd (cc (is));
           rises = nothing_rises;
           short = omega arith;
-          claimed = λ m has. absurd (none_of m has);
+          claimed = λ m has. absurd (Contains-none m has);
           idle = λ is. refl;
         }
         | inr w ↦
@@ -352,7 +351,7 @@ solo_lawful = record {
     λ was premises r. elim (was r) [ inl none ↦ inl (quiet.rests r ∙ none) | inr w ↦ inr (w.0, stands_still x k acts a w.0 r quiet w.1) ],
   );
   asks = λ f i me e m given is. asks_own i e m is;
-  states = λ x k q r own e s given stands has. absurd (none_of s has);
+  states = λ x k q r own e s given stands has. absurd (Contains-none s has);
   one_order = λ x k acts sound. one x k acts sound;
 }
 
@@ -381,5 +380,5 @@ all_written c i r p (by_call pen q call signs formed was) =
 pub solo_bytes : KeepsBytes solos solo
 solo_bytes = record {
   written = λ c i r p was. written_if p.at.begun p.at.entered p.at.behind (all_written c i r p was);
-  drafts = λ c i r pen p call signs was formed o has. absurd (none_of o has);
+  drafts = λ c i r pen p call signs was formed o has. absurd (Contains-none o has);
 }

@@ -9,7 +9,7 @@ use Rattle.ab_msg.specs.declared.content.Content.TheVariants.{Req}
 use Rattle.ab_abs.specs.Acts.{Setting, State, Act, observations, state_of, own_acts}
 use Rattle.ab_abs.specs.Observations.{IsInitHistory}
 use Rattle.ab_abs.specs.OrderRules.{WasClaimed}
-use Rattle.ab_order.specs.Inputs.{Input, asked_by}
+use Rattle.ab_order.specs.Inputs.{Reading, asked_by}
 use Rattle.ab_order.specs.Orderers.{Ordering}
 use Rattle.ab_order.specs.Readings.{read}
 use Rattle.ab_order.specs.Protos.{OrderProto}
@@ -45,7 +45,7 @@ abbrev pub list_if : Bool → List Request → List Request → List Request
 list_if false h ms = []
 list_if true h ms = h ++ ms
 
-abbrev pub solo : Ordering Sole Input
+abbrev pub solo : Ordering Sole Reading
 solo = record {
   begin = λ k f i me h. record { instance = i; me = me; k = k; entered = h; begun = false; behind = [] };
   after = λ q e. next q (asked_by e);

@@ -6,6 +6,7 @@ use Rattle.std.proofs.lemmas.Bool.{cases_lt}
 use Rattle.std.proofs.lemmas.List.Sums.{fold_push}
 use Rattle.std.proofs.lemmas.List.Quantifiers.{all_pairs_push}
 use Rattle.std.proofs.lemmas.Grind.{common_steps}
+use Rattle.ab_num.proofs.Lists.{slice_get-push}
 use Rattle.ab_hist.specs.declared.request.Request.{Request}
 use Rattle.ab_hist.specs.Requests.{key_of}
 use Rattle.ab_hist.specs.Histories.{IsHistory, IsNext, Precedes}
@@ -16,10 +17,6 @@ pub slice_get-append-lt : {X : Type 0} → (xs ys : List X) (i : ℕ) → i < le
 slice_get-append-lt [] ys i h = absurd (omega arith)
 slice_get-append-lt (x ∷ xs) ys zero h = refl
 slice_get-append-lt (x ∷ xs) ys (suc i) h = slice_get-append-lt xs ys i (omega arith)
-
-pub slice_get-append-end : {X : Type 0} → (xs : List X) (y : X) → slice_get (xs ++ y ∷ []) (length xs) ≡ Some y
-slice_get-append-end [] y = refl
-slice_get-append-end (x ∷ xs) y = slice_get-append-end xs y
 
 pub slice_get-take : {X : Type 0} → (n : ℕ) (xs : List X) (i : ℕ) → i < n → slice_get (take n xs) i ≡ slice_get xs i
 slice_get-take zero xs i h = absurd (omega arith)
@@ -60,7 +57,7 @@ module _ (requests : List Request) (digests : List (List ℕ)) (keys : List (ℕ
         ∙ ap (λ h. Some (digest_of h)) (sym (take-append-le (k + 1) requests (m ∷ []) (omega arith)))
     | inr high ↦
         let here : k ≡ length digests = omega (arith, kept.each, length-append requests (m ∷ [])) in
-        ap (slice_get (digests ++ link (digest_of requests) m ∷ [])) here ∙ slice_get-append-end digests (link (digest_of requests) m)
+        ap (slice_get (digests ++ link (digest_of requests) m ∷ [])) here ∙ slice_get-push digests (link (digest_of requests) m)
         ∙ ap Some (sym (fold_push link (replicate 32 0) requests m))
         ∙ ap (λ h. Some (digest_of h)) (sym (take_all (k + 1) (requests ++ m ∷ []) (omega (arith, length-append requests (m ∷ [])))))
   ]

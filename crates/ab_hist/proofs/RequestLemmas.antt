@@ -4,11 +4,11 @@ use Rattle.std.specs.Bool.{Decides}
 use Rattle.std.specs.List.{position, list_any, list_all}
 use Rattle.std.specs.Option.{option_map}
 use Rattle.std.specs.Cmp.Lexicographic.{pointwise}
-use Rattle.std.proofs.lemmas.Bool.{cases_order, cases_Bool, false_from_ne_true}
+use Rattle.std.proofs.lemmas.Bool.{cases_order, cases_Bool, false_from_ne_true, or_right}
 use Rattle.std.proofs.lemmas.Bool.Decides.{Decides-eqb, Decides-and, Decides-like, Decides-ltb, Decides-by_and, nat_tests}
 use Rattle.std.proofs.lemmas.Slice.Eq.{bytes_eq-Decides, slice_eq-Decides}
 use Rattle.std.proofs.lemmas.Option.{slice_get_read, slice_get_within, get_or_from_slice_get}
-use Rattle.std.proofs.lemmas.List.{get_or-map, get_or-take, length-map, length-take, take_all, take-append-le}
+use Rattle.std.proofs.lemmas.List.{get_or-map, get_or-take, length-map, length-take, take_all, take-append-le, get_or_default}
 use Rattle.std.proofs.lemmas.List.Quantifiers.{position-Some}
 use mathlib.Core.List.{IsPrefix}
 use Rattle.ab_hist.specs.declared.request.Request.{Request}
@@ -25,14 +25,10 @@ request_eq-Decides a b =
 is_own_key : (m : Request) → is_key_of m (key_of m) ≡ true
 is_own_key m = grind (arith, nat_tests)
 
-any_true : (a b : Bool) → b ≡ true → (a || b) ≡ true
-any_true true b e = refl
-any_true false b e = e
-
 any_key : (h : List Request) (m : Request) (k : ℕ) → k < length h → get_or h k m ≡ m → list_any (is_key_of m) (map key_of h) ≡ true
 any_key [] m k lt e = absurd (omega arith)
 any_key (x ∷ xs) m zero lt e = ap (λ b. b || list_any (is_key_of m) (map key_of xs)) (ap (λ y. is_key_of m (key_of y)) e ∙ is_own_key m)
-any_key (x ∷ xs) m (suc k) lt e = any_true (is_key_of m (key_of x)) _ (any_key xs m k (omega arith) e)
+any_key (x ∷ xs) m (suc k) lt e = or_right (is_key_of m (key_of x)) _ (any_key xs m k (omega arith) e)
 
 -- a request that stands in the list has its key there
 pub any_key_of : (h : List Request) (m : Request) → Contains h m → list_any (is_key_of m) (map key_of h) ≡ true
@@ -43,11 +39,6 @@ fst_of m x h = grind (arith, nat_tests)
 
 snd_of : (m x : Request) → is_key_of m (key_of x) ≡ true → m.stamp ≡ x.stamp
 snd_of m x h = grind (arith, nat_tests)
-
-get_or_any : {X : Type 0} → (xs : List X) (k : ℕ) (d e : X) → k < length xs → get_or xs k d ≡ get_or xs k e
-get_or_any [] k d e lt = absurd (omega arith)
-get_or_any (x ∷ xs) zero d e lt = refl
-get_or_any (x ∷ xs) (suc k) d e lt = get_or_any xs k d e (omega arith)
 
 -- two places with one key are one
 same_place : (h : List Request) (i k : ℕ) (d : Request) → IsHistory h → i < length h → k < length h → (get_or h i d).client ≡ (get_or h k d).client → (get_or h i d).stamp ≡ (get_or h k d).stamp → i ≡ k
@@ -63,7 +54,7 @@ only_place h m d i history at (k, lt, e) =
     let found = position-Some (is_key_of m) (map key_of h) i (key_of d) at in
     let short : i < length h = omega (arith, found.0, length-map h key_of) in
     let key : is_key_of m (key_of (get_or h i d)) ≡ true = ap (is_key_of m) (sym (get_or-map key_of h i d (key_of d) short)) ∙ found.1 in
-    let there : get_or h k d ≡ m = get_or_any h k d m lt ∙ e in
+    let there : get_or h k d ≡ m = get_or_default h k d m lt ∙ e in
     let client : (get_or h i d).client ≡ (get_or h k d).client = sym (fst_of m (get_or h i d) key) ∙ ap (λ x. x.client) (sym there) in
     let stamp : (get_or h i d).stamp ≡ (get_or h k d).stamp = sym (snd_of m (get_or h i d) key) ∙ ap (λ x. x.stamp) (sym there) in
     let one : i ≡ k = same_place h i k d history short lt client stamp in
@@ -117,7 +108,7 @@ pub next_at : (h : List Request) (i : ℕ) (m : Request) → IsHistory h → i <
 next_at h i m history lt at k d short =
     let low : k < i = omega (arith, length-take i h) in
     let there : get_or (take i h) k d ≡ get_or h k d = get_or-take i h k d low in
-    let here : get_or h i d ≡ m = get_or_any h i d m lt ∙ sym at in
+    let here : get_or h i d ≡ m = get_or_default h i d m lt ∙ sym at in
     rw there (subst (Precedes (get_or h k d)) here (history k i d low lt))
 
 contains_more : (x : Request) (xs : List Request) (m : Request) → Contains xs m → Contains (x ∷ xs) m

@@ -4,8 +4,8 @@ use Rattle.std.specs.Int.{w32, from_be_bytes}
 use Rattle.std.proofs.lemmas.List.{length-take-le}
 use Rattle.ab_num.specs.declared.plan.Height.TheVariants.{Ten}
 use Rattle.ab_mac.proofs.Sha256Lemmas.{length-sha256}
-use Rattle.ab_lmots.specs.OneTime.{number_at}
-use Rattle.ab_lmots.proofs.Parts.{slice-append}
+use Rattle.ab_lms.specs.OneTime.{number_at}
+use Rattle.ab_lms.proofs.Parts.{slice-append}
 use Rattle.ab_lms.specs.Signatures.{u32_bytes, lms_signature, public_key, Verifies}
 use Rattle.ab_lms.proofs.Signed.{verifies, length-lms_signature, length-u32, number-u32, first, second, third, fourth}
 use Rattle.ab_hss.specs.BottomKeys.{bottom_name, bottom_seed, bottom_public}

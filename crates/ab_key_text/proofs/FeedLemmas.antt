@@ -1,89 +1,29 @@
 -- No line of a key text has a line feed, so its text has these lines.
-use Rattle.std.proofs.Common.{◌≡◌, ℕ, zero, suc, ◌+◌, ◌*◌, ◌<◌, ◌≤◌, List, [], ◌∷◌, ◌++◌, Bool, true, false, Option, None, Some, Ok, IsTrue, All, codes, decimal, length, map, eqb, refl, sym, ap, ◌∙◌, subst, arith, inl, inr, if◌then◌else◌}
-use Rattle.std.specs.Prelude.{flat_map, not}
-use Rattle.std.specs.List.{AllByRecursion, filter, list_all, range_with_len}
-use Rattle.std.proofs.lemmas.Bool.{false_from_ne_true, and_parts}
-use Rattle.std.proofs.lemmas.Bool.Decides.{Decides-eqb, Decides-ltb}
+use Rattle.std.proofs.Common.{◌≡◌, ℕ, zero, suc, ◌+◌, ◌*◌, ◌<◌, ◌≤◌, List, [], ◌∷◌, ◌++◌, Bool, true, false, Option, None, Some, Ok, IsTrue, codes, decimal, length, map, refl, sym, ap, ◌∙◌, subst, arith, if◌then◌else◌}
+use Rattle.std.specs.Prelude.{flat_map}
+use Rattle.std.specs.List.{AllByRecursion, filter, range_with_len}
+use Rattle.std.proofs.lemmas.Bool.Decides.{Decides-ltb}
 use Rattle.hex.specs.Hex.{encode_lower}
 use Rattle.ab_num.specs.declared.party.Party.{Party}
 use Rattle.ab_num.specs.declared.party.Party.TheVariants.{Replica, Client}
-use Rattle.ab_num.specs.declared.plan.Plan.{Plan}
-use Rattle.ab_num.specs.declared.plan.Plan.TheVariants.{AZyzzyva, Aliph, Quorum, ZLight, Chain, Backup}
-use Rattle.ab_num.specs.declared.plan.ServiceName.{ServiceName}
-use Rattle.ab_num.specs.declared.plan.ServiceName.TheVariants.{Echo, Kv}
-use Rattle.ab_num.specs.declared.plan.Height.{Height}
-use Rattle.ab_num.specs.declared.plan.Height.TheVariants.{Five, Ten}
 use Rattle.ab_num.specs.Bounds.{IsInBounds}
 use Rattle.ab_keys.specs.Keys.{exchanges, is_party}
 use Rattle.ab_keys.specs.Rings.{Peer, parties}
-use Rattle.ab_text.specs.Cores.{Lacks, party_text, IsParty}
-use Rattle.ab_text.specs.Heads.{plan_line, service_line, lms_line}
-use Rattle.ab_text.specs.Lines.{lines_of, onto_first}
+use Rattle.ab_text.specs.Cores.{party_text, IsParty}
+use Rattle.ab_text.specs.Lines.{lines_of}
 use Rattle.ab_text.proofs.PartLemmas.{Lacks-append, Lacks-cons, Lacks-decimal}
 use Rattle.ab_text.proofs.CoreLemmas.{Lacks-party}
-use Rattle.ab_text.proofs.HexLemmas.{encoded_lower}
 use Rattle.ab_key_text.specs.Keys.{Secret, PartyKeys, IsBytes, IsSecretOf, IsPartyKeys, peers_in}
 use Rattle.ab_key_text.specs.Reading.{keys_in}
-use Rattle.ab_key_text.specs.Spelling.{key_line, peer_lines, public_lines, secret_lines, cluster_lines, name_lines, key_lines, text_of}
+use Rattle.ab_key_text.specs.Spelling.{key_line, peer_lines, public_lines, secret_lines, cluster_lines, name_lines, key_lines}
 use Rattle.ab_key_text.proofs.RoundLemmas.{spelled_reads}
-
-abbrev HasNoFeed : List ℕ → Type 0
-HasNoFeed l = Lacks 10 l
-
-abbrev HaveNoFeed : List (List ℕ) → Type 0
-HaveNoFeed ls = AllByRecursion HasNoFeed ls
-
-first_line : (l rest : List ℕ) → HasNoFeed l → lines_of ((l ++ 10 ∷ []) ++ rest) ≡ l ∷ lines_of rest
-first_line [] rest none = refl
-first_line (b ∷ l) rest none =
-    let other : eqb b 10 ≡ false = false_from_ne_true (eqb b 10) (λ t. none 0 0 (omega arith) ((Decides-eqb b 10).0 t)) in
-    ap (λ t. if t then [] ∷ lines_of ((l ++ 10 ∷ []) ++ rest) else onto_first b (lines_of ((l ++ 10 ∷ []) ++ rest))) other
-    ∙ ap (onto_first b) (first_line l rest (λ k d lt. none (suc k) d (omega arith)))
-
-lines_of-text_of : (ls : List (List ℕ)) → HaveNoFeed ls → lines_of (text_of ls) ≡ ls
-lines_of-text_of [] none = refl
-lines_of-text_of (l ∷ ls) none = first_line l (text_of ls) none.0 ∙ ap (λ t. l ∷ t) (lines_of-text_of ls none.1)
-
-both : (a b : List (List ℕ)) → HaveNoFeed a → HaveNoFeed b → HaveNoFeed (a ++ b)
-both [] b first second = second
-both (x ∷ a) b first second = (first.0, both a b first.1 second)
-
--- the test of a literal
-abbrev has_no_feed : List ℕ → Bool
-has_no_feed l = list_all (λ b. not (eqb b 10)) l
-
-tested : (l : List ℕ) → has_no_feed l ≡ true → HasNoFeed l
-tested [] h = λ k d lt. absurd (omega arith)
-tested (b ∷ l) h =
-    let parts = and_parts (not (eqb b 10)) (has_no_feed l) h in
-    Lacks-cons 10 b l (λ e. let t : eqb b 10 ≡ true = (Decides-eqb b 10).1 e in (let no_feed : not (eqb b 10) ≡ true = parts.0 in (let bad : false ≡ true = sym (ap not t) ∙ no_feed in cc))) (tested l parts.1)
-
-no_feed_in_digits : (bytes : List ℕ) → All (λ b. b < 256) bytes → HasNoFeed (encode_lower bytes)
-no_feed_in_digits bytes small k d lt e = elim (encoded_lower bytes small k d lt) [
-  | inl low ↦ (let a = low.0 in omega (arith, a, e))
-  | inr high ↦ (let a = high.0 in omega (arith, a, e))
-]
+use Rattle.ab_text.proofs.FeedLemmas.{lines_of-text_of, both, tested, no_feed_in_digits, no_feed_in_plan, no_feed_in_service, no_feed_in_height, HasNoFeed, HaveNoFeed}
+use Rattle.ab_text.specs.Texts.{text_of}
 
 no_feed_in_key : (word : List ℕ) (p : Party) (n : ℕ) (key : List ℕ) → HasNoFeed word → IsParty p → IsBytes n key → HasNoFeed (key_line word p key)
 no_feed_in_key word p n key first small good =
     Lacks-append 10 (word ++ party_text p ++ codes " ") (encode_lower key)
     (Lacks-append 10 (word ++ party_text p) (codes " ") (Lacks-append 10 word (party_text p) first (Lacks-party 10 p (omega arith) small)) (tested (codes " ") refl)) (no_feed_in_digits key good.small)
-
-no_feed_in_plan : (p : Plan) → HasNoFeed (plan_line p)
-no_feed_in_plan AZyzzyva = tested (codes "plan azyzzyva") refl
-no_feed_in_plan Aliph = tested (codes "plan aliph") refl
-no_feed_in_plan Quorum = tested (codes "plan quorum") refl
-no_feed_in_plan ZLight = tested (codes "plan zlight") refl
-no_feed_in_plan Chain = tested (codes "plan chain") refl
-no_feed_in_plan Backup = tested (codes "plan backup") refl
-
-no_feed_in_service : (v : ServiceName) → HasNoFeed (service_line v)
-no_feed_in_service Echo = tested (codes "service echo") refl
-no_feed_in_service Kv = tested (codes "service kv") refl
-
-no_feed_in_height : (h : Height) → HasNoFeed (lms_line h)
-no_feed_in_height Five = tested (codes "lms 5") refl
-no_feed_in_height Ten = tested (codes "lms 10") refl
 
 no_feed_in_secret : (me : Party) (s : Option Secret) → IsSecretOf me s → HaveNoFeed (secret_lines s)
 no_feed_in_secret me None good = tt

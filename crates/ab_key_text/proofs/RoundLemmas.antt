@@ -20,17 +20,18 @@ use Rattle.ab_key_text.specs.declared.fault.NodeFault.{NodeFault}
 use Rattle.ab_key_text.specs.declared.fault.NodeFault.TheVariants.{BadLine}
 use Rattle.ab_key_text.specs.Keys.{Secret, PartyKeys, IsPartyKeys, peers_in, replicas}
 use Rattle.ab_key_text.specs.Lines.{◌>>=◌, line_at, form_in, number_in, party_in}
-use Rattle.ab_key_text.specs.Reading.{Read, Setting, member, setting_at, peers_at, publics_at, put_together, keys_after, keys_at, keys_in, ended}
+use Rattle.ab_key_text.specs.Reading.{Read, KeyLines, member, setting_at, peers_at, publics_at, put_together, keys_after, keys_at, keys_in, ended}
 use Rattle.ab_key_text.specs.Spelling.{cluster_lines, name_lines, key_lines, peer_lines, public_lines, secret_lines}
-use Rattle.ab_key_text.proofs.SpelledLemmas.{line_read, number_read, party_read, plan_read, service_read, height_read, IsSmall, secret_at_read, after_secret, peers_read, publics_read}
+use Rattle.ab_key_text.proofs.SpelledLemmas.{line_read, number_read, party_read, IsSmall, secret_at_read, after_secret, peers_read, publics_read}
+use Rattle.ab_text.proofs.HeadLemmas.{plan_read, service_read, height_read}
 
 abbrev Rest : Type 0
 Rest = List (List ℕ)
 
 abbrev Head : Type 0
-Head = Result (Setting × Rest) NodeFault
+Head = Result (KeyLines × Rest) NodeFault
 
-abbrev setting : Party → ℕ → ℕ → Plan → ServiceName → Height → Setting
+abbrev setting : Party → ℕ → ℕ → Plan → ServiceName → Height → KeyLines
 setting me f c p v h = record { me = me; f = f; clients = c; plan = p; service = v; lms = h }
 
 abbrev from7 : Party → ℕ → ℕ → Plan → ServiceName → Rest → Head
@@ -58,7 +59,7 @@ small : (f clients : ℕ) (p : Party) → IsInBounds f clients → IsTrue (is_pa
 small f clients (Replica r) bounds in_cluster = let lt : r < 3 * f + 1 = (Decides-ltb r (3 * f + 1)).0 in_cluster in let few = bounds.few_faulty in omega (arith, lt, few)
 small f clients (Client c) bounds in_cluster = let lt : c < clients = (Decides-ltb c clients).0 in_cluster in let few = bounds.few_clients in omega (arith, lt, few)
 
-abbrev setting_in : PartyKeys → Setting
+abbrev setting_in : PartyKeys → KeyLines
 setting_in k = setting k.me k.f k.clients k.plan k.service k.lms
 
 setting_read : (k : PartyKeys) (rest : Rest) → IsInBounds k.f k.clients → IsTrue (is_party k.f k.clients k.me) → setting_at (cluster_lines k ++ (name_lines k ++ rest)) ≡ Ok (setting_in k, rest)
@@ -88,10 +89,10 @@ setting_read k rest bounds in_cluster =
 abbrev Whole : Type 0
 Whole = Result (Read PartyKeys) NodeFault
 
-abbrev with_publics : Setting → Option Secret → List Peer → ℕ → Rest → Whole
+abbrev with_publics : KeyLines → Option Secret → List Peer → ℕ → Rest → Whole
 with_publics s secret peers n ls = publics_at (replicas s.f) [] n ls >>= λ x. Ok (record { value = put_together s secret peers x.value; next = x.next; rest = x.rest })
 
-abbrev with_peers : Setting → Option Secret → ℕ → Rest → Whole
+abbrev with_peers : KeyLines → Option Secret → ℕ → Rest → Whole
 with_peers s secret n ls = peers_at (peers_in s.f s.clients s.me) [] n ls >>= λ x. with_publics s secret x.value x.next x.rest
 
 pub whole_read : (k : PartyKeys) (rest : Rest) → IsPartyKeys k

@@ -9,15 +9,9 @@ use Rattle.hex.specs.Hex.{encode_lower, lower_digits, IsBytes as AreBytes}
 use Rattle.hex.proofs.HexLemmas.{decode_sized-encode_lower, length-encode_with}
 use Rattle.ab_num.specs.declared.party.Party.{Party}
 use Rattle.ab_num.specs.declared.party.Party.TheVariants.{Replica, Client}
-use Rattle.ab_num.specs.declared.plan.Plan.{Plan}
-use Rattle.ab_num.specs.declared.plan.Plan.TheVariants.{AZyzzyva, Aliph, Quorum, ZLight, Chain, Backup}
-use Rattle.ab_num.specs.declared.plan.ServiceName.{ServiceName}
-use Rattle.ab_num.specs.declared.plan.ServiceName.TheVariants.{Echo, Kv}
-use Rattle.ab_num.specs.declared.plan.Height.{Height}
-use Rattle.ab_num.specs.declared.plan.Height.TheVariants.{Five, Ten}
 use Rattle.ab_keys.specs.Rings.{Peer}
 use Rattle.ab_text.specs.Cores.{party_text}
-use Rattle.ab_text.specs.Heads.{number_in as digits_in, spelled_in, plan_line, plans, service_line, services, lms_line, heights}
+use Rattle.ab_text.specs.Heads.{number_in as digits_in}
 use Rattle.ab_text.proofs.NumberLemmas.{is_some_number}
 use Rattle.ab_text.proofs.WordLemmas.{stripped-is}
 use Rattle.ab_key_text.specs.declared.fault.NodeFault.{NodeFault}
@@ -138,22 +132,3 @@ party_read (Replica r) few =
     ap (λ o. or_else (numbered Replica o) (numbered Client (number_in (codes "c") 0 65535 (party_text (Replica r))))) (number_read (codes "r") 0 255 r (omega arith) few (omega (arith, few)))
 party_read (Client c) few =
     ap (λ o. or_else None (numbered Client o)) (number_read (codes "c") 0 65535 c (omega arith) few (omega (arith, few)))
-
-pub plan_read : (p : Plan) → spelled_in plan_line plans (plan_line p) ≡ Some p
-unfolding spelled_in
-plan_read AZyzzyva = refl
-plan_read Aliph = refl
-plan_read Quorum = refl
-plan_read ZLight = refl
-plan_read Chain = refl
-plan_read Backup = refl
-
-pub service_read : (v : ServiceName) → spelled_in service_line services (service_line v) ≡ Some v
-unfolding spelled_in
-service_read Echo = refl
-service_read Kv = refl
-
-pub height_read : (h : Height) → spelled_in lms_line heights (lms_line h) ≡ Some h
-unfolding spelled_in
-height_read Five = refl
-height_read Ten = refl

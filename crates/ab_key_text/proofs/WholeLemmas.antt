@@ -13,8 +13,8 @@ use Rattle.ab_num.specs.declared.plan.Height.{Height}
 use Rattle.ab_key_text.specs.Derived.{keys_of, own_secret, public_of, secret_of}
 use Rattle.ab_key_text.specs.Keys.{Secret, PartyKeys, IsWhole, peers_in, replicas}
 use Rattle.ab_key_text.specs.Lines.{◌>>=◌, found_at, line_at, key_in}
-use Rattle.ab_key_text.specs.Nodes.{Node, command_in, commands_at, node_in, node_of, with_command}
-use Rattle.ab_key_text.specs.Reading.{Read, Setting, ended, keys_after, keys_at, peers_at, publics_at, put_together, secret_at, secret_in, setting_at}
+use Rattle.ab_key_text.specs.Nodes.{NodeText, command_in, commands_at, node_in, node_of, with_command}
+use Rattle.ab_key_text.specs.Reading.{Read, KeyLines, ended, keys_after, keys_at, peers_at, publics_at, put_together, secret_at, secret_in, setting_at}
 
 abbrev Lines : Type 0
 Lines = List (List ℕ)
@@ -24,12 +24,12 @@ bound : {A B : Type 0} (r : Result A NodeFault) (f : A → Result B NodeFault) (
 bound (Ok a) f b e = (a, refl, e)
 bound (Err fault) f b e = let T = Unit {0} in cc
 
-ended_keeps : (node : Node) (n : ℕ) (ls : Lines) (out : Node) → ended node n ls ≡ Ok out → out.keys ≡ node.keys
+ended_keeps : (node : NodeText) (n : ℕ) (ls : Lines) (out : NodeText) → ended node n ls ≡ Ok out → out.keys ≡ node.keys
 ended_keeps node n [] out e = cc
 ended_keeps node n (l ∷ ls) out e = cc
 
 -- the lines of commands leave the keys
-commands_keep : (ls : Lines) (node : Node) (n : ℕ) (out : Node) → commands_at node n ls ≡ Ok out → out.keys ≡ node.keys
+commands_keep : (ls : Lines) (node : NodeText) (n : ℕ) (out : NodeText) → commands_at node n ls ≡ Ok out → out.keys ≡ node.keys
 commands_keep [] node n out e = cc
 commands_keep (l ∷ ls) node n out e = go (λ x. commands_keep ls (with_command node x.0) (n + 1) out) (bytes_eq l (codes "end")) e where
   go : ((x : List ℕ × Lines) → commands_at (with_command node x.0) (n + 1) ls ≡ Ok out → out.keys ≡ node.keys)
@@ -59,7 +59,7 @@ publics_many (p ∷ ps) done n ls x e =
 many_replicas : (f : ℕ) → length (replicas f) ≡ 3 * f + 1
 many_replicas f = length-map-range_with_len Replica 0 (3 * f + 1)
 
-keys_whole : (s : Setting) (ls : Lines) (x : Read PartyKeys) → keys_after s ls ≡ Ok x → IsWhole x.value
+keys_whole : (s : KeyLines) (ls : Lines) (x : Read PartyKeys) → keys_after s ls ≡ Ok x → IsWhole x.value
 unfolding keys_after
 keys_whole s ls x e =
     let secret = bound (secret_at s.me ls) (λ (a : Read (Option Secret)). peers_at (peers_in s.f s.clients s.me) [] a.next a.rest >>= λ b. publics_at (replicas s.f) [] b.next b.rest >>= λ c. Ok (record { value = put_together s a.value b.value c.value; next = c.next; rest = c.rest })) x e in
@@ -73,11 +73,11 @@ keys_whole s ls x e =
       public_of_each = publics_many (replicas s.f) [] peers.0.next peers.0.rest publics.0 publics.1 ∙ let many = many_replicas s.f in omega (arith, many);
     })
 
-pub read_whole : (ls : Lines) (n : Node) → node_in ls ≡ Ok n → IsWhole n.keys
+pub read_whole : (ls : Lines) (n : NodeText) → node_in ls ≡ Ok n → IsWhole n.keys
 unfolding node_in keys_at
 read_whole ls n e =
     let keys = bound (setting_at ls >>= λ s. keys_after s.0 s.1) (λ (k : Read PartyKeys). commands_at (node_of k.value []) k.next k.rest) n e in
-    let setting = bound (setting_at ls) (λ (s : Setting × Lines). keys_after s.0 s.1) keys.0 keys.1 in
+    let setting = bound (setting_at ls) (λ (s : KeyLines × Lines). keys_after s.0 s.1) keys.0 keys.1 in
     subst IsWhole (sym (commands_keep keys.0.rest (node_of keys.0.value []) keys.0.next n keys.2)) (keys_whole setting.0.0 setting.0.1 keys.0 setting.2)
 
 pub derived_whole : (f clients : ℕ) (plan : Plan) (service : ServiceName) (lms : Height) (seed : List ℕ) (me : Party) → IsWhole (keys_of f clients plan service lms seed me)

@@ -1,26 +1,17 @@
 -- Lines as they are written, one behind the other.
-use Rattle.std.proofs.Common.{◌≡◌, ℕ, zero, suc, ◌+◌, ◌<◌, List, [], ◌∷◌, ◌++◌, append_assoc, codes, sym, ap, ◌∙◌, refl, decimal, take, get_or, length, arith}
+use Rattle.std.proofs.Common.{◌≡◌, ℕ, zero, suc, ◌+◌, ◌<◌, List, [], ◌∷◌, ◌++◌, append_assoc, codes, sym, ap, ◌∙◌, decimal, take, get_or, length, arith}
 use Rattle.ab_num.specs.declared.party.Party.{Party}
 use Rattle.ab_num.specs.declared.party.Party.TheVariants.{Replica}
 use Rattle.hex.specs.Hex.{encode_lower}
 use Rattle.ab_text.specs.Cores.{party_text}
 use Rattle.ab_text.specs.Reports.{◌then◌}
-use Rattle.ab_key_text.specs.Spelling.{key_line, public_lines, text_of}
+use Rattle.ab_key_text.specs.Spelling.{key_line, public_lines}
 
 pub key_grouped : (word : List ℕ) (p : Party) (key : List ℕ) → (word then party_text p then codes " " then encode_lower key) ≡ key_line word p key
 key_grouped word p key = sym (simp append_assoc)
 
 pub public_grouped : (word : List ℕ) (r : ℕ) (key : List ℕ) → (word then codes "r" then decimal r then codes " " then encode_lower key) ≡ key_line word (Replica r) key
 public_grouped word r key = sym (simp append_assoc)
-
-pub text_of-append : (front back : List (List ℕ)) → text_of (front ++ back) ≡ text_of front ++ text_of back
-text_of-append [] back = refl
-text_of-append (a ∷ front) back = ap (λ t. (a ++ 10 ∷ []) ++ t) (text_of-append front back) ∙ sym (append_assoc (a ++ 10 ∷ []) (text_of front) (text_of back))
-
--- lines that are added one after the other
-pub added : (old one two : List ℕ) (front back : List (List ℕ)) → one ≡ old ++ text_of front → two ≡ one ++ text_of back → two ≡ old ++ text_of (front ++ back)
-added old one two front back first second =
-    second ∙ ap (λ t. t ++ text_of back) first ∙ append_assoc old (text_of front) (text_of back) ∙ ap (λ t. old ++ t) (sym (text_of-append front back))
 
 public_lines_more-from : (from : ℕ) (keys : List (List ℕ)) (r : ℕ) → r < length keys → public_lines from (take (r + 1) keys) ≡ public_lines from (take r keys) ++ key_line (codes "public ") (Replica (from + r)) (get_or keys r []) ∷ []
 public_lines_more-from from [] r lt = absurd (omega arith)
@@ -36,6 +27,3 @@ public_lines_more-from from (k ∷ keys) (suc r) lt =
 
 pub public_lines_more : (keys : List (List ℕ)) (r : ℕ) → r < length keys → public_lines 0 (take (r + 1) keys) ≡ public_lines 0 (take r keys) ++ key_line (codes "public ") (Replica r) (get_or keys r []) ∷ []
 public_lines_more keys r lt = let e : 0 + r ≡ r = omega arith in public_lines_more-from 0 keys r lt ∙ ap (λ m. public_lines 0 (take r keys) ++ key_line (codes "public ") (Replica m) (get_or keys r []) ∷ []) e
-
-pub five_parts : (a b c d e : List (List ℕ)) → (((a ++ b) ++ c) ++ d) ++ e ≡ a ++ (b ++ (c ++ (d ++ e)))
-five_parts a b c d e = simp append_assoc

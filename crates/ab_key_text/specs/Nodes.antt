@@ -13,11 +13,11 @@ use Rattle.ab_key_text.specs.Lines.{◌>>=◌, found_at}
 use Rattle.ab_key_text.specs.Reading.{keys_at, ended}
 
 -- the keys of a node's party, and the commands that it makes
-pub record Node : Type 0 where
+pub record NodeText : Type 0 where
   pub keys : PartyKeys
   pub commands : List (List ℕ)
 
-abbrev pub node_of : PartyKeys → List (List ℕ) → Node
+abbrev pub node_of : PartyKeys → List (List ℕ) → NodeText
 node_of keys commands = record { keys = keys; commands = commands }
 
 abbrev pub is_printable : List ℕ → Bool
@@ -35,18 +35,18 @@ abbrev pub command_in : Party → List ℕ → Option (List ℕ)
 command_in (Replica r) l = None
 command_in (Client c) l = option_and_then checked_command (stripped (codes "do ") l)
 
-abbrev pub with_command : Node → List ℕ → Node
+abbrev pub with_command : NodeText → List ℕ → NodeText
 with_command node command = record node { commands = node.commands ++ command ∷ [] }
 
 -- line n is the end or a command
-abbrev pub commands_at : Node → ℕ → List (List ℕ) → Result Node NodeFault
+abbrev pub commands_at : NodeText → ℕ → List (List ℕ) → Result NodeText NodeFault
 commands_at node n [] = Err (NoEnd n)
 commands_at node n (l ∷ ls) =
     if bytes_eq l (codes "end") then ended node (n + 1) ls
     else found_at n ls (command_in node.keys.me l) >>= λ x. commands_at (with_command node x.0) (n + 1) ls
 
 -- what the lines of a node's text give
-unfoldable pub node_in : List (List ℕ) → Result Node NodeFault
+unfoldable pub node_in : List (List ℕ) → Result NodeText NodeFault
 node_in ls = do
   keys ← keys_at ls
   commands_at (node_of keys.value []) keys.next keys.rest

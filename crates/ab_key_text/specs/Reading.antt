@@ -18,7 +18,7 @@ use Rattle.ab_key_text.specs.Keys.{Secret, PartyKeys, peers_in, replicas}
 use Rattle.ab_key_text.specs.Lines.{◌>>=◌, line_at, form_in, number_in, party_in, bytes_after, key_in}
 
 -- lines 1 to 7
-pub record Setting : Type 0 where
+pub record KeyLines : Type 0 where
   pub me : Party
   pub f : ℕ
   pub clients : ℕ
@@ -30,7 +30,7 @@ pub record Setting : Type 0 where
 abbrev pub member : ℕ → ℕ → Party → Result (Unit {0}) NodeFault
 member f clients me = if is_party f clients me then Ok tt else Err (BadLine 2)
 
-unfoldable pub setting_at : List (List ℕ) → Result (Setting × List (List ℕ)) NodeFault
+unfoldable pub setting_at : List (List ℕ) → Result (KeyLines × List (List ℕ)) NodeFault
 setting_at ls = do
   name ← line_at (form_in (codes "keys 1")) 1 ls
   me ← line_at (λ l. option_and_then party_in (stripped (codes "party ") l)) 2 name.1
@@ -82,7 +82,7 @@ publics_at (p ∷ ps) done n ls = do
   key ← line_at (key_in (codes "public ") p 56) n ls
   publics_at ps (done ++ key.0 ∷ []) (n + 1) key.1
 
-abbrev pub put_together : Setting → Option Secret → List Peer → List (List ℕ) → PartyKeys
+abbrev pub put_together : KeyLines → Option Secret → List Peer → List (List ℕ) → PartyKeys
 put_together s secret peers publics = record {
   f = s.f;
   clients = s.clients;
@@ -96,7 +96,7 @@ put_together s secret peers publics = record {
 }
 
 -- the lines after those of the head
-unfoldable pub keys_after : Setting → List (List ℕ) → Result (Read PartyKeys) NodeFault
+unfoldable pub keys_after : KeyLines → List (List ℕ) → Result (Read PartyKeys) NodeFault
 keys_after s ls = do
   secret ← secret_at s.me ls
   peers ← peers_at (peers_in s.f s.clients s.me) [] secret.next secret.rest

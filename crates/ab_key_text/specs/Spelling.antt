@@ -36,7 +36,3 @@ name_lines k = plan_line k.plan ∷ service_line k.service ∷ lms_line k.lms �
 
 abbrev pub key_lines : PartyKeys → List (List ℕ)
 key_lines k = cluster_lines k ++ (name_lines k ++ (secret_lines k.secret ++ (flat_map peer_lines k.peers ++ public_lines 0 k.publics)))
-
--- each line ends with a line feed
-abbrev pub text_of : List (List ℕ) → List ℕ
-text_of ls = flat_map (λ l. l ++ 10 ∷ []) ls

@@ -10,9 +10,10 @@ ghost use Rattle.ab_keys.specs.Keys.{is_party};
 ghost use Rattle.ab_text.specs.Lines.{lines_of};
 ghost use Rattle.ab_key_text.specs.Derived.{keys_of};
 ghost use Rattle.ab_key_text.specs.Keys.{IsWhole, IsPartyKeys, PartyKeys as TheKeys};
-ghost use Rattle.ab_key_text.specs.Nodes.{Node, node_in};
+ghost use Rattle.ab_key_text.specs.Nodes.{NodeText, node_in};
 ghost use Rattle.ab_key_text.specs.Reading.{keys_in};
-ghost use Rattle.ab_key_text.specs.Spelling.{key_lines, text_of};
+ghost use Rattle.ab_key_text.specs.Spelling.{key_lines};
+ghost use Rattle.ab_text.specs.Texts.{text_of};
 
 /// What is spelled as the keys of a party is read as these keys.
 pub fn spelled_is_read()
@@ -27,7 +28,7 @@ pub fn written_is_read()
 /// The keys that a node's text or a seed gives are whole: a replica's secret is among them, and a public
 /// key of each replica.
 pub fn keys_are_whole()
-    ensures read { (ls : List (List ℕ)) (n : Node) → node_in ls ≡ Ok n → IsWhole n.keys }
+    ensures read { (ls : List (List ℕ)) (n : NodeText) → node_in ls ≡ Ok n → IsWhole n.keys }
     ensures derived { (f clients : ℕ) (plan : ThePlan) (service : Service) (lms : TheHeight) (seed : List ℕ) (me : TheParty) → IsWhole (keys_of f clients plan service lms seed me) }
 {}
 

@@ -4,6 +4,7 @@
 mod derive;
 mod fault;
 mod hex_bytes;
+mod key_lines;
 mod keys;
 mod laws;
 mod lines;
@@ -12,7 +13,6 @@ mod parts;
 mod peers;
 mod reading;
 mod secret;
-mod setting;
 mod shared;
 mod writing;
 

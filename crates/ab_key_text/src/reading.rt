@@ -7,11 +7,11 @@ ghost use Rattle.ab_key_text.specs.Lines.{Gives};
 ghost use Rattle.ab_key_text.specs.Reading.{IsKeyFault, keys_after, keys_at, keys_in, peers_at, publics_at, secret_at};
 
 use crate::fault::{KeyFault, NodeFault};
+use crate::key_lines::{KeyLines, setting_of};
 use crate::keys::PartyKeys;
 use crate::lines::{key_at, secret_line_at};
 use crate::peers::{peers_in, replicas};
 use crate::secret::Secret;
-use crate::setting::{Setting, setting_of};
 use crate::shared::Shared;
 use ab_num::Party;
 use ab_text::next_line;
@@ -109,7 +109,7 @@ fn publics_of<'a>(
 #[tactic(auto, unfolding(crate::specs::Reading::keys_after))]
 fn keys_after(
     alloc: Global,
-    setting: Setting,
+    setting: KeyLines,
     text: &[u8],
 ) -> Result<Read<'_, PartyKeys>, NodeFault>
     ensures reads { Gives (λ p. record { value = p.value; next = p.next; rest = lines_of p.rest.now }) result (keys_after setting (lines_of text.now)) }

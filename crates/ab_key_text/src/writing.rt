@@ -2,7 +2,8 @@
 
 ghost use Rattle.std.specs.Prelude.{◌≡◌, ◌+◌, ◌++◌, ◌∷◌, [], IfOk, OnOk, flat_map, string_bytes};
 ghost use Rattle.ab_num.specs.declared.party.Party.TheVariants.{Replica};
-ghost use Rattle.ab_key_text.specs.Spelling.{cluster_lines, key_line, key_lines, name_lines, peer_lines, public_lines, secret_line, secret_lines, text_of};
+ghost use Rattle.ab_key_text.specs.Spelling.{cluster_lines, key_line, key_lines, name_lines, peer_lines, public_lines, secret_line, secret_lines};
+ghost use Rattle.ab_text.specs.Texts.{text_of};
 
 use crate::keys::PartyKeys;
 use crate::secret::Secret;

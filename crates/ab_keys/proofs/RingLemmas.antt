@@ -8,6 +8,7 @@ use Rattle.std.proofs.lemmas.List.{map-append}
 use Rattle.std.proofs.lemmas.List.Elements.{filter-append}
 use Rattle.std.proofs.lemmas.List.Folds.{list_any-append}
 use Rattle.std.proofs.lemmas.List.FromFn.{map-range_with_len_more}
+use Rattle.std.proofs.Math.Bool.{or-false}
 use Rattle.ab_num.specs.declared.party.Party.{Party}
 use Rattle.ab_num.specs.declared.party.Party.TheVariants.{Replica, Client}
 use Rattle.ab_num.specs.declared.plan.Plan.{Plan}
@@ -74,17 +75,13 @@ no-replica : (r : ℕ) (xs : List ℕ) → has (map Client xs) (Replica r) ≡ f
 no-replica r [] = refl
 no-replica r (x ∷ xs) = no-replica r xs
 
-or_false : (x : Bool) → (x || false) ≡ x
-or_false true = refl
-or_false false = refl
-
 has-parties : (f clients : ℕ) (p : Party) → has (parties f clients) p ≡ is_party f clients p
 unfolding parties
 has-parties f clients (Replica r) =
     list_any-append (λ q. party_eq q (Replica r)) (map Replica (range_with_len 0 (3 * f + 1))) (map Client (range_with_len 0 clients))
     ∙ ap (λ b. b || has (map Client (range_with_len 0 clients)) (Replica r)) (has-replicas (3 * f + 1) r)
     ∙ ap (λ b. ltb r (3 * f + 1) || b) (no-replica r (range_with_len 0 clients))
-    ∙ or_false (ltb r (3 * f + 1))
+    ∙ or-false (ltb r (3 * f + 1))
 has-parties f clients (Client c) =
     list_any-append (λ q. party_eq q (Client c)) (map Replica (range_with_len 0 (3 * f + 1))) (map Client (range_with_len 0 clients))
     ∙ ap (λ b. b || has (map Client (range_with_len 0 clients)) (Client c)) (no-client c (range_with_len 0 (3 * f + 1)))

@@ -3,7 +3,6 @@ use Rattle.std.proofs.Common.{◌≡◌, ℕ, zero, suc, ◌+◌, ◌-◌, ◌<�
 use Rattle.std.specs.Option.{option_map}
 use Rattle.std.proofs.lemmas.Bool.{false_from_ne_true}
 use Rattle.std.proofs.lemmas.Bool.Decides.{Decides-eqb}
-use Rattle.std.proofs.lemmas.List.{take_all, length-drop}
 use Rattle.ab_kv.specs.Readings.{parts}
 
 abbrev pub with_first : ℕ → Option (List ℕ × List ℕ) → Option (List ℕ × List ℕ)
@@ -31,7 +30,3 @@ parts_nowhere [] none = refl
 parts_nowhere (b ∷ bs) none =
     ap (λ t. if t then Some ([], bs) else with_first b (parts bs)) (other b (none 0 (omega arith)))
     ∙ ap (with_first b) (parts_nowhere bs (λ k h. none (suc k) (omega arith)))
-
--- what a range to the end holds
-pub to_end : (bs : List ℕ) (k : ℕ) → take (length bs - k) (drop k bs) ≡ drop k bs
-to_end bs k = take_all (length bs - k) (drop k bs) (omega (arith, length-drop k bs))

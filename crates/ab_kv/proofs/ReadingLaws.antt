@@ -4,7 +4,7 @@ use Rattle.std.specs.Bool.{Decides}
 use Rattle.std.specs.List.{list_all}
 use Rattle.std.specs.Option.{option_and_then}
 use Rattle.std.specs.Str.{bytes_eq}
-use Rattle.std.proofs.lemmas.Bool.{cases_Bool, leb-true, le-leb}
+use Rattle.std.proofs.lemmas.Bool.{cases_Bool, leb-true, le-leb, and_parts}
 use Rattle.std.proofs.lemmas.Bool.Decides.{Decides-eqb, Decides-and, Decides-like, Decides-by_and}
 use Rattle.std.proofs.lemmas.Option.{none-some, some_pair_parts, cond_some, option_and_then_some, same_Some}
 use Rattle.std.proofs.lemmas.Slice.Eq.{bytes_eq-Decides}
@@ -28,10 +28,6 @@ parts_found (x ∷ xs) a b e = elim (cases_Bool (nat_eq x 32)) [
   | inr letter ↦ later_found x xs a b (parts xs) (λ c d is. parts_found xs c d is) (sym (ap (λ t. if t then Some ([], xs) else with_first x (parts xs)) letter) ∙ e)
 ]
 
-both_true : (a b : Bool) → (a && b) ≡ true → (a ≡ true) × (b ≡ true)
-both_true true b e = (refl, e)
-both_true false b e = cc
-
 no_space : (x : ℕ) → is_symbol x ≡ true → nat_eq x 32 ≡ false
 no_space x symbol = other x (λ e. let clash : is_symbol 32 ≡ true = ap is_symbol (sym e) ∙ symbol in cc)
 
@@ -39,7 +35,7 @@ no_space x symbol = other x (λ e. let clash : is_symbol 32 ≡ true = ap is_sym
 parts_again : (a b : List ℕ) → list_all is_symbol a ≡ true → parts (a ++ 32 ∷ b) ≡ Some (a, b)
 parts_again [] b symbols = refl
 parts_again (x ∷ xs) b symbols =
-    let each = both_true (is_symbol x) (list_all is_symbol xs) symbols in
+    let each = and_parts (is_symbol x) (list_all is_symbol xs) symbols in
     ap (λ t. if t then Some ([], xs ++ 32 ∷ b) else with_first x (parts (xs ++ 32 ∷ b))) (no_space x each.0)
     ∙ ap (with_first x) (parts_again xs b each.1)
 

@@ -2,7 +2,7 @@
 use Rattle.std.proofs.Common.{◌≡◌, ◌≢◌, ℕ, ◌+◌, ◌-◌, ◌<◌, ◌≤◌, List, [], ◌∷◌, ◌++◌, Bool, true, false, not, ◌&&◌, if◌then◌else◌, cond, is_some, nat_le, Option, Some, None, ap, sym, ◌∙◌, refl, codes, arith, ◌⊎◌, inl, inr}
 use Rattle.std.specs.List.{fold}
 use Rattle.std.specs.Ordering.{nat_cmp, eq_by_cmp, is_eq}
-use Rattle.std.specs.Cmp.{IsTotalOrder, tied_itself}
+use Rattle.std.specs.Cmp.{tied_itself}
 use Rattle.std.specs.Cmp.Lexicographic.{slice_cmp, nat_list_cmp_total}
 use Rattle.std.specs.FinMap.{get, len, insert, remove, get-empty, get-insert, get-remove, len-empty, len-insert, len-remove, same_map, nat_cmp-IsAntisymmetric, slice_cmp-IsAntisymmetric, IsAntisymmetric}
 use Rattle.std.specs.Option.{option_map_or}
@@ -12,6 +12,7 @@ use Rattle.std.specs.declared.cmp.Ordering.TheVariants.{Less, Equal, Greater}
 use Rattle.std.proofs.lemmas.Bool.{false_from_ne_true, cases_Bool}
 use Rattle.std.proofs.lemmas.Bool.Decides.{nat_tests}
 use Rattle.std.proofs.lemmas.Slice.Eq.{bytes_eq-Decides}
+use Rattle.std.proofs.Math.Bool.{and-false}
 use Rattle.ab_hist.specs.declared.request.Request.{Request}
 use Rattle.ab_svc.specs.Machines.{serve}
 use Rattle.ab_kv.specs.Commands.{Command, Put, Get, Del, Cas, Spells}
@@ -20,9 +21,6 @@ use Rattle.ab_kv.specs.Stores.{Store, ChangesOnly, is_full, after_command, answe
 use Rattle.ab_kv.specs.KvMachines.{kv_machine}
 use Rattle.ab_kv.specs.Rows.{Reads, Writes}
 use Rattle.ab_kv.proofs.ReadingLaws.{spelled_is_read, nothing_is_read}
-
-bytes_total : IsTotalOrder (slice_cmp nat_cmp)
-bytes_total = nat_list_cmp_total
 
 bytes_exact : IsAntisymmetric (slice_cmp nat_cmp)
 bytes_exact = slice_cmp-IsAntisymmetric nat_cmp-IsAntisymmetric
@@ -36,7 +34,7 @@ tied Equal e = refl
 tied Greater e = cc
 
 itself : (k : List ℕ) → same_key k k ≡ true
-itself k = ap is_eq (tied_itself bytes_total k)
+itself k = ap is_eq (tied_itself nat_list_cmp_total k)
 
 apart : (q k : List ℕ) → q ≢ k → same_key q k ≡ false
 apart q k ne = false_from_ne_true (same_key q k) (λ t. ne (bytes_exact q k (tied (slice_cmp nat_cmp q k) t)))
@@ -48,13 +46,13 @@ changes_by old new k w each = record {
 }
 
 inserts : (s : Store) (k v : List ℕ) → ChangesOnly s (insert s k v) k (Some v)
-inserts s k v = changes_by s (insert s k v) k (Some v) (get-insert bytes_total s k v)
+inserts s k v = changes_by s (insert s k v) k (Some v) (get-insert nat_list_cmp_total s k v)
 
 removes : (s : Store) (k : List ℕ) → ChangesOnly s (remove s k) k None
-removes s k = changes_by s (remove s k) k None (get-remove bytes_total s k)
+removes s k = changes_by s (remove s k) k None (get-remove nat_list_cmp_total s k)
 
 nothing_to_remove : (s : Store) (k : List ℕ) → get s k ≡ None → remove s k ≡ s
-nothing_to_remove s k none = same_map bytes_total bytes_exact (remove s k) s (λ q. get-remove bytes_total s k q ∙ unchanged q (cases_Bool (same_key q k)))
+nothing_to_remove s k none = same_map nat_list_cmp_total bytes_exact (remove s k) s (λ q. get-remove nat_list_cmp_total s k q ∙ unchanged q (cases_Bool (same_key q k)))
   where
     unchanged : (q : List ℕ) → (same_key q k ≡ true) ⊎ (same_key q k ≡ false) → cond (same_key q k) None (get s q) ≡ get s q
     unchanged q (inl t) = ap (λ b. cond b None (get s q)) t ∙ sym none ∙ ap (get s) (sym (bytes_exact q k (tied (slice_cmp nat_cmp q k) t)))
@@ -87,12 +85,8 @@ below_limit n short = grind (arith, nat_tests)
 has_room : (s : Store) (k : List ℕ) → len s < 65536 → is_full s k ≡ false
 has_room s k short = let small : nat_le 65536 (len s) ≡ false = grind (arith, nat_tests) in ap (λ b. b && not (is_some (get s k))) small
 
-and_false : (b : Bool) → (b && false) ≡ false
-and_false true = refl
-and_false false = refl
-
 is_there : (s : Store) (k w : List ℕ) → get s k ≡ Some w → is_full s k ≡ false
-is_there s k w at = ap (λ o. nat_le 65536 (len s) && not (is_some o)) at ∙ and_false (nat_le 65536 (len s))
+is_there s k w at = ap (λ o. nat_le 65536 (len s) && not (is_some o)) at ∙ and-false (nat_le 65536 (len s))
 
 no_room : (s : Store) (k : List ℕ) → get s k ≡ None → 65536 ≤ len s → is_full s k ≡ true
 no_room s k none full =
@@ -100,10 +94,10 @@ no_room s k none full =
     (λ j. big j && not (is_some (none j)))
 
 count_insert : (s : Store) (k v : List ℕ) (o : Option (List ℕ)) → get s k ≡ o → len (insert s k v) ≡ cond (is_some o) (len s) (len s + 1)
-count_insert s k v o at = len-insert bytes_total s k v ∙ ap (λ p. cond (is_some p) (len s) (len s + 1)) at
+count_insert s k v o at = len-insert nat_list_cmp_total s k v ∙ ap (λ p. cond (is_some p) (len s) (len s + 1)) at
 
 count_remove : (s : Store) (k v : List ℕ) → get s k ≡ Some v → len (remove s k) ≡ len s - 1
-count_remove s k v at = len-remove bytes_total s k ∙ ap (λ p. cond (is_some p) (len s - 1) (len s)) at
+count_remove s k v at = len-remove nat_list_cmp_total s k ∙ ap (λ p. cond (is_some p) (len s - 1) (len s)) at
 
 module _ (s : Store) (m : Request) (k v : List ℕ) (is : Spells m.command.items (Put k v)) where
   put_ok : (n : ℕ) → is_full s k ≡ false → len (insert s k v) ≡ n → Writes s m (codes "ok") k (Some v) n
@@ -206,7 +200,7 @@ reading_few : (s : Store) (o : Option Command) → len s ≤ 65536 → len (afte
 reading_few s None few = few
 reading_few s (Some (Put k v)) few = put_few s k few v (is_full s k) refl
 reading_few s (Some (Get k)) few = few
-reading_few s (Some (Del k)) few = rw (len-remove bytes_total s k) (cut_few s k few (is_some (get s k)))
+reading_few s (Some (Del k)) few = rw (len-remove nat_list_cmp_total s k) (cut_few s k few (is_some (get s k)))
 reading_few s (Some (Cas k old new)) few = cas_few s k few old new (get s k) refl
 
 requests_few : (s : Store) (h : List Request) → len s ≤ 65536 → len (fold kv_machine.after s h) ≤ 65536

@@ -1,5 +1,5 @@
 -- The store that a map holds.
-use Rattle.std.proofs.Common.{◌≡◌, ℕ, suc, ◌+◌, ◌≤◌, List, [], ◌∷◌, length, map, Bool, true, false, not, ◌&&◌, cond, nat_le, is_some, Option, Some, None, Result, Ok, Err, OnErr, ap, sym, ◌∙◌, arith, refl}
+use Rattle.std.proofs.Common.{◌≡◌, ℕ, suc, ◌+◌, ◌≤◌, List, [], ◌∷◌, length, map, Bool, true, false, not, ◌&&◌, cond, nat_le, is_some, Option, Some, None, ap, sym, ◌∙◌, arith, refl}
 use Rattle.std.specs.Option.{option_map}
 use Rattle.std.specs.declared.cmp.Ordering.TheVariants.{Less}
 use Rattle.std.specs.Ordering.{nat_cmp, is_eq, eq_by_cmp}
@@ -98,7 +98,3 @@ pub few-insert : (m n : BTreeMap (ArrayVec ℕ) (ArrayVec ℕ)) (k : ArrayVec �
 few-insert m n k contents room grown =
     room_left (is_some (tree.get key_cmp m k)) (btree_map_len m) (btree_map_len n) contents.few
     ((λ j. nat_le 65536 (sym (len_shown m contents.ordered) j) && not (sym (contains_shown m k) j)) ∙ room) grown
-
-pub on_err : {A E P : Type 0} (r : Result A E) → P → OnErr r P
-on_err (Ok x) p = tt
-on_err (Err e) p = p

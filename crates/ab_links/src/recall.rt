@@ -21,10 +21,10 @@ pub(crate) struct Recall {
 /// It is seen as the links.
 impl Model for Recall {
     ghost use Rattle.std.specs.Prelude.{List};
-    ghost use Rattle.ab_links.specs.Links.{Link};
+    ghost use Rattle.ab_links.specs.Links.{DigestLink};
     ghost use Rattle.ab_links.specs.Recalls.{Recalls};
 
-    ghost Value = { List Link };
+    ghost Value = { List DigestLink };
 
     ghost view = { λ a. a.links };
 

@@ -7,28 +7,26 @@ use Rattle.std.proofs.lemmas.Option.{slice_get_within}
 use Rattle.std.proofs.lemmas.List.Elements.{Contains-append_left, Contains-append_right, Contains-append_cases}
 use Rattle.ab_num.specs.declared.party.Party.{Party}
 use Rattle.ab_num.specs.declared.party.Party.TheVariants.{Replica}
+use Rattle.ab_num.proofs.Lists.{Contains-tail, Contains-cons_cases, Contains-none}
 use Rattle.ab_abs.specs.Faults.{is_faulty}
-use Rattle.ab_abs.proofs.Counting.{Contains-tail}
-use Rattle.ab_lock.specs.Steps.{Change, Entry, Step, accepts, signs, prepares, changes, enters, executes, entry_of, IsAt, Follows}
+use Rattle.ab_lock.specs.Steps.{Change, SlotEntry, Step, accepts, signs, prepares, changes, enters, executes, entry_of, IsAt, Follows}
 use Rattle.ab_lock.specs.Quorums.{IsCertified, HasPrepared, RestsOn, NoCollision, Premises}
 use Rattle.ab_msg.specs.Carried.{is_replica}
-use Rattle.ab_lock.specs.Acts.{KnowsChanges, Content, Prepare, Commit, ViewChange, maker_of, Act, steps_of, commit_of, made, WasMade, Knows, taken, its_own, IsHonest, KnowsQuorum, Backs, AreLawful}
-use Rattle.ab_abs.proofs.Lists.{Contains-cons_cases}
-use Rattle.ab_abs.proofs.Statements.{none_of}
+use Rattle.ab_lock.specs.Acts.{KnowsChanges, LockContent, Prepare, Commit, ViewChange, maker_of, LockAct, steps_of, commit_of, made, WasMade, Knows, taken, its_own, IsHonest, KnowsQuorum, Backs, AreLawful}
 
 module _ {V X : Type 0} (digest : V → X) where
-  pub steps_own : (a : Act V X) (acts : List (Act V X)) (r : ℕ) → a.by ≡ r → steps_of (a ∷ acts) r ≡ a.steps ++ steps_of acts r
+  pub steps_own : (a : LockAct V X) (acts : List (LockAct V X)) (r : ℕ) → a.by ≡ r → steps_of (a ∷ acts) r ≡ a.steps ++ steps_of acts r
   steps_own a acts r own = rw ((Decides-eqb a.by r).1 own) refl
 
-  steps_other : (a : Act V X) (acts : List (Act V X)) (r : ℕ) → (a.by == r) ≡ false → steps_of (a ∷ acts) r ≡ steps_of acts r
+  steps_other : (a : LockAct V X) (acts : List (LockAct V X)) (r : ℕ) → (a.by == r) ≡ false → steps_of (a ∷ acts) r ≡ steps_of acts r
   steps_other a acts r other = rw other refl
 
-  pub steps_in : (acts : List (Act V X)) (a : Act V X) (step : Step V X) → Contains acts a → Contains a.steps step → Contains (steps_of acts a.by) step
-  steps_in [] a step is has = absurd (none_of a is)
+  pub steps_in : (acts : List (LockAct V X)) (a : LockAct V X) (step : Step V X) → Contains acts a → Contains a.steps step → Contains (steps_of acts a.by) step
+  steps_in [] a step is has = absurd (Contains-none a is)
   steps_in (b ∷ acts) a step is has =
       elim (Contains-cons_cases b acts a is) [
         | inl e ↦ subst (λ (l : List (Step V X)). Contains l step) (sym (steps_own b acts a.by (ap (λ c. c.by) e)))
-            (Contains-append_left b.steps (steps_of acts a.by) step (subst (λ (c : Act V X). Contains c.steps step) (sym e) has))
+            (Contains-append_left b.steps (steps_of acts a.by) step (subst (λ (c : LockAct V X). Contains c.steps step) (sym e) has))
         | inr more ↦ elim (cases_Bool (b.by == a.by)) [
           | inl same ↦ subst (λ (l : List (Step V X)). Contains l step) (sym (steps_own b acts a.by ((Decides-eqb b.by a.by).0 same)))
               (Contains-append_right b.steps (steps_of acts a.by) step (steps_in acts a step more has))
@@ -38,28 +36,28 @@ module _ {V X : Type 0} (digest : V → X) where
 
   -- contents name their maker and the step that made them
   pub made_prepare : (q r v n : ℕ) (x : X) (step : Step V X) → Contains (made digest q step) (Prepare r v n x) → (q ≡ r) × (step ≡ signs v n x)
-  made_prepare q r v n x (accepts m value) is = absurd (none_of _ is)
-  made_prepare q r v n x (signs w m y) is = elim (Contains-cons_cases (Prepare q w m y) [] (Prepare r v n x) is) [ inl e ↦ (cc, cc) | inr more ↦ absurd (none_of _ more) ]
+  made_prepare q r v n x (accepts m value) is = absurd (Contains-none _ is)
+  made_prepare q r v n x (signs w m y) is = elim (Contains-cons_cases (Prepare q w m y) [] (Prepare r v n x) is) [ inl e ↦ (cc, cc) | inr more ↦ absurd (Contains-none _ more) ]
   made_prepare q r v n x (prepares w h) is = absurd (not_commit (slice_get h (pred (length h))) is)
     where
       not_commit : (o : Option V) → Contains (commit_of digest q w (pred (length h)) o) (Prepare r v n x) → ⊥
-      not_commit None is = none_of _ is
-      not_commit (Some value) is = elim (Contains-cons_cases (Commit q w (pred (length h)) (digest value)) [] (Prepare r v n x) is) [ inl e ↦ absurd (cc e) | inr more ↦ none_of _ more ]
-  made_prepare q r v n x (changes w entries) is = elim (Contains-cons_cases (ViewChange q w entries) [] (Prepare r v n x) is) [ inl e ↦ absurd (cc e) | inr more ↦ absurd (none_of _ more) ]
-  made_prepare q r v n x (enters w vcs chosen) is = absurd (none_of _ is)
-  made_prepare q r v n x (executes w m value) is = absurd (none_of _ is)
+      not_commit None is = Contains-none _ is
+      not_commit (Some value) is = elim (Contains-cons_cases (Commit q w (pred (length h)) (digest value)) [] (Prepare r v n x) is) [ inl e ↦ absurd (cc e) | inr more ↦ Contains-none _ more ]
+  made_prepare q r v n x (changes w entries) is = elim (Contains-cons_cases (ViewChange q w entries) [] (Prepare r v n x) is) [ inl e ↦ absurd (cc e) | inr more ↦ absurd (Contains-none _ more) ]
+  made_prepare q r v n x (enters w vcs chosen) is = absurd (Contains-none _ is)
+  made_prepare q r v n x (executes w m value) is = absurd (Contains-none _ is)
 
-  pub made_change : (q r w : ℕ) (entries : List (Entry X)) (step : Step V X) → Contains (made digest q step) (ViewChange r w entries) → (q ≡ r) × (step ≡ changes w entries)
-  made_change q r w entries (accepts m value) is = absurd (none_of _ is)
-  made_change q r w entries (signs v m y) is = elim (Contains-cons_cases (Prepare q v m y) [] (ViewChange r w entries) is) [ inl e ↦ absurd (cc e) | inr more ↦ absurd (none_of _ more) ]
+  pub made_change : (q r w : ℕ) (entries : List (SlotEntry X)) (step : Step V X) → Contains (made digest q step) (ViewChange r w entries) → (q ≡ r) × (step ≡ changes w entries)
+  made_change q r w entries (accepts m value) is = absurd (Contains-none _ is)
+  made_change q r w entries (signs v m y) is = elim (Contains-cons_cases (Prepare q v m y) [] (ViewChange r w entries) is) [ inl e ↦ absurd (cc e) | inr more ↦ absurd (Contains-none _ more) ]
   made_change q r w entries (prepares v h) is = absurd (not_commit (slice_get h (pred (length h))) is)
     where
       not_commit : (o : Option V) → Contains (commit_of digest q v (pred (length h)) o) (ViewChange r w entries) → ⊥
-      not_commit None is = none_of _ is
-      not_commit (Some value) is = elim (Contains-cons_cases (Commit q v (pred (length h)) (digest value)) [] (ViewChange r w entries) is) [ inl e ↦ absurd (cc e) | inr more ↦ none_of _ more ]
-  made_change q r w entries (changes u others) is = elim (Contains-cons_cases (ViewChange q u others) [] (ViewChange r w entries) is) [ inl e ↦ (cc, cc) | inr more ↦ absurd (none_of _ more) ]
-  made_change q r w entries (enters u vcs chosen) is = absurd (none_of _ is)
-  made_change q r w entries (executes v m value) is = absurd (none_of _ is)
+      not_commit None is = Contains-none _ is
+      not_commit (Some value) is = elim (Contains-cons_cases (Commit q v (pred (length h)) (digest value)) [] (ViewChange r w entries) is) [ inl e ↦ absurd (cc e) | inr more ↦ Contains-none _ more ]
+  made_change q r w entries (changes u others) is = elim (Contains-cons_cases (ViewChange q u others) [] (ViewChange r w entries) is) [ inl e ↦ (cc, cc) | inr more ↦ absurd (Contains-none _ more) ]
+  made_change q r w entries (enters u vcs chosen) is = absurd (Contains-none _ is)
+  made_change q r w entries (executes v m value) is = absurd (Contains-none _ is)
 
   -- a COMMIT is made on becoming prepared
   pub record IsPrepares (v n : ℕ) (x : X) (step : Step V X) : Type 0 where
@@ -69,15 +67,15 @@ module _ {V X : Type 0} (digest : V → X) where
     pub is_at : IsAt digest values n x
 
   pub made_commit : (q r v n : ℕ) (x : X) (step : Step V X) → Contains (made digest q step) (Commit r v n x) → (q ≡ r) × IsPrepares v n x step
-  made_commit q r v n x (accepts m value) is = absurd (none_of _ is)
-  made_commit q r v n x (signs w m y) is = elim (Contains-cons_cases (Prepare q w m y) [] (Commit r v n x) is) [ inl e ↦ absurd (cc e) | inr more ↦ absurd (none_of _ more) ]
+  made_commit q r v n x (accepts m value) is = absurd (Contains-none _ is)
+  made_commit q r v n x (signs w m y) is = elim (Contains-cons_cases (Prepare q w m y) [] (Commit r v n x) is) [ inl e ↦ absurd (cc e) | inr more ↦ absurd (Contains-none _ more) ]
   made_commit q r v n x (prepares w h) is = of_last (slice_get h (pred (length h))) refl is
     where
       of_last : (o : Option V) → slice_get h (pred (length h)) ≡ o → Contains (commit_of digest q w (pred (length h)) o) (Commit r v n x) → (q ≡ r) × IsPrepares v n x (prepares w h)
-      of_last None last is = absurd (none_of _ is)
+      of_last None last is = absurd (Contains-none _ is)
       of_last (Some value) last is =
           elim (Contains-cons_cases (Commit q w (pred (length h)) (digest value)) [] (Commit r v n x) is) [
-            | inr more ↦ absurd (none_of _ more)
+            | inr more ↦ absurd (Contains-none _ more)
             | inl e ↦
                 let at : pred (length h) ≡ n = cc e in
                 let view : w ≡ v = cc e in (
@@ -90,22 +88,22 @@ module _ {V X : Type 0} (digest : V → X) where
                   },
                 )
           ]
-  made_commit q r v n x (changes w entries) is = elim (Contains-cons_cases (ViewChange q w entries) [] (Commit r v n x) is) [ inl e ↦ absurd (cc e) | inr more ↦ absurd (none_of _ more) ]
-  made_commit q r v n x (enters w vcs chosen) is = absurd (none_of _ is)
-  made_commit q r v n x (executes w m value) is = absurd (none_of _ is)
+  made_commit q r v n x (changes w entries) is = elim (Contains-cons_cases (ViewChange q w entries) [] (Commit r v n x) is) [ inl e ↦ absurd (cc e) | inr more ↦ absurd (Contains-none _ more) ]
+  made_commit q r v n x (enters w vcs chosen) is = absurd (Contains-none _ is)
+  made_commit q r v n x (executes w m value) is = absurd (Contains-none _ is)
 
-  pub WasMade-more : (a : Act V X) (acts : List (Act V X)) (c : Content X) → WasMade digest acts c → WasMade digest (a ∷ acts) c
+  pub WasMade-more : (a : LockAct V X) (acts : List (LockAct V X)) (c : LockContent X) → WasMade digest acts c → WasMade digest (a ∷ acts) c
   WasMade-more a acts c was = record { act = was.act; is_in = Contains-tail a was.act acts was.is_in; step = was.step; is_step = was.is_step; makes = was.makes }
 
-  pub Knows-more : (a : Act V X) (acts : List (Act V X)) (r : ℕ) (c : Content X) → Knows digest acts r c → Knows digest (a ∷ acts) r c
+  pub Knows-more : (a : LockAct V X) (acts : List (LockAct V X)) (r : ℕ) (c : LockContent X) → Knows digest acts r c → Knows digest (a ∷ acts) r c
   Knows-more a acts r c (taken b is own claims) = taken b (Contains-tail a b acts is) own claims
   Knows-more a acts r c (its_own was) = its_own (WasMade-more a acts c was)
 
   module _ (f : ℕ) where
-    pub quorum_more : (a : Act V X) (acts : List (Act V X)) (r : ℕ) (what : ℕ → Content X) → KnowsQuorum digest f acts r what → KnowsQuorum digest f (a ∷ acts) r what
+    pub quorum_more : (a : LockAct V X) (acts : List (LockAct V X)) (r : ℕ) (what : ℕ → LockContent X) → KnowsQuorum digest f acts r what → KnowsQuorum digest f (a ∷ acts) r what
     quorum_more a acts r what many = record { by = many.by; replicas = many.replicas; enough = many.enough; each = λ q is. Knows-more a acts r (what q) (many.each q is) }
 
-    pub changes_more : (a : Act V X) (acts : List (Act V X)) (r w : ℕ) (vcs : List (Change V)) → KnowsChanges digest f acts r w vcs → KnowsChanges digest f (a ∷ acts) r w vcs
+    pub changes_more : (a : LockAct V X) (acts : List (LockAct V X)) (r w : ℕ) (vcs : List (Change V)) → KnowsChanges digest f acts r w vcs → KnowsChanges digest f (a ∷ acts) r w vcs
     changes_more a acts r w vcs knows = record {
       replicas = knows.replicas;
       enough = knows.enough;
@@ -114,7 +112,7 @@ module _ {V X : Type 0} (digest : V → X) where
     }
 
     module _ (Source : ℕ → V → Type 0) where
-      backs_more : (a : Act V X) (acts : List (Act V X)) (r : ℕ) (step : Step V X) → Backs digest f Source acts r step → Backs digest f Source (a ∷ acts) r step
+      backs_more : (a : LockAct V X) (acts : List (LockAct V X)) (r : ℕ) (step : Step V X) → Backs digest f Source acts r step → Backs digest f Source (a ∷ acts) r step
       backs_more a acts r (accepts n value) backs = backs
       backs_more a acts r (signs v n x) backs = tt
       backs_more a acts r (prepares v h) backs = λ n value len is. quorum_more a acts r _ (backs n value len is)
@@ -123,7 +121,7 @@ module _ {V X : Type 0} (digest : V → X) where
       backs_more a acts r (executes v n value) backs = quorum_more a acts r _ backs
 
       module _ (goes : List V → V → Bool) (k : ℕ) where
-        pub lawful_follows : (acts : List (Act V X)) → AreLawful digest f Source goes k acts → (r : ℕ) → Follows digest goes k (steps_of acts r)
+        pub lawful_follows : (acts : List (LockAct V X)) → AreLawful digest f Source goes k acts → (r : ℕ) → Follows digest goes k (steps_of acts r)
         lawful_follows [] lawful r = tt
         lawful_follows (a ∷ acts) lawful r =
             elim (cases_Bool (a.by == r)) [
@@ -133,8 +131,8 @@ module _ {V X : Type 0} (digest : V → X) where
               | inr differ ↦ subst (λ (l : List (Step V X)). Follows digest goes k l) (sym (steps_other a acts r differ)) (lawful_follows acts lawful.2 r)
             ]
 
-        pub lawful_backs : (acts : List (Act V X)) → AreLawful digest f Source goes k acts → (r : ℕ) (step : Step V X) → Contains (steps_of acts r) step → Backs digest f Source acts r step
-        lawful_backs [] lawful r step is = absurd (none_of step is)
+        pub lawful_backs : (acts : List (LockAct V X)) → AreLawful digest f Source goes k acts → (r : ℕ) (step : Step V X) → Contains (steps_of acts r) step → Backs digest f Source acts r step
+        lawful_backs [] lawful r step is = absurd (Contains-none step is)
         lawful_backs (a ∷ acts) lawful r step is =
             elim (cases_Bool (a.by == r)) [
               | inl same ↦
@@ -147,18 +145,18 @@ module _ {V X : Type 0} (digest : V → X) where
             ]
 
 -- a content is made by its maker
-pub maker_made : {V X : Type 0} (digest : V → X) (r : ℕ) (step : Step V X) (c : Content X) → Contains (made digest r step) c → r ≡ maker_of c
+pub maker_made : {V X : Type 0} (digest : V → X) (r : ℕ) (step : Step V X) (c : LockContent X) → Contains (made digest r step) c → r ≡ maker_of c
 maker_made digest r step (Prepare q v n x) has = (made_prepare digest r q v n x step has).0
 maker_made digest r step (Commit q v n x) has = (made_commit digest r q v n x step has).0
 maker_made digest r step (ViewChange q v l) has = (made_change digest r q v l step has).0
 
 -- where what was made stands in the traces of its makers, a step rests on what its replica knows
-module _ {V X : Type 0} (digest : V → X) (f : ℕ) (faulty : List Party) (traces : ℕ → List (Step V X)) (Made : Content X → Type 0)
-    (made_by : (c : Content X) → Made c → (step : Step V X) × Contains (traces (maker_of c)) step × Contains (made digest (maker_of c) step) c) where
+module _ {V X : Type 0} (digest : V → X) (f : ℕ) (faulty : List Party) (traces : ℕ → List (Step V X)) (Made : LockContent X → Type 0)
+    (made_by : (c : LockContent X) → Made c → (step : Step V X) × Contains (traces (maker_of c)) step × Contains (made digest (maker_of c) step) c) where
   signs_in : (r v n : ℕ) (x : X) → Made (Prepare r v n x) → Contains (traces r) (signs v n x)
   signs_in r v n x was = let m = made_by (Prepare r v n x) was in subst (λ (z : Step V X). Contains (traces r) z) (made_prepare digest r r v n x m.0 m.2).1 m.1
 
-  changes_in : (r w : ℕ) (entries : List (Entry X)) → Made (ViewChange r w entries) → Contains (traces r) (changes w entries)
+  changes_in : (r w : ℕ) (entries : List (SlotEntry X)) → Made (ViewChange r w entries) → Contains (traces r) (changes w entries)
   changes_in r w entries was = let m = made_by (ViewChange r w entries) was in subst (λ (z : Step V X). Contains (traces r) z) (made_change digest r r w entries m.0 m.2).1 m.1
 
   pub commits_in : (r v n : ℕ) (x : X) → Made (Commit r v n x) → HasPrepared digest traces r v n x
@@ -167,7 +165,7 @@ module _ {V X : Type 0} (digest : V → X) (f : ℕ) (faulty : List Party) (trac
       let p = (made_commit digest r r v n x m.0 m.2).1 in
       record { values = p.values; is_in = subst (λ (z : Step V X). Contains (traces r) z) p.is_step m.1; slot = p.slot; is_at = p.is_at }
 
-  module _ (acts : List (Act V X)) (r : ℕ) (knows_made : (c : Content X) → is_faulty faulty (Replica (maker_of c)) ≡ false → Knows digest acts r c → Made c) where
+  module _ (acts : List (LockAct V X)) (r : ℕ) (knows_made : (c : LockContent X) → is_faulty faulty (Replica (maker_of c)) ≡ false → Knows digest acts r c → Made c) where
     known_certified : (v n : ℕ) (x : X) → KnowsQuorum digest f acts r (λ q. Prepare q v n x) → IsCertified f faulty traces v n x
     known_certified v n x many = record {
       by = many.by;
@@ -194,21 +192,21 @@ module _ {V X : Type 0} (digest : V → X) (f : ℕ) (faulty : List Party) (trac
       prepared = λ q is ok. commits_in q v n (digest value) (knows_made (Commit q v n (digest value)) ok.1 (backs.each q is));
     }
 
-module _ {V X : Type 0} (digest : V → X) (f : ℕ) (faulty : List Party) (acts : List (Act V X)) (honest : IsHonest digest faulty acts) where
-  claim_made : (more : List (Act V X)) → IsHonest digest faulty more → (a : Act V X) → Contains more a → (c : Content X) → Contains a.claims c
+module _ {V X : Type 0} (digest : V → X) (f : ℕ) (faulty : List Party) (acts : List (LockAct V X)) (honest : IsHonest digest faulty acts) where
+  claim_made : (more : List (LockAct V X)) → IsHonest digest faulty more → (a : LockAct V X) → Contains more a → (c : LockContent X) → Contains a.claims c
       → is_faulty faulty (Replica (maker_of c)) ≡ false → WasMade digest more c
-  claim_made [] honest a is c claims ok = absurd (none_of a is)
+  claim_made [] honest a is c claims ok = absurd (Contains-none a is)
   claim_made (b ∷ more) honest a is c claims ok =
       elim (Contains-cons_cases b more a is) [
-        | inl e ↦ WasMade-more digest b more c (honest.0 c (subst (λ (z : Act V X). Contains z.claims c) (sym e) claims) ok)
+        | inl e ↦ WasMade-more digest b more c (honest.0 c (subst (λ (z : LockAct V X). Contains z.claims c) (sym e) claims) ok)
         | inr old ↦ WasMade-more digest b more c (claim_made more honest.1 a old c claims ok)
       ]
 
-  known_made : (r : ℕ) (c : Content X) → is_faulty faulty (Replica (maker_of c)) ≡ false → Knows digest acts r c → WasMade digest acts c
+  known_made : (r : ℕ) (c : LockContent X) → is_faulty faulty (Replica (maker_of c)) ≡ false → Knows digest acts r c → WasMade digest acts c
   known_made r c ok (taken a is own claims) = claim_made acts honest a is c claims ok
   known_made r c ok (its_own was) = was
 
-  stepped : (c : Content X) → WasMade digest acts c → (step : Step V X) × Contains (steps_of acts (maker_of c)) step × Contains (made digest (maker_of c) step) c
+  stepped : (c : LockContent X) → WasMade digest acts c → (step : Step V X) × Contains (steps_of acts (maker_of c)) step × Contains (made digest (maker_of c) step) c
   stepped c was =
       let by = maker_made digest was.act.by was.step c was.makes in (
         was.step,

@@ -4,14 +4,12 @@ use Rattle.std.specs.Prelude.{Contains}
 use Rattle.std.proofs.lemmas.Bool.{cases_Bool}
 use Rattle.std.proofs.lemmas.Bool.Decides.{nat_tests}
 use Rattle.std.proofs.lemmas.Option.{none-some, same_Some}
-use Rattle.ab_abs.proofs.Counting.{Contains-head, Contains-tail}
 use Rattle.ab_lock.specs.Steps.{Cert, Change, IsBest, Ends, full, none, unfit, IsChosen}
 use Rattle.ab_lock.specs.Choosing.{Offer, beats, better, best_in, goes_on, chosen_from, chosen_of}
-use Rattle.ab_abs.proofs.Lists.{Contains-cons_cases}
-use Rattle.ab_abs.proofs.Statements.{none_of}
 use Rattle.ab_lock.proofs.Lists.{nth_grown}
 use Rattle.std.proofs.Math.Seq.{take-length}
 use Rattle.std.proofs.lemmas.List.{take-append-le}
+use Rattle.ab_num.proofs.Lists.{Contains-head, Contains-tail, Contains-cons_cases, Contains-none}
 
 module _ {V : Type 0} where
   beats_le : (a b : Offer V) → beats a b ≡ true → b.cert.at ≤ a.cert.at
@@ -60,7 +58,7 @@ module _ {V : Type 0} where
       ]
 
   best_is : (vcs : List (Change V)) (t : ℕ) → IsBestIn vcs t (best_in vcs t)
-  best_is [] t = nobody (λ other at. absurd (none_of other at))
+  best_is [] t = nobody (λ other at. absurd (Contains-none other at))
   best_is (c ∷ vcs) t = best_more c vcs t (slice_get c.certs t) (best_in vcs t) refl (best_is vcs t)
 
   -- what is chosen so far

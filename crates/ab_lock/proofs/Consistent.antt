@@ -4,10 +4,11 @@ use Rattle.std.proofs.lemmas.Bool.{cases_Bool}
 use Rattle.std.proofs.lemmas.Bool.Decides.{Decides-eqb}
 use Rattle.std.proofs.lemmas.Option.{none-some, slice_get_within}
 use Rattle.ab_lock.specs.Steps.{Cert, Step, accepts, signs, prepares, changes, enters, executes, State, cert_at, with_cert, after, state_of, Can, Follows}
-use Rattle.ab_lock.proofs.Lists.{nth_there, nth_grown}
+use Rattle.ab_lock.proofs.Lists.{nth_grown}
 use Rattle.ab_lock.proofs.CertLemmas.{with_cert-last, with_cert-other}
 use Rattle.std.proofs.lemmas.List.{length-take-le, take-append-le}
 use Rattle.std.proofs.Math.Seq.{take-length}
+use Rattle.ab_num.proofs.Lists.{slice_get_there}
 
 -- slot t has a certificate of view v or above
 abbrev pub HasCert : {V : Type 0} → List (Option (Cert V)) → ℕ → ℕ → Type 0
@@ -42,7 +43,7 @@ module _ {V X : Type 0} (digest : V → X) (goes : List V → V → Bool) (k : �
       elim (cases_Bool (suc t == length h)) [
         | inl same ↦
             let len : suc t ≡ length h = (Decides-eqb (suc t) (length h)).0 same in
-            let there = nth_there h t (omega (arith, len)) in
+            let there = slice_get_there h t (omega (arith, len)) in
             (record { at = v; value = there.0 }, with_cert-last v h certs t there.0 len there.1, le)
         | inr differ ↦
             let other : suc t ≡ length h → ⊥ = λ len. absurd (cc (differ, (Decides-eqb (suc t) (length h)).1 len)) in

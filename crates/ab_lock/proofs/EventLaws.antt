@@ -3,11 +3,10 @@ use Rattle.std.proofs.Common.{◌≡◌, ℕ, ◌+◌, ◌*◌, ◌<◌, ◌≤�
 use Rattle.std.specs.Prelude.{Contains, nat_lt}
 use Rattle.std.proofs.lemmas.Bool.{cases_Bool}
 use Rattle.std.proofs.lemmas.Bool.Decides.{nat_tests}
-use Rattle.ab_abs.proofs.Counting.{Contains-head, Contains-tail}
-use Rattle.ab_abs.proofs.Statements.{one_of, none_of}
+use Rattle.ab_num.proofs.Lists.{Contains-head, Contains-tail, Contains-one, Contains-none}
 use Rattle.ab_lock.specs.Steps.{Change, Step, State, after, state_of, entry_of, Can, Follows}
-use Rattle.ab_lock.specs.Acts.{Content, Prepare, Commit, ViewChange, Act, steps_of, Knows, its_own, KnowsChanges, Backs, AreLawful}
-use Rattle.ab_lock.specs.Votes.{Vote, settled}
+use Rattle.ab_lock.specs.Acts.{LockContent, Prepare, Commit, ViewChange, LockAct, steps_of, Knows, its_own, KnowsChanges, Backs, AreLawful}
+use Rattle.ab_lock.specs.Votes.{SlotVote, settled}
 use Rattle.ab_lock.specs.ViewChanges.{enter, leave, own_change}
 use Rattle.ab_lock.specs.Events.{Peer, act_of, state_by, votes_by, commits_by, peer_by, settles_by, entered_peer, left_peer, accept, accepted_peer}
 use Rattle.ab_lock.specs.Standing.{AreKeptVotes, ArePrepares, AreCommits, PeerStands}
@@ -20,36 +19,36 @@ state_by-state_of [] trace = refl
 state_by-state_of (step ∷ more) trace = ap (λ s. after s step) (state_by-state_of more trace)
 
 module _ {V X : Type 0} (digest : V → X) (f me : ℕ) where
-  pub kept_more : (a : Act V X) (acts : List (Act V X)) (what : ℕ → ℕ → X → Content X) (votes : List (Vote X)) → AreKeptVotes digest f acts me what votes → AreKeptVotes digest f (a ∷ acts) me what votes
+  pub kept_more : (a : LockAct V X) (acts : List (LockAct V X)) (what : ℕ → ℕ → X → LockContent X) (votes : List (SlotVote X)) → AreKeptVotes digest f acts me what votes → AreKeptVotes digest f (a ∷ acts) me what votes
   kept_more a acts what votes kept = record { once = kept.once; within = kept.within; known = λ u is. Knows-more digest a acts me (what u.by u.slot u.x) (kept.known u is) }
 
-  pub none_kept : (acts : List (Act V X)) (what : ℕ → ℕ → X → Content X) → AreKeptVotes digest f acts me what []
-  none_kept acts what = record { once = tt; within = λ u is. absurd (none_of u is); known = λ u is. absurd (none_of u is) }
+  pub none_kept : (acts : List (LockAct V X)) (what : ℕ → ℕ → X → LockContent X) → AreKeptVotes digest f acts me what []
+  none_kept acts what = record { once = tt; within = λ u is. absurd (Contains-none u is); known = λ u is. absurd (Contains-none u is) }
 
   -- what an act's own steps make is known
-  own_made : (acts : List (Act V X)) (claims : List (Content X)) (steps : List (Step V X)) (step : Step V X) → Contains steps step → KnowsMade digest f (act_of me claims steps ∷ acts) me step
+  own_made : (acts : List (LockAct V X)) (claims : List (LockContent X)) (steps : List (Step V X)) (step : Step V X) → Contains steps step → KnowsMade digest f (act_of me claims steps ∷ acts) me step
   own_made acts claims steps step is c makes = its_own (record { act = act_of me claims steps; is_in = Contains-head (act_of me claims steps) acts; step = step; is_step = is; makes = makes })
 
   -- so is its own VIEW-CHANGE
-  pub own_change_known : (acts : List (Act V X)) (claims : List (Content X)) (steps : List (Step V X)) (k : ℕ) (s : State V) (w : ℕ) → Contains steps (leave digest k s w)
+  pub own_change_known : (acts : List (LockAct V X)) (claims : List (LockContent X)) (steps : List (Step V X)) (k : ℕ) (s : State V) (w : ℕ) → Contains steps (leave digest k s w)
       → Knows digest (act_of me claims steps ∷ acts) me (ViewChange me w (map (entry_of digest) (own_change k me s).certs))
   own_change_known acts claims steps k s w is = own_made acts claims steps (leave digest k s w) is (ViewChange me w (map (entry_of digest) (own_change k me s).certs)) (Contains-head _ [])
 
-  module _ (goes : List V → V → Bool) (k : ℕ) (lt : me < 3 * f + 1) (acts : List (Act V X)) (trace : List (Step V X)) where
+  module _ (goes : List V → V → Bool) (k : ℕ) (lt : me < 3 * f + 1) (acts : List (LockAct V X)) (trace : List (Step V X)) where
     abbrev AllInView : List (Step V X) → Type 0
     AllInView more = (step : Step V X) → Contains more step → IsInView step
 
     abbrev AllMade : List (Step V X) → Type 0
     AllMade more = (step : Step V X) → Contains more step → KnowsMade digest f acts me step
 
-    votes_by_known : (more : List (Step V X)) (votes : List (Vote X)) → Follows digest goes k (more ++ trace) → AllInView more → AllMade more
+    votes_by_known : (more : List (Step V X)) (votes : List (SlotVote X)) → Follows digest goes k (more ++ trace) → AllInView more → AllMade more
         → ArePrepares digest f acts me (state_of trace).view votes → ArePrepares digest f acts me (state_of (more ++ trace)).view (votes_by me more votes)
     votes_by_known [] votes lawful here made known = known
     votes_by_known (step ∷ more) votes lawful here made known =
         votes_known digest f acts me goes k (state_of (more ++ trace)) step (votes_by me more votes) lt lawful.0 (here step (Contains-head step more)) (made step (Contains-head step more))
         (votes_by_known more votes lawful.1 (λ s is. here s (Contains-tail step s more is)) (λ s is. made s (Contains-tail step s more is)) known)
 
-    commits_by_known : (more : List (Step V X)) (commits : List (Vote X)) → Follows digest goes k (more ++ trace) → AllInView more → AllMade more
+    commits_by_known : (more : List (Step V X)) (commits : List (SlotVote X)) → Follows digest goes k (more ++ trace) → AllInView more → AllMade more
         → AreCommits digest f acts me (state_of trace).view commits → AreCommits digest f acts me (state_of (more ++ trace)).view (commits_by digest me more commits)
     commits_by_known [] commits lawful here made known = known
     commits_by_known (step ∷ more) commits lawful here made known =
@@ -58,13 +57,13 @@ module _ {V X : Type 0} (digest : V → X) (f me : ℕ) where
 
 module _ {V X : Type 0} (digest : V → X) (goes : List V → V → Bool) (k f : ℕ) (Source : ℕ → V → Type 0) (me : ℕ) (lt : me < 3 * f + 1) where
   abbrev Acts : Type 0
-  Acts = List (Act V X)
+  Acts = List (LockAct V X)
 
   abbrev Lawful : Acts → Type 0
   Lawful acts = AreLawful digest f Source goes k acts
 
   -- an act that leads from a lawful list to a lawful list, and to the peer q
-  abbrev LeadsTo : Acts → List (Content X) → List (Step V X) → Peer V X → Type 0
+  abbrev LeadsTo : Acts → List (LockContent X) → List (Step V X) → Peer V X → Type 0
   LeadsTo acts claims steps q = Lawful (act_of me claims steps ∷ acts) × PeerStands digest f (act_of me claims steps ∷ acts) me q
 
   -- one step that is allowed, and rests on what is known
@@ -75,7 +74,7 @@ module _ {V X : Type 0} (digest : V → X) (goes : List V → V → Bool) (k f :
   step_lawful acts step q lawful can backs core votes commits = (
     (
       (can, lawful_follows digest f Source goes k acts lawful me),
-      (λ other is. subst (λ (z : Step V X). Backs digest f Source (act_of me [] (step ∷ []) ∷ acts) me z) (one_of step other is) backs),
+      (λ other is. subst (λ (z : Step V X). Backs digest f Source (act_of me [] (step ∷ []) ∷ acts) me z) (Contains-one step other is) backs),
       lawful,
     ),
     record { core = core ∙ ap (λ l. state_of l) (sym (steps_own digest (act_of me [] (step ∷ [])) acts me refl)); votes = votes; commits = commits },
@@ -112,7 +111,7 @@ module _ {V X : Type 0} (digest : V → X) (goes : List V → V → Bool) (k f :
       contra v w e h = grind (arith, nat_tests)
   view_equal v w not_less (inr equal) = equal.0
 
-  entered_votes : (acts : Acts) (s : State V) (w : ℕ) (what : ℕ → ℕ → ℕ → X → Content X) (votes : List (Vote X)) → ((s.view < w) ⊎ ((s.view ≡ w) × (s.changing ≡ true)))
+  entered_votes : (acts : Acts) (s : State V) (w : ℕ) (what : ℕ → ℕ → ℕ → X → LockContent X) (votes : List (SlotVote X)) → ((s.view < w) ⊎ ((s.view ≡ w) × (s.changing ≡ true)))
       → AreKeptVotes digest f acts me (what s.view) votes → AreKeptVotes digest f acts me (what w) (cond (nat_lt s.view w) [] votes)
   entered_votes acts s w what votes may known =
       elim (cases_Bool (nat_lt s.view w)) [
@@ -133,7 +132,7 @@ module _ {V X : Type 0} (digest : V → X) (goes : List V → V → Bool) (k f :
       (entered_votes (act ∷ acts) p.core w (λ v r m x. Prepare r v m x) p.votes may (kept_more digest f me act acts _ p.votes stands.votes))
       (entered_votes (act ∷ acts) p.core w (λ v r m x. Commit r v m x) p.commits may (kept_more digest f me act acts _ p.commits stands.commits))
 
-  module _ (same : X → X → Bool) (decides : (x y : X) → Decides (same x y) (x ≡ y)) (n : ℕ) (acts : Acts) (claims : List (Content X)) (q : Peer V X) where
+  module _ (same : X → X → Bool) (decides : (x y : X) → Decides (same x y) (x ≡ y)) (n : ℕ) (acts : Acts) (claims : List (LockContent X)) (q : Peer V X) where
     abbrev more : List (Step V X)
     more = settles_by digest same goes f me n q
 

@@ -4,9 +4,10 @@ use Rattle.std.specs.Prelude.{Contains}
 use Rattle.std.proofs.lemmas.Bool.{cases_lt}
 use mathlib.Core.List.{IsPrefix}
 use Rattle.ab_num.specs.declared.party.Party.{Party}
+use Rattle.ab_num.proofs.Lists.{slice_get_there}
 use Rattle.ab_lock.specs.Steps.{Step, accepts, signs, prepares, enters, executes, state_of}
 use Rattle.ab_lock.specs.Quorums.{Occurs, IsCommittedLocally, IsCorrect, IsCertified, IsCommitted, Lock, in_accepted, in_prepared, in_executed, Premises}
-use Rattle.ab_lock.proofs.Lists.{first_in, nth_there, nth_same}
+use Rattle.ab_lock.proofs.Lists.{first_in, nth_same}
 use Rattle.ab_lock.proofs.Traces.{was_allowed, executed_step, ComesFrom, by_itself, from_choice, signed_from}
 use Rattle.ab_lock.proofs.QuorumLemmas.{correct_part}
 use Rattle.ab_lock.proofs.Locks.{one_digest, certified_of, IsLocked, lock_list}
@@ -37,8 +38,8 @@ module _ {V X : Type 0} (digest : V → X) (f : ℕ) (faulty : List Party) (trac
   same_prepared : (v n r q : ℕ) (h l : List V) → Correct r → Correct q → Contains (traces r) (prepares v h) → Contains (traces q) (prepares v l) → length h ≡ suc n → length l ≡ suc n → h ≡ l
   same_prepared v n r q h l ok_r ok_q in_r in_q len_h len_l =
       nth_same h l (len_h ∙ sym len_l) (λ t lt.
-      let a = nth_there h t lt in
-      let b = nth_there l t (omega (arith, lt, len_h, len_l)) in
+      let a = slice_get_there h t lt in
+      let b = slice_get_there l t (omega (arith, lt, len_h, len_l)) in
       let same = one_digest digest f faulty traces Source goes k p v t (digest a.0) (digest b.0)
       (certified_of digest f faulty traces Source goes k p r v h ok_r in_r t a.0 a.1)
       (certified_of digest f faulty traces Source goes k p q v l ok_q in_q t b.0 b.1) in

@@ -3,12 +3,12 @@ use Rattle.std.proofs.Common.{◌≡◌, ℕ, ◌<◌, ◌≤◌, Bool, true, So
 use Rattle.std.specs.Prelude.{Contains}
 use Rattle.std.proofs.lemmas.Option.{none-some}
 use Rattle.ab_num.specs.declared.party.Party.{Party}
-use Rattle.ab_abs.proofs.Counting.{Contains-tail}
 use Rattle.ab_lock.specs.Steps.{Step, accepts, signs, prepares, changes, enters, executes, state_of, Follows}
 use Rattle.ab_lock.specs.Quorums.{IsCorrect, in_prepared, in_executed, Premises}
 use Rattle.ab_hist.proofs.KeptLemmas.{slice_get-take}
-use Rattle.ab_lock.proofs.Lists.{nth_there, nth_same}
+use Rattle.ab_lock.proofs.Lists.{nth_same}
 use Rattle.std.proofs.lemmas.List.{length-take-le}
+use Rattle.ab_num.proofs.Lists.{Contains-tail, slice_get_there}
 use Rattle.ab_lock.proofs.Consistent.{Fit, Fit-grown, consistent}
 use Rattle.ab_lock.proofs.Traces.{views_below, executed_step, prepared_now}
 use Rattle.ab_lock.proofs.Locks.{certified_of}
@@ -46,8 +46,8 @@ module _ {V X : Type 0} (digest : V → X) (f : ℕ) (faulty : List Party) (trac
       length-take-le (length (state_of steps).executed) (state_of steps).accepted (omega (arith, lt, s.in_order, s.of_accepted)) in
       let front : (state_of steps).executed ≡ take (length (state_of steps).executed) (state_of steps).accepted =
       nth_same (state_of steps).executed (take (length (state_of steps).executed) (state_of steps).accepted) (sym len) (λ t in_e.
-      let a = nth_there (state_of steps).executed t in_e in
-      let b = nth_there (state_of steps).accepted t (omega (arith, in_e, lt, s.in_order, s.of_accepted)) in
+      let a = slice_get_there (state_of steps).executed t in_e in
+      let b = slice_get_there (state_of steps).accepted t (omega (arith, in_e, lt, s.in_order, s.of_accepted)) in
       let same = executed_prepared steps lawful its t a.0 b.0 (omega (arith, in_e, lt)) a.1 b.1 in
       a.1 ∙ (ap Some same ∙ (sym b.1 ∙ sym (slice_get-take (length (state_of steps).executed) (state_of steps).accepted t in_e)))) in
       ap (λ l. goes l value) front ∙ s.fit (length (state_of steps).executed) value is

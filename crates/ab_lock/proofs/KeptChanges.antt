@@ -1,23 +1,17 @@
 -- Keeping one more VIEW-CHANGE.
-use Rattle.std.proofs.Common.{◌≡◌, ℕ, ◌+◌, ◌*◌, ◌<◌, ◌==◌, true, false, Some, List, [], ◌∷◌, ◌⊎◌, slice_get, map, refl, sym, ap, ◌∙◌, subst, inl, inr, arith}
+use Rattle.std.proofs.Common.{◌≡◌, ℕ, ◌+◌, ◌*◌, ◌<◌, ◌==◌, false, Some, List, [], ◌∷◌, ◌⊎◌, slice_get, map, refl, sym, ap, ◌∙◌, subst, inl, inr, arith}
 use Rattle.std.specs.Prelude.{Contains, nat_eq, nat_lt, if◌then◌else◌}
 use Rattle.std.specs.List.{IsDistinct}
-use Rattle.std.proofs.lemmas.Bool.{cases_Bool}
+use Rattle.std.proofs.lemmas.Bool.{cases_Bool, ltb-true}
 use Rattle.std.proofs.lemmas.Bool.Decides.{nat_tests, Decides-eqb}
-use Rattle.ab_abs.proofs.Counting.{Contains-head, Contains-tail}
+use Rattle.ab_num.proofs.Lists.{Contains-head, Contains-tail, Contains-cons_cases, Contains-none, Contains-map_cases}
 use Rattle.ab_lock.specs.Quorums.{IsOlder}
 use Rattle.ab_lock.specs.Steps.{Cert, entry_of}
-use Rattle.ab_lock.specs.Acts.{Prepare, ViewChange, Act, Knows, KnowsQuorum}
+use Rattle.ab_lock.specs.Acts.{Prepare, ViewChange, LockAct, Knows, KnowsQuorum}
 use Rattle.ab_lock.specs.ViewChanges.{Kept, put, IsRising}
-use Rattle.ab_abs.proofs.Lists.{Contains-cons_cases}
-use Rattle.ab_abs.proofs.Statements.{none_of}
-use Rattle.ab_lock.proofs.Lists.{Contains-map_cases}
 use Rattle.ab_lock.proofs.QuorumLemmas.{out_apart}
 use Rattle.ab_lock.proofs.ActLemmas.{Knows-more, quorum_more}
 use Rattle.ab_lock.specs.Standing.{AreKeptChanges}
-
-lt_of : (a b : ℕ) → nat_lt a b ≡ true → a < b
-lt_of a b h = grind (arith, nat_tests)
 
 gt_of : (a b : ℕ) → nat_lt a b ≡ false → (a == b) ≡ false → b < a
 gt_of a b h e = grind (arith, nat_tests)
@@ -50,13 +44,13 @@ module _ {V : Type 0} where
       ]
 
   pub put_rises : (u : Kept V) (kept : List (Kept V)) → IsRising kept → IsRising (put u kept)
-  put_rises u [] rising = ((λ x is. absurd (none_of x is)), tt)
+  put_rises u [] rising = ((λ x is. absurd (Contains-none x is)), tt)
   put_rises u (w ∷ kept) rising =
       elim (cases_Bool (nat_lt u.change.by w.change.by)) [
         | inl below ↦ rw below (
           (λ x is. elim (Contains-cons_cases w kept x is) [
-            | inl e ↦ omega (arith, lt_of u.change.by w.change.by below, ap (λ z. z.change.by) e)
-            | inr more ↦ omega (arith, lt_of u.change.by w.change.by below, rising.0 x more)
+            | inl e ↦ omega (arith, ltb-true u.change.by w.change.by below, ap (λ z. z.change.by) e)
+            | inr more ↦ omega (arith, ltb-true u.change.by w.change.by below, rising.0 x more)
           ]),
           rising,
         )
@@ -91,10 +85,10 @@ module _ {V : Type 0} where
   )
 
 module _ {V X : Type 0} (digest : V → X) (f me : ℕ) where
-  abbrev Keeps : List (Act V X) → List (Kept V) → Type 0
+  abbrev Keeps : List (LockAct V X) → List (Kept V) → Type 0
   Keeps acts kept = AreKeptChanges digest f acts me kept
 
-  pub keeps_more : (a : Act V X) (acts : List (Act V X)) (kept : List (Kept V)) → Keeps acts kept → Keeps (a ∷ acts) kept
+  pub keeps_more : (a : LockAct V X) (acts : List (LockAct V X)) (kept : List (Kept V)) → Keeps acts kept → Keeps (a ∷ acts) kept
   keeps_more a acts kept keeps = record {
     once = keeps.once;
     within = keeps.within;
@@ -103,7 +97,7 @@ module _ {V X : Type 0} (digest : V → X) (f me : ℕ) where
   }
 
   -- one more that is known and fits
-  pub keeps_put : (acts : List (Act V X)) (u : Kept V) (kept : List (Kept V)) → IsRising kept → Keeps acts kept → u.change.by < 3 * f + 1
+  pub keeps_put : (acts : List (LockAct V X)) (u : Kept V) (kept : List (Kept V)) → IsRising kept → Keeps acts kept → u.change.by < 3 * f + 1
       → Knows digest acts me (ViewChange u.change.by u.view (map (entry_of digest) u.change.certs))
       → ((t : ℕ) (cert : Cert V) → slice_get u.change.certs t ≡ Some cert → IsOlder cert.at u.view × KnowsQuorum digest f acts me (λ q. Prepare q cert.at t (digest cert.value)))
       → Keeps acts (put u kept)

@@ -2,19 +2,12 @@
 use Rattle.std.proofs.Common.{◌≡◌, ℕ, zero, suc, ◌<◌, ◌≤◌, Some, List, [], ◌∷◌, ◌++◌, ◌⊎◌, length, take, slice_get, map, refl, sym, ap, ◌∙◌, subst, inl, inr, arith}
 use Rattle.std.specs.Prelude.{Contains}
 use Rattle.std.proofs.lemmas.Option.{none-some, same_Some}
-use Rattle.ab_abs.proofs.Counting.{Contains-head, Contains-tail}
-use Rattle.ab_abs.proofs.Lists.{Contains-cons_cases}
-use Rattle.ab_abs.proofs.Statements.{none_of}
+use Rattle.ab_num.proofs.Lists.{Contains-head, Contains-tail, Contains-cons_cases, Contains-none}
 
 module _ {A : Type 0} where
   pub first_in : (xs : List A) → 1 ≤ length xs → (x : A) × Contains xs x
   first_in [] some = absurd (omega arith)
   first_in (x ∷ xs) some = (x, Contains-head x xs)
-
-  pub nth_there : (xs : List A) (t : ℕ) → t < length xs → (x : A) × (slice_get xs t ≡ Some x)
-  nth_there [] t lt = absurd (omega arith)
-  nth_there (x ∷ xs) zero lt = (x, refl)
-  nth_there (x ∷ xs) (suc t) lt = nth_there xs t (omega arith)
 
   pub nth_same : (xs ys : List A) → length xs ≡ length ys → ((t : ℕ) → t < length xs → slice_get xs t ≡ slice_get ys t) → xs ≡ ys
   nth_same [] [] len each = refl
@@ -65,7 +58,7 @@ module _ {A : Type 0} where
   Contains-nth (y ∷ xs) (suc t) x e = Contains-tail y x xs (Contains-nth xs t x e)
 
   pub Contains-take : (m : ℕ) (xs : List A) (y : A) → Contains (take m xs) y → Contains xs y
-  Contains-take zero xs y is = absurd (none_of y is)
+  Contains-take zero xs y is = absurd (Contains-none y is)
   Contains-take (suc m) [] y is = is
   Contains-take (suc m) (x ∷ xs) y is =
       elim (Contains-cons_cases x (take m xs) y is) [
@@ -83,19 +76,3 @@ module _ {A B : Type 0} (g : A → B) where
   map_take zero xs = refl
   map_take (suc m) [] = refl
   map_take (suc m) (x ∷ xs) = ap (λ ys. g x ∷ ys) (map_take m xs)
-
-  pub Contains-map : (xs : List A) (x : A) → Contains xs x → Contains (map g xs) (g x)
-  Contains-map [] x is = absurd (none_of x is)
-  Contains-map (y ∷ xs) x is =
-      elim (Contains-cons_cases y xs x is) [
-        | inl e ↦ subst (λ z. Contains (map g (y ∷ xs)) (g z)) e (Contains-head (g y) (map g xs))
-        | inr more ↦ Contains-tail (g y) (g x) (map g xs) (Contains-map xs x more)
-      ]
-
-  pub Contains-map_cases : (xs : List A) (y : B) → Contains (map g xs) y → (x : A) × Contains xs x × (g x ≡ y)
-  Contains-map_cases [] y is = absurd (none_of y is)
-  Contains-map_cases (x ∷ xs) y is =
-      elim (Contains-cons_cases (g x) (map g xs) y is) [
-        | inl e ↦ (x, Contains-head x xs, e)
-        | inr more ↦ let r = Contains-map_cases xs y more in (r.0, Contains-tail x r.0 xs r.1, r.2)
-      ]

@@ -5,11 +5,12 @@ use Rattle.std.proofs.lemmas.Bool.{cases_lt}
 use Rattle.std.proofs.lemmas.Option.{none-some, slice_get_within}
 use Rattle.std.proofs.lemmas.List.{length-map}
 use Rattle.ab_num.specs.declared.party.Party.{Party}
-use Rattle.ab_lock.specs.Steps.{Cert, Entry, Change, Step, prepares, enters, entry_of, IsBest, Ends, full, none, unfit, IsChosen}
+use Rattle.ab_lock.specs.Steps.{Cert, SlotEntry, Change, Step, prepares, enters, entry_of, IsBest, Ends, full, none, unfit, IsChosen}
 use Rattle.ab_lock.specs.Quorums.{AreReplicas, IsCorrect, IsCertified, AreChanges, in_prepared, in_change, Premises}
 use Rattle.ab_hist.proofs.KeptLemmas.{slice_get-take}
-use Rattle.ab_lock.proofs.Lists.{first_in, nth_there, take_same, nth_map, Contains-map_cases}
+use Rattle.ab_lock.proofs.Lists.{first_in, take_same, nth_map}
 use Rattle.std.proofs.Math.Seq.{take-length}
+use Rattle.ab_num.proofs.Lists.{slice_get_there, Contains-map_cases}
 use Rattle.ab_lock.proofs.Consistent.{Fit}
 use Rattle.ab_lock.proofs.Traces.{was_allowed, signs_once, prepared_fit, change_names, entered, prepared_good}
 use Rattle.ab_lock.proofs.QuorumLemmas.{quorums_meet, third_meets, correct_part}
@@ -80,7 +81,7 @@ module _ {V X : Type 0} (digest : V → X) (f : ℕ) (faulty : List Party) (trac
           let cert = nth_map (entry_of digest) c.0.certs t named.0 named.1 in
           record { change = c.0; is_in_vcs = c.1; cert = cert.0; stands = cert.1; high = high_of cert.0 named.0 cert.2 named.2 }
         where
-          high_of : (c : Cert V) (e : Entry X) → entry_of digest c ≡ e → v ≤ e.at → v ≤ c.at
+          high_of : (c : Cert V) (e : SlotEntry X) → entry_of digest c ≡ e → v ≤ e.at → v ≤ c.at
           high_of c e same le = omega (arith, le, ap (λ z. z.at) same)
 
       best_is : (t : ℕ) (value best : V) → slice_get h t ≡ Some value → IsBest vcs t best → best ≡ value
@@ -116,9 +117,9 @@ module _ {V X : Type 0} (digest : V → X) (f : ℕ) (faulty : List Party) (trac
       chosen_same zero le = (omega arith, refl)
       chosen_same (suc t) le =
           let was = chosen_same t (omega arith) in
-          let here = nth_there h t (omega arith) in
+          let here = slice_get_there h t (omega arith) in
           let lt = longer t here.0 here.1 was.0 was.1 in
-          let there = nth_there chosen t lt in
+          let there = slice_get_there chosen t lt in
           let same : there.0 ≡ here.0 = best_is t here.0 there.0 here.1 (is_chosen.best t there.0 there.1) in
           (omega (arith, lt), take_same t chosen h here.0 was.1 (there.1 ∙ ap Some same) here.1)
 

@@ -2,12 +2,12 @@
 use Rattle.std.specs.Prelude.{ℕ, Bool, IsTrue, List}
 use Rattle.ab_num.specs.declared.party.Party.{Party}
 use Rattle.ab_lock.specs.Quorums.{Premises}
-use Rattle.ab_lock.specs.Acts.{Act, steps_of}
+use Rattle.ab_lock.specs.Acts.{LockAct, steps_of}
 use Rattle.ab_lock.specs.Promises.{LockPremises, ViewsLock, ExecutedAgree, ExecutedMayStand}
 use Rattle.ab_lock.proofs.ActLemmas.{premises_of}
 use Rattle.ab_lock.proofs.Executed.{lock, executed_comparable, executed_source}
 
-module _ {V X : Type 0} (digest : V → X) (may_stand : ℕ → V → Bool) (goes : List V → V → Bool) (k f : ℕ) (faulty : List Party) (acts : List (Act V X)) (met : LockPremises digest may_stand goes k f faulty acts) where
+module _ {V X : Type 0} (digest : V → X) (may_stand : ℕ → V → Bool) (goes : List V → V → Bool) (k f : ℕ) (faulty : List Party) (acts : List (LockAct V X)) (met : LockPremises digest may_stand goes k f faulty acts) where
   abbrev Source : ℕ → V → Type 0
   Source n value = IsTrue (may_stand n value)
 

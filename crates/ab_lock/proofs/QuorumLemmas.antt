@@ -1,80 +1,21 @@
 -- Distinct replicas: enough of them are correct, and two large sets meet.
-use Rattle.std.proofs.Common.{◌≡◌, ℕ, ◌+◌, ◌*◌, ◌<◌, ◌≤◌, Bool, true, false, cond, List, [], ◌∷◌, ◌⊎◌, length, refl, sym, ap, ◌∙◌, subst, inl, inr, arith}
-use Rattle.std.specs.Prelude.{Contains, ◌==◌, ◌||◌, nat_eq, count_by}
+use Rattle.std.proofs.Common.{◌≡◌, ℕ, ◌+◌, ◌*◌, ◌<◌, ◌≤◌, true, false, cond, List, [], ◌∷◌, ◌⊎◌, length, refl, sym, ap, ◌∙◌, subst, inl, inr, arith}
+use Rattle.std.specs.Prelude.{Contains, ◌||◌, nat_eq, count_by}
 use Rattle.std.specs.List.{IsDistinct, AllByRecursion, list_any}
 use Rattle.std.proofs.lemmas.Bool.{cases_Bool}
-use Rattle.std.proofs.lemmas.Bool.Decides.{nat_tests, Decides-eqb}
-use Rattle.std.proofs.lemmas.List.Sums.{sum_by-cons}
+use Rattle.std.proofs.lemmas.Bool.Decides.{Decides-eqb}
 use Rattle.std.proofs.lemmas.Map.Steps.{length-le_from_distinct_below}
 use Rattle.ab_num.specs.declared.party.Party.{Party}
-use Rattle.ab_num.specs.declared.party.Party.TheVariants.{Replica, Client}
-use Rattle.ab_num.specs.Parties.{party_eq}
+use Rattle.ab_num.specs.declared.party.Party.TheVariants.{Replica}
+use Rattle.ab_num.proofs.Lists.{count_by-yes, count_by-no, Contains-head, Contains-tail, Contains-cons_cases, Contains-none}
 use Rattle.ab_abs.specs.Faults.{is_faulty}
-use Rattle.ab_abs.proofs.Counting.{count_by-yes, count_by-no, Contains-head, Contains-tail}
 use Rattle.ab_lock.specs.Quorums.{quorum, AreReplicas}
 use Rattle.ab_msg.specs.Carried.{is_replica}
-use Rattle.ab_abs.proofs.Lists.{Contains-cons_cases}
-use Rattle.ab_abs.proofs.Statements.{none_of}
-
-module _ {A : Type 0} where
-  count_by_none : (p : A → Bool) (xs : List A) → AllByRecursion (λ y. p y ≡ false) xs → count_by p xs ≡ 0
-  count_by_none p [] none = refl
-  count_by_none p (y ∷ ys) none = count_by-no p y ys none.0 ∙ count_by_none p ys none.1
-
-  count_by_or : (p q : A → Bool) (xs : List A) → count_by (λ y. p y || q y) xs ≤ count_by p xs + count_by q xs
-  count_by_or p q [] = omega arith
-  count_by_or p q (y ∷ ys) =
-      let rest = count_by_or p q ys in
-      elim (cases_Bool (p y)) [
-        | inl in_p ↦ elim (cases_Bool (q y)) [
-          | inl in_q ↦ omega (arith, rest, count_by-yes p y ys in_p, count_by-yes q y ys in_q, count_by-yes (λ z. p z || q z) y ys (ap (λ b. b || q y) in_p))
-          | inr not_q ↦ omega (arith, rest, count_by-yes p y ys in_p, count_by-no q y ys not_q, count_by-yes (λ z. p z || q z) y ys (ap (λ b. b || q y) in_p))
-        ]
-        | inr not_p ↦ elim (cases_Bool (q y)) [
-          | inl in_q ↦ omega (arith, rest, count_by-no p y ys not_p, count_by-yes q y ys in_q, count_by-yes (λ z. p z || q z) y ys (ap (λ b. b || q y) not_p ∙ in_q))
-          | inr not_q ↦ omega (arith, rest, count_by-no p y ys not_p, count_by-no q y ys not_q, count_by-no (λ z. p z || q z) y ys (ap (λ b. b || q y) not_p ∙ not_q))
-        ]
-      ]
-
-differs_from : (r s y : ℕ) → r ≡ s → nat_eq r y ≡ false → (y == s) ≡ false
-differs_from r s y e h = grind (arith, nat_tests)
-
-all_differ : (r s : ℕ) (ys : List ℕ) → r ≡ s → AllByRecursion (λ y. nat_eq r y ≡ false) ys → AllByRecursion (λ y. (y == s) ≡ false) ys
-all_differ r s [] e h = tt
-all_differ r s (y ∷ ys) e h = (differs_from r s y e h.0, all_differ r s ys e h.1)
-
-count_by_same : (s : ℕ) (rs : List ℕ) → IsDistinct nat_eq rs → count_by (λ r. r == s) rs ≤ 1
-unfolding IsDistinct
-count_by_same s [] apart = omega arith
-count_by_same s (r ∷ rs) apart =
-    elim (cases_Bool (r == s)) [
-      | inl same ↦
-          let e : r ≡ s = (Decides-eqb r s).0 same in
-          omega (arith, count_by-yes (λ k. k == s) r rs same, count_by_none (λ k. k == s) rs (all_differ r s rs e apart.0))
-      | inr other ↦ omega (arith, count_by-no (λ k. k == s) r rs other, count_by_same s rs apart.1)
-    ]
-
-all_false : {A : Type 0} (xs : List A) → AllByRecursion (λ (y : A). false ≡ false) xs
-all_false [] = tt
-all_false (y ∷ ys) = (refl, all_false ys)
-
-one_party : (p : Party) (rs : List ℕ) → IsDistinct nat_eq rs → count_by (λ r. party_eq (Replica r) p) rs ≤ cond (is_replica p) 1 0
-one_party (Replica s) rs apart = count_by_same s rs apart
-one_party (Client c) rs apart = omega (arith, count_by_none (λ (r : ℕ). false) rs (all_false rs))
-
--- distinct replicas have few faulty ones among them
-pub faulty_few : (faulty : List Party) (rs : List ℕ) → IsDistinct nat_eq rs → count_by (λ r. is_faulty faulty (Replica r)) rs ≤ count_by is_replica faulty
-faulty_few [] rs apart = omega (arith, count_by_none (λ (r : ℕ). false) rs (all_false rs))
-faulty_few (p ∷ faulty) rs apart =
-    let either = count_by_or (λ r. party_eq (Replica r) p) (λ r. is_faulty faulty (Replica r)) rs in
-    let rest = faulty_few faulty rs apart in
-    let here = one_party p rs apart in
-    let split : count_by is_replica (p ∷ faulty) ≡ cond (is_replica p) 1 0 + count_by is_replica faulty = sum_by-cons (λ q. cond (is_replica q) 1 0) p faulty in
-    omega (arith, either, rest, here, split)
+use Rattle.ab_abs.proofs.Voters.{faulty_few}
 
 -- a number that differs from each of a list does not stand in it, and the other way round
 pub apart_out : (r : ℕ) (ys : List ℕ) → AllByRecursion (λ y. nat_eq r y ≡ false) ys → Contains ys r → ⊥
-apart_out r [] all is = none_of r is
+apart_out r [] all is = Contains-none r is
 apart_out r (y ∷ ys) all is =
     elim (Contains-cons_cases y ys r is) [
       | inl e ↦ cc (all.0, (Decides-eqb r y).1 (sym e))
@@ -92,7 +33,7 @@ out_apart r (y ∷ ys) out = (
 )
 
 find_in : (r : ℕ) (ys : List ℕ) → Contains ys r ⊎ (Contains ys r → ⊥)
-find_in r [] = inr (λ is. none_of r is)
+find_in r [] = inr (λ is. Contains-none r is)
 find_in r (y ∷ ys) =
     elim (cases_Bool (nat_eq r y)) [
       | inl same ↦ inl (subst (λ (z : ℕ). Contains (y ∷ ys) z) (sym ((Decides-eqb r y).0 same)) (Contains-head y ys))
@@ -150,7 +91,7 @@ module _ (faulty : List Party) where
   correct_no r rs is = ap (λ b. cond b (correct_of faulty rs) (r ∷ correct_of faulty rs)) is
 
   correct_in : (rs : List ℕ) (q : ℕ) → Contains (correct_of faulty rs) q → Contains rs q × (is_faulty faulty (Replica q) ≡ false)
-  correct_in [] q is = absurd (none_of q is)
+  correct_in [] q is = absurd (Contains-none q is)
   correct_in (r ∷ rs) q is =
       elim (cases_Bool (is_faulty faulty (Replica r))) [
         | inl bad ↦ let w = correct_in rs q (subst (λ (l : List ℕ). Contains l q) (correct_yes r rs bad) is) in (Contains-tail r q rs w.0, w.1)

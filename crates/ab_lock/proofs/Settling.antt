@@ -1,7 +1,7 @@
 -- A replica that goes on by itself keeps to the rules, and ends where nothing is left to do.
 use Rattle.std.proofs.Common.{◌≡◌, ℕ, zero, suc, ◌+◌, ◌*◌, ◌<◌, ◌≤◌, Bool, Option, Some, None, List, [], ◌∷◌, ◌++◌, length, refl, sym, ap, ◌∙◌, subst, arith, append_assoc, length-append}
 use Rattle.ab_lock.specs.Steps.{Step, accepts, signs, prepares, changes, enters, executes, State, after, state_of, Can, Follows}
-use Rattle.ab_lock.specs.Votes.{Vote, next, votes_after, commits_after, onward, settled}
+use Rattle.ab_lock.specs.Votes.{SlotVote, next, votes_after, commits_after, onward, settled}
 use Rattle.ab_lock.specs.Events.{state_by, votes_by, commits_by}
 use Rattle.ab_lock.proofs.Consistent.{IsConsistent, consistent}
 use Rattle.ab_lock.proofs.Traces.{prepared_length}
@@ -13,11 +13,11 @@ module _ {V X : Type 0} (digest : V → X) (me : ℕ) where
   state_by-last [] step s = refl
   state_by-last (other ∷ more) step s = ap (λ t. after t other) (state_by-last more step s)
 
-  pub votes_by-last : (more : List (Step V X)) (step : Step V X) (votes : List (Vote X)) → votes_by me (more ++ (step ∷ [])) votes ≡ votes_by me more (votes_after me step votes)
+  pub votes_by-last : (more : List (Step V X)) (step : Step V X) (votes : List (SlotVote X)) → votes_by me (more ++ (step ∷ [])) votes ≡ votes_by me more (votes_after me step votes)
   votes_by-last [] step votes = refl
   votes_by-last (other ∷ more) step votes = ap (λ t. votes_after me other t) (votes_by-last more step votes)
 
-  commits_by-last : (more : List (Step V X)) (step : Step V X) (commits : List (Vote X)) → commits_by digest me (more ++ (step ∷ [])) commits ≡ commits_by digest me more (commits_after digest me step commits)
+  commits_by-last : (more : List (Step V X)) (step : Step V X) (commits : List (SlotVote X)) → commits_by digest me (more ++ (step ∷ [])) commits ≡ commits_by digest me more (commits_after digest me step commits)
   commits_by-last [] step commits = refl
   commits_by-last (other ∷ more) step commits = ap (λ t. commits_after digest me other t) (commits_by-last more step commits)
 
@@ -48,7 +48,7 @@ module _ {V X : Type 0} (digest : V → X) (same : X → X → Bool) (goes : Lis
   raises s (executes v n value) is can here = omega (arith, length-append s.executed (value ∷ []))
 
   -- the steps that it goes on with are allowed
-  pub settled_follows : (n : ℕ) (trace : List (Step V X)) (votes commits : List (Vote X)) → Follows digest goes k trace → Follows digest goes k (settled digest same goes f me n (state_of trace) votes commits ++ trace)
+  pub settled_follows : (n : ℕ) (trace : List (Step V X)) (votes commits : List (SlotVote X)) → Follows digest goes k trace → Follows digest goes k (settled digest same goes f me n (state_of trace) votes commits ++ trace)
   settled_follows zero trace votes commits lawful = lawful
   settled_follows (suc n) trace votes commits lawful = of_next (next digest same goes f (state_of trace) votes commits) refl (λ step. settled_follows n (step ∷ trace) (votes_after me step votes) (commits_after digest me step commits))
     where
@@ -63,16 +63,16 @@ module _ {V X : Type 0} (digest : V → X) (same : X → X → Bool) (goes : Lis
           subst (λ (l : List (Step V X)). Follows digest goes k l) (sym (append_assoc (Later step) (step ∷ []) trace)) (further step (can.0, lawful))
 
   -- nothing applies after these steps
-  abbrev IsQuiet : List (Step V X) → State V → List (Vote X) → List (Vote X) → Type 0
+  abbrev IsQuiet : List (Step V X) → State V → List (SlotVote X) → List (SlotVote X) → Type 0
   IsQuiet more s votes commits = next digest same goes f (state_by more s) (votes_by me more votes) (commits_by digest me more commits) ≡ None
 
-  quiet_last : (more : List (Step V X)) (step : Step V X) (s : State V) (votes commits : List (Vote X)) → IsQuiet more (after s step) (votes_after me step votes) (commits_after digest me step commits) → IsQuiet (more ++ (step ∷ [])) s votes commits
+  quiet_last : (more : List (Step V X)) (step : Step V X) (s : State V) (votes commits : List (SlotVote X)) → IsQuiet more (after s step) (votes_after me step votes) (commits_after digest me step commits) → IsQuiet (more ++ (step ∷ [])) s votes commits
   quiet_last more step s votes commits quiet =
       ap (λ t. next digest same goes f t (votes_by me (more ++ (step ∷ [])) votes) (commits_by digest me (more ++ (step ∷ [])) commits)) (state_by-last digest me more step s)
       ∙ (ap (λ t. next digest same goes f (state_by more (after s step)) t (commits_by digest me (more ++ (step ∷ [])) commits)) (votes_by-last digest me more step votes)
       ∙ (ap (λ t. next digest same goes f (state_by more (after s step)) (votes_by me more (votes_after me step votes)) t) (commits_by-last digest me more step commits) ∙ quiet))
 
-  settled_quiet : (n : ℕ) (trace : List (Step V X)) (votes commits : List (Vote X)) → Follows digest goes k trace → 3 * suc k < n + measure (state_of trace)
+  settled_quiet : (n : ℕ) (trace : List (Step V X)) (votes commits : List (SlotVote X)) → Follows digest goes k trace → 3 * suc k < n + measure (state_of trace)
       → IsQuiet (settled digest same goes f me n (state_of trace) votes commits) (state_of trace) votes commits
   settled_quiet zero trace votes commits lawful enough = absurd (omega (arith, enough, bounded trace lawful))
   settled_quiet (suc n) trace votes commits lawful enough = of_next (next digest same goes f (state_of trace) votes commits) refl (λ step. settled_quiet n (step ∷ trace) (votes_after me step votes) (commits_after digest me step commits))
@@ -90,5 +90,5 @@ module _ {V X : Type 0} (digest : V → X) (same : X → X → Bool) (goes : Lis
           quiet_last (Later step) step (state_of trace) votes commits (further step (can.0, lawful) (omega (arith, enough, more)))
 
   -- it does all that it can
-  pub settled_ends : (trace : List (Step V X)) (votes commits : List (Vote X)) → Follows digest goes k trace → IsQuiet (settled digest same goes f me (suc (3 * suc k)) (state_of trace) votes commits) (state_of trace) votes commits
+  pub settled_ends : (trace : List (Step V X)) (votes commits : List (SlotVote X)) → Follows digest goes k trace → IsQuiet (settled digest same goes f me (suc (3 * suc k)) (state_of trace) votes commits) (state_of trace) votes commits
   settled_ends trace votes commits lawful = settled_quiet (suc (3 * suc k)) trace votes commits lawful (omega arith)

@@ -3,14 +3,12 @@ use Rattle.std.proofs.Common.{◌≡◌, ℕ, zero, suc, true, Some, List, [], �
 use Rattle.std.specs.Prelude.{Contains}
 use Rattle.std.specs.List.{IsDistinct, AllByRecursion}
 use Rattle.std.proofs.lemmas.Option.{none-some, same_Some}
-use Rattle.ab_abs.proofs.Counting.{Contains-head}
-use Rattle.ab_lock.specs.Steps.{Cert, Entry, Change, Step, signs, prepares, changes, cert_at, state_of, entry_of, Lists, IsChosen, Follows}
+use Rattle.ab_num.proofs.Lists.{Contains-head, Contains-cons_cases, Contains-none}
+use Rattle.ab_lock.specs.Steps.{Cert, SlotEntry, Change, Step, signs, prepares, changes, cert_at, state_of, entry_of, Lists, IsChosen, Follows}
 use Rattle.ab_lock.specs.Quorums.{IsOlder, AreReplicas}
-use Rattle.ab_lock.specs.Acts.{Content, Prepare, Commit, ViewChange, WasMade, Knows, its_own, KnowsQuorum, KnowsChanges, Backs, made}
+use Rattle.ab_lock.specs.Acts.{LockContent, Prepare, Commit, ViewChange, WasMade, Knows, its_own, KnowsQuorum, KnowsChanges, Backs, made}
 use Rattle.ab_lock.specs.Promises.{LockPremises}
 use Rattle.ab_lock.specs.SmallActs.{digest, goes, may_stand, cert, change, first_view, second_view, small_acts}
-use Rattle.ab_abs.proofs.Lists.{Contains-cons_cases}
-use Rattle.ab_abs.proofs.Statements.{none_of}
 use Rattle.ab_lock.proofs.ChoosingLemmas.{chosen_of-IsChosen}
 
 abbrev S : Type 0
@@ -19,7 +17,7 @@ S = Step ℕ ℕ
 lists : Lists digest (cert_at (state_of first_view).certs) (record { at = 0; x = 7 } ∷ [])
 lists = record { each = each; ends = refl }
   where
-    each : (t : ℕ) (e : Entry ℕ) → slice_get (record { at = 0; x = 7 } ∷ []) t ≡ Some e → (c : Cert ℕ) × (cert_at (state_of first_view).certs t ≡ Some c) × (e ≡ entry_of digest c)
+    each : (t : ℕ) (e : SlotEntry ℕ) → slice_get (record { at = 0; x = 7 } ∷ []) t ≡ Some e → (c : Cert ℕ) × (cert_at (state_of first_view).certs t ≡ Some c) × (e ≡ entry_of digest c)
     each zero e is = (cert, refl, sym (same_Some (record { at = 0; x = 7 }) e is))
     each (suc t) e is = absurd (none-some e is)
 
@@ -55,19 +53,19 @@ follows = (
 
 alone : AreReplicas 0 (0 ∷ [])
 unfolding IsDistinct
-alone = record { distinct = (tt, tt); within = λ r is. elim (Contains-cons_cases 0 [] r is) [ inl e ↦ omega (arith, e) | inr more ↦ absurd (none_of r more) ] }
+alone = record { distinct = (tt, tt); within = λ r is. elim (Contains-cons_cases 0 [] r is) [ inl e ↦ omega (arith, e) | inr more ↦ absurd (Contains-none r more) ] }
 
-it_made : (step : S) (c : Content ℕ) → Contains second_view step → Contains (made digest 0 step) c → WasMade digest small_acts c
+it_made : (step : S) (c : LockContent ℕ) → Contains second_view step → Contains (made digest 0 step) c → WasMade digest small_acts c
 it_made step c is makes = record { act = record { by = 0; claims = []; steps = second_view }; is_in = Contains-head (record { by = 0; claims = []; steps = second_view }) []; step = step; is_step = is; makes = makes }
 
-many : (what : ℕ → Content ℕ) → WasMade digest small_acts (what 0) → KnowsQuorum digest 0 small_acts 0 what
+many : (what : ℕ → LockContent ℕ) → WasMade digest small_acts (what 0) → KnowsQuorum digest 0 small_acts 0 what
 many what was = record {
   by = 0 ∷ [];
   replicas = alone;
   enough = refl;
   each = λ q is. elim (Contains-cons_cases 0 [] q is) [
     | inl e ↦ subst (λ (z : ℕ). Knows digest small_acts 0 (what z)) e (its_own was)
-    | inr more ↦ absurd (none_of q more)
+    | inr more ↦ absurd (Contains-none q more)
   ];
 }
 
@@ -96,11 +94,11 @@ changes_rest = record {
   enough = refl;
   signed = λ c is. elim (Contains-cons_cases change [] c is) [
     | inl e ↦ subst (λ (z : Change ℕ). Knows digest small_acts 0 (ViewChange z.by 1 (map (entry_of digest) z.certs))) e (its_own changed_1)
-    | inr more ↦ absurd (none_of c more)
+    | inr more ↦ absurd (Contains-none c more)
   ];
   fits = λ c is t d there. elim (Contains-cons_cases change [] c is) [
     | inl e ↦ fits t d (subst (λ (z : Change ℕ). slice_get z.certs t ≡ Some d) (sym e) there)
-    | inr more ↦ absurd (none_of c more)
+    | inr more ↦ absurd (Contains-none c more)
   ];
 }
   where
@@ -109,7 +107,7 @@ changes_rest = record {
     fits (suc t) d is = absurd (none-some d is)
 
 all_in : (P : S → Type 0) (xs : List S) → AllByRecursion P xs → (step : S) → Contains xs step → P step
-all_in P [] all step is = absurd (none_of step is)
+all_in P [] all step is = absurd (Contains-none step is)
 all_in P (x ∷ xs) all step is =
     elim (Contains-cons_cases x xs step is) [
       | inl e ↦ subst (λ (z : S). P z) e all.0
@@ -124,7 +122,7 @@ rests =
 pub met : LockPremises digest may_stand goes 1 0 [] small_acts
 met = record {
   few = omega arith;
-  honest = ((λ c is ok. absurd (none_of c is)), tt);
+  honest = ((λ c is ok. absurd (Contains-none c is)), tt);
   lawful = (follows, rests, tt);
   apart = λ t a b is_a is_b e. e;
 }

@@ -4,13 +4,11 @@ use Rattle.std.specs.Prelude.{Contains}
 use Rattle.std.proofs.lemmas.Bool.{cases_Bool, cases_lt}
 use Rattle.std.proofs.lemmas.Option.{none-some, same_Some, slice_get_within}
 use Rattle.std.proofs.lemmas.Bool.Decides.{Decides-eqb}
-use Rattle.ab_abs.proofs.Counting.{Contains-head, Contains-tail}
-use Rattle.ab_lock.specs.Steps.{Cert, Entry, Change, Step, accepts, signs, prepares, changes, enters, executes, State, cert_at, after, state_of, IsAt, Lists, Can, Follows}
-use Rattle.ab_abs.proofs.Lists.{Contains-cons_cases}
-use Rattle.ab_abs.proofs.Statements.{none_of}
+use Rattle.ab_lock.specs.Steps.{Cert, SlotEntry, Change, Step, accepts, signs, prepares, changes, enters, executes, State, cert_at, after, state_of, IsAt, Lists, Can, Follows}
 use Rattle.ab_hist.proofs.KeptLemmas.{slice_get-take}
-use Rattle.ab_lock.proofs.Lists.{nth_there, nth_grown, nth_still}
+use Rattle.ab_lock.proofs.Lists.{nth_grown, nth_still}
 use Rattle.std.proofs.lemmas.List.{length-take-le, take-take}
+use Rattle.ab_num.proofs.Lists.{Contains-head, Contains-tail, Contains-cons_cases, Contains-none, slice_get_there}
 use Rattle.ab_lock.proofs.Consistent.{HasCert, Fit, IsConsistent, consistent, consistent_after, view_rises, certs_rise}
 
 module _ {V X : Type 0} (digest : V → X) (goes : List V → V → Bool) (k : ℕ) where
@@ -22,7 +20,7 @@ module _ {V X : Type 0} (digest : V → X) (goes : List V → V → Bool) (k : �
 
   -- each step was allowed where it was taken
   pub was_allowed : (steps : Trace) (step : Step V X) → Lawful steps → Contains steps step → (s : State V) × IsConsistent digest goes k s × Can digest goes k s step
-  was_allowed [] step lawful is = absurd (none_of step is)
+  was_allowed [] step lawful is = absurd (Contains-none step is)
   was_allowed (last ∷ steps) step lawful is =
       elim (Contains-cons_cases last steps step is) [
         | inl e ↦ (state_of steps, consistent digest goes k steps lawful.1, subst (λ (z : Step V X). Can digest goes k (state_of steps) z) e lawful.0)
@@ -47,7 +45,7 @@ module _ {V X : Type 0} (digest : V → X) (goes : List V → V → Bool) (k : �
   view_after s (executes v n value) can = omega (arith, can.0)
 
   pub views_below : (steps : Trace) (step : Step V X) → Lawful steps → Contains steps step → view_of step ≤ (state_of steps).view
-  views_below [] step lawful is = absurd (none_of step is)
+  views_below [] step lawful is = absurd (Contains-none step is)
   views_below (last ∷ steps) step lawful is =
       elim (Contains-cons_cases last steps step is) [
         | inl e ↦ subst (λ (z : Step V X). view_of z ≤ (after (state_of steps) last).view) e (view_after (state_of steps) last lawful.0)
@@ -72,7 +70,7 @@ module _ {V X : Type 0} (digest : V → X) (goes : List V → V → Bool) (k : �
   signed_after s (executes w m value) v n x consistent can (inr here) = inr here
 
   signed_at : (steps : Trace) (v n : ℕ) (x : X) → Lawful steps → Contains steps (signs v n x) → SignedAt (state_of steps) v n x
-  signed_at [] v n x lawful is = absurd (none_of _ is)
+  signed_at [] v n x lawful is = absurd (Contains-none _ is)
   signed_at (last ∷ steps) v n x lawful is =
       elim (Contains-cons_cases last steps (signs v n x) is) [
         | inl e ↦
@@ -91,7 +89,7 @@ module _ {V X : Type 0} (digest : V → X) (goes : List V → V → Bool) (k : �
 
   -- one PREPARE at most for each view and slot
   pub signs_once : (steps : Trace) (v n : ℕ) (x y : X) → Lawful steps → Contains steps (signs v n x) → Contains steps (signs v n y) → x ≡ y
-  signs_once [] v n x y lawful one two = absurd (none_of _ one)
+  signs_once [] v n x y lawful one two = absurd (Contains-none _ one)
   signs_once (last ∷ steps) v n x y lawful one two =
       elim (Contains-cons_cases last steps (signs v n x) one) [
         | inl e ↦ elim (Contains-cons_cases last steps (signs v n y) two) [
@@ -124,7 +122,7 @@ module _ {V X : Type 0} (digest : V → X) (goes : List V → V → Bool) (k : �
 
   -- what was prepared has certificates of that view or above from then on
   cert_kept : (steps : Trace) (v : ℕ) (h : List V) (t : ℕ) → Lawful steps → Contains steps (prepares v h) → t < length h → HasCert (state_of steps).certs v t
-  cert_kept [] v h t lawful is lt = absurd (none_of _ is)
+  cert_kept [] v h t lawful is lt = absurd (Contains-none _ is)
   cert_kept (last ∷ steps) v h t lawful is lt =
       elim (Contains-cons_cases last steps (prepares v h) is) [
         | inl e ↦
@@ -136,12 +134,12 @@ module _ {V X : Type 0} (digest : V → X) (goes : List V → V → Bool) (k : �
       ]
 
   -- entries that list certificates for each slot below n
-  entries_have : (certs : List (Option (Cert V))) (entries : List (Entry X)) (v n : ℕ) → Lists digest (cert_at certs) entries → ((t : ℕ) → t < n → HasCert certs v t)
-      → (t : ℕ) → t < n → (e : Entry X) × (slice_get entries t ≡ Some e) × (v ≤ e.at)
+  entries_have : (certs : List (Option (Cert V))) (entries : List (SlotEntry X)) (v n : ℕ) → Lists digest (cert_at certs) entries → ((t : ℕ) → t < n → HasCert certs v t)
+      → (t : ℕ) → t < n → (e : SlotEntry X) × (slice_get entries t ≡ Some e) × (v ≤ e.at)
   entries_have certs entries v n lists have t lt =
       elim (cases_lt t (length entries)) [
         | inl inside ↦
-            let there = nth_there entries t inside in
+            let there = slice_get_there entries t inside in
             let listed = lists.each t there.0 there.1 in
             let has = have t lt in
             let same : listed.0 ≡ has.0 = same_Some listed.0 has.0 (sym listed.1 ∙ has.1) in
@@ -152,9 +150,9 @@ module _ {V X : Type 0} (digest : V → X) (goes : List V → V → Bool) (k : �
       ]
 
   -- a VIEW-CHANGE for a higher view names what was prepared
-  pub change_names : (steps : Trace) (v w : ℕ) (h : List V) (entries : List (Entry X)) → Lawful steps → v < w → Contains steps (prepares v h) → Contains steps (changes w entries)
-      → (t : ℕ) → t < length h → (e : Entry X) × (slice_get entries t ≡ Some e) × (v ≤ e.at)
-  change_names [] v w h entries lawful lt one two = absurd (none_of _ one)
+  pub change_names : (steps : Trace) (v w : ℕ) (h : List V) (entries : List (SlotEntry X)) → Lawful steps → v < w → Contains steps (prepares v h) → Contains steps (changes w entries)
+      → (t : ℕ) → t < length h → (e : SlotEntry X) × (slice_get entries t ≡ Some e) × (v ≤ e.at)
+  change_names [] v w h entries lawful lt one two = absurd (Contains-none _ one)
   change_names (last ∷ steps) v w h entries lawful lt one two =
       elim (Contains-cons_cases last steps (prepares v h) one) [
         | inl e ↦ elim (Contains-cons_cases last steps (changes w entries) two) [
@@ -220,7 +218,7 @@ module _ {V X : Type 0} (digest : V → X) (goes : List V → V → Bool) (k : �
       ]
 
   pub entered : (steps : Trace) (w n : ℕ) (x : X) → Lawful steps → 1 ≤ w → Contains steps (signs w n x) → AgreesWithChosen steps w n x
-  entered [] w n x lawful above is = absurd (none_of _ is)
+  entered [] w n x lawful above is = absurd (Contains-none _ is)
   entered (last ∷ steps) w n x lawful above is =
       let was : AgreesWithChosen steps w n x =
       elim (Contains-cons_cases last steps (signs w n x) is) [
@@ -289,7 +287,7 @@ module _ {V X : Type 0} (digest : V → X) (goes : List V → V → Bool) (k : �
   }
 
   pub signed_from : (steps : Trace) (w n : ℕ) (x : X) → Lawful steps → Contains steps (signs w n x) → IsFrom steps w n x
-  signed_from [] w n x lawful is = absurd (none_of _ is)
+  signed_from [] w n x lawful is = absurd (Contains-none _ is)
   signed_from (last ∷ steps) w n x lawful is =
       let was : IsFrom steps w n x =
       elim (Contains-cons_cases last steps (signs w n x) is) [
@@ -331,7 +329,7 @@ module _ {V X : Type 0} (digest : V → X) (goes : List V → V → Bool) (k : �
     prepared_now (executes v n other ∷ steps) lawful last t value lt is = prepared_now steps lawful.1 (good_tail (executes v n other) steps last) t value lt is
 
     pub prepared_good : (steps : Trace) → Lawful steps → LastIsGood steps → (v : ℕ) (h : List V) → Contains steps (prepares v h) → (t : ℕ) (value : V) → slice_get h t ≡ Some value → Good v t value
-    prepared_good [] lawful last v h is t value there = absurd (none_of _ is)
+    prepared_good [] lawful last v h is t value there = absurd (Contains-none _ is)
     prepared_good (step ∷ steps) lawful last v h is t value there =
         elim (Contains-cons_cases step steps (prepares v h) is) [
           | inl e ↦

@@ -5,17 +5,15 @@ use Rattle.std.specs.List.{IsDistinct}
 use Rattle.std.proofs.lemmas.Bool.{cases_Bool}
 use Rattle.std.proofs.lemmas.Bool.Decides.{Decides-eqb}
 use Rattle.std.proofs.lemmas.Option.{none-some, same_Some}
-use Rattle.ab_abs.proofs.Counting.{Contains-head, Contains-tail}
 use Rattle.ab_lock.specs.Quorums.{IsOlder, quorum}
 use Rattle.ab_lock.specs.Steps.{Cert, Change, Step, accepts, signs, prepares, changes, enters, executes, State, cert_at, with_cert, state_of, entry_of, Can, Follows}
-use Rattle.ab_lock.specs.Acts.{Prepare, ViewChange, Act, Knows, KnowsQuorum, KnowsChanges, Backs}
+use Rattle.ab_lock.specs.Acts.{Prepare, ViewChange, LockAct, Knows, KnowsQuorum, KnowsChanges, Backs}
 use Rattle.ab_lock.specs.ViewChanges.{Kept, cert_then, certs_from, of_view, leave, own_change, enter, lowest}
 use Rattle.ab_lock.specs.Standing.{AreKeptChanges}
 use Rattle.std.proofs.lemmas.List.{length-take-le, length-map}
-use Rattle.ab_abs.proofs.Lists.{Contains-cons_cases}
-use Rattle.ab_abs.proofs.Statements.{none_of}
+use Rattle.ab_num.proofs.Lists.{Contains-head, Contains-tail, Contains-cons_cases, Contains-none, slice_get_there, Contains-map, Contains-map_cases}
 use Rattle.ab_lock.proofs.CertLemmas.{with_cert-last, with_cert-other}
-use Rattle.ab_lock.proofs.Lists.{nth_there, nth_map, map_take, Contains-take, Contains-map, Contains-map_cases}
+use Rattle.ab_lock.proofs.Lists.{nth_map, map_take, Contains-take}
 use Rattle.ab_lock.proofs.Traces.{views_below, prepared_fit}
 use Rattle.ab_lock.proofs.QuorumLemmas.{out_apart, apart_out}
 use Rattle.ab_lock.proofs.VoteLemmas.{take_distinct}
@@ -52,7 +50,7 @@ module _ {V : Type 0} (certs : ℕ → Option (Cert V)) where
 
 module _ {V : Type 0} where
   pub of_view_in : (kept : List (Kept V)) (w : ℕ) (c : Change V) → Contains (of_view kept w) c → (u : Kept V) × Contains kept u × (u.view ≡ w) × (u.change ≡ c)
-  of_view_in [] w c is = absurd (none_of c is)
+  of_view_in [] w c is = absurd (Contains-none c is)
   of_view_in (u ∷ kept) w c is =
       elim (cases_Bool (u.view == w)) [
         | inl same ↦ elim (Contains-cons_cases u.change (of_view kept w) c (rw same at is)) [
@@ -87,7 +85,7 @@ module _ {V X : Type 0} (digest : V → X) (goes : List V → V → Bool) (k : �
 
   cert_here : (v : ℕ) (h : List V) (trace : List (Step V X)) (t : ℕ) (c : Cert V) → suc t ≡ length h → cert_at (with_cert v h (state_of trace).certs) t ≡ Some c → IsPreparedCert (prepares v h ∷ trace) t c
   cert_here v h trace t c len is =
-      let there = nth_there h t (omega (arith, len)) in
+      let there = slice_get_there h t (omega (arith, len)) in
       let e : ◌≡◌ {A = Cert V} (record { at = v; value = there.0 }) c =
       same_Some (record { at = v; value = there.0 }) c (sym (with_cert-last v h (state_of trace).certs t there.0 len there.1) ∙ is) in
       subst (λ (d : Cert V). IsPreparedCert (prepares v h ∷ trace) t d) e (record { values = h; is_in = Contains-head (prepares v h) trace; slot = sym len; there = there.1 })
@@ -138,7 +136,7 @@ module _ {V X : Type 0} (digest : V → X) (goes : List V → V → Bool) (k : �
   pub enter_can : (s : State V) (w : ℕ) (vcs : List (Change V)) → ((s.view < w) ⊎ ((s.view ≡ w) × (s.changing ≡ true))) → Can digest goes k s (enter {V = V} {X = X} goes k w vcs)
   enter_can s w vcs may = (may, chosen_of-IsChosen goes k vcs)
 
-  module _ (f : ℕ) (Source : ℕ → V → Type 0) (acts : List (Act V X)) (me : ℕ) where
+  module _ (f : ℕ) (Source : ℕ → V → Type 0) (acts : List (LockAct V X)) (me : ℕ) where
     -- a replica's own VIEW-CHANGE fits
     pub own_fits : (trace : List (Step V X)) (w : ℕ) → Follows digest goes k trace → ((step : Step V X) → Contains trace step → Backs digest f Source acts me step) → (state_of trace).view < w
         → (t : ℕ) (cert : Cert V) → slice_get (own_change k me (state_of trace)).certs t ≡ Some cert → IsOlder cert.at w × KnowsQuorum digest f acts me (λ q. Prepare q cert.at t (digest cert.value))
@@ -148,7 +146,7 @@ module _ {V X : Type 0} (digest : V → X) (goes : List V → V → Bool) (k : �
         let p = cert_prepared trace t cert has in
         (omega (arith, (cert_within trace t cert lawful has).0, lt), backed (prepares cert.at p.values) p.is_in t cert.value p.slot p.there)
 
-module _ {V X : Type 0} (digest : V → X) (f : ℕ) (acts : List (Act V X)) (me : ℕ) where
+module _ {V X : Type 0} (digest : V → X) (f : ℕ) (acts : List (LockAct V X)) (me : ℕ) where
   -- 2f + 1 kept VIEW-CHANGEs for the view are what entering it rests on
   pub lowest_known : (kept : List (Kept V)) (w : ℕ) → AreKeptChanges digest f acts me kept → quorum f ≤ length (of_view kept w) → KnowsChanges digest f acts me w (lowest f kept w)
   lowest_known kept w are many =

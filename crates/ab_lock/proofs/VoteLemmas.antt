@@ -1,53 +1,40 @@
 -- What a replica goes on to do is allowed, and rests on what it knows.
 use Rattle.std.proofs.Common.{◌≡◌, ℕ, zero, suc, ◌+◌, ◌*◌, ◌<◌, ◌≤◌, ◌==◌, Bool, true, false, Decides, Option, Some, None, List, [], ◌∷◌, ◌++◌, ◌⊎◌, length, take, slice_get, refl, sym, ap, ◌∙◌, subst, inl, inr, arith, append_assoc}
-use Rattle.std.specs.Prelude.{Contains, nat_eq, nat_lt, nat_le, ◌&&◌, ◌||◌, pred}
+use Rattle.std.specs.Prelude.{Contains, nat_eq, nat_lt, ◌&&◌, ◌||◌, pred}
 use Rattle.std.specs.List.{IsDistinct, list_any}
 use Rattle.std.proofs.lemmas.List.{length-take-le}
 use Rattle.std.proofs.lemmas.List.Elements.{Contains-append_left, Contains-append_right, Contains-append_cases}
-use Rattle.std.proofs.lemmas.Bool.{cases_Bool}
-use Rattle.std.proofs.lemmas.Bool.Decides.{nat_tests, Decides-eqb}
+use Rattle.std.proofs.lemmas.Bool.{cases_Bool, and_parts, ltb-true, leb-true}
+use Rattle.std.proofs.lemmas.Bool.Decides.{Decides-eqb}
 use Rattle.std.proofs.lemmas.Option.{none-some, same_Some}
+use Rattle.ab_num.proofs.Lists.{Contains-head, Contains-tail, Contains-cons_cases, Contains-one, Contains-none}
 use Rattle.ab_hist.proofs.KeptLemmas.{slice_get-take}
-use Rattle.ab_abs.proofs.Counting.{Contains-head, Contains-tail}
-use Rattle.ab_abs.proofs.Lists.{Contains-cons_cases}
-use Rattle.ab_abs.proofs.Statements.{one_of, none_of}
 use Rattle.ab_lock.specs.Quorums.{quorum}
 use Rattle.ab_lock.specs.Steps.{Step, accepts, signs, prepares, changes, enters, executes, State, after, state_of, Can, Follows}
-use Rattle.ab_lock.specs.Acts.{Content, Prepare, Commit, Act, Knows, KnowsQuorum, Backs, made, commit_of}
-use Rattle.ab_lock.specs.Votes.{Vote, is_for, voters, IsOnce, or_else, is_enough, where_enough, executes_at, signs_at, next_sign, next_prepare, next_execute, next, keep, keep_commit, votes_after, commits_after, onward, settled}
+use Rattle.ab_lock.specs.Acts.{LockContent, Prepare, Commit, LockAct, Knows, KnowsQuorum, Backs, made, commit_of}
+use Rattle.ab_lock.specs.Votes.{SlotVote, is_for, voters, IsOnce, or_else, is_enough, where_enough, executes_at, signs_at, next_sign, next_prepare, next_execute, next, keep, keep_commit, votes_after, commits_after, onward, settled}
 use Rattle.ab_lock.specs.Standing.{AreKeptVotes, ArePrepares, AreCommits}
 use Rattle.ab_lock.proofs.Lists.{Contains-take}
 use Rattle.ab_lock.proofs.Consistent.{IsConsistent, consistent}
 use Rattle.ab_lock.proofs.QuorumLemmas.{out_apart, apart_out}
 
-both_true : (a b : Bool) → (a && b) ≡ true → (a ≡ true) × (b ≡ true)
-both_true true true e = (refl, refl)
-both_true true false e = absurd cc
-both_true false b e = absurd cc
-
-lt_of : (a b : ℕ) → nat_lt a b ≡ true → a < b
-lt_of a b h = grind (arith, nat_tests)
-
-le_of : (a b : ℕ) → nat_le a b ≡ true → a ≤ b
-le_of a b h = grind (arith, nat_tests)
-
 module _ {X : Type 0} (same : X → X → Bool) (decides : (x y : X) → Decides (same x y) (x ≡ y)) where
-  record IsVote (votes : List (Vote X)) (n : ℕ) (x : X) (q : ℕ) : Type 0 where
-    vote : Vote X
+  record IsVote (votes : List (SlotVote X)) (n : ℕ) (x : X) (q : ℕ) : Type 0 where
+    vote : SlotVote X
     is_in : Contains votes vote
     by_is : vote.by ≡ q
     slot_is : vote.slot ≡ n
     x_is : vote.x ≡ x
 
-  vote_more : (u : Vote X) (votes : List (Vote X)) (n : ℕ) (x : X) (q : ℕ) → IsVote votes n x q → IsVote (u ∷ votes) n x q
+  vote_more : (u : SlotVote X) (votes : List (SlotVote X)) (n : ℕ) (x : X) (q : ℕ) → IsVote votes n x q → IsVote (u ∷ votes) n x q
   vote_more u votes n x q v = record { vote = v.vote; is_in = Contains-tail u v.vote votes v.is_in; by_is = v.by_is; slot_is = v.slot_is; x_is = v.x_is }
 
-  voters_in : (votes : List (Vote X)) (n : ℕ) (x : X) (q : ℕ) → Contains (voters same votes n x) q → IsVote votes n x q
-  voters_in [] n x q is = absurd (none_of q is)
+  voters_in : (votes : List (SlotVote X)) (n : ℕ) (x : X) (q : ℕ) → Contains (voters same votes n x) q → IsVote votes n x q
+  voters_in [] n x q is = absurd (Contains-none q is)
   voters_in (u ∷ votes) n x q is =
       elim (cases_Bool (is_for same u n x)) [
         | inl fits ↦
-            let b = both_true (u.slot == n) (same u.x x) fits in
+            let b = and_parts (u.slot == n) (same u.x x) fits in
             elim (Contains-cons_cases u.by (voters same votes n x) q (rw fits at is)) [
               | inl e ↦ record { vote = u; is_in = Contains-head u votes; by_is = e; slot_is = (Decides-eqb u.slot n).0 b.0; x_is = (decides u.x x).0 b.1 }
               | inr more ↦ vote_more u votes n x q (voters_in votes n x q more)
@@ -55,13 +42,13 @@ module _ {X : Type 0} (same : X → X → Bool) (decides : (x y : X) → Decides
         | inr other ↦ vote_more u votes n x q (voters_in votes n x q (rw other at is))
       ]
 
-  voters_distinct : (votes : List (Vote X)) (n : ℕ) (x : X) → IsOnce votes → IsDistinct nat_eq (voters same votes n x)
+  voters_distinct : (votes : List (SlotVote X)) (n : ℕ) (x : X) → IsOnce votes → IsDistinct nat_eq (voters same votes n x)
   unfolding IsDistinct
   voters_distinct [] n x once = tt
   voters_distinct (u ∷ votes) n x once =
       elim (cases_Bool (is_for same u n x)) [
         | inl fits ↦
-            let b = both_true (u.slot == n) (same u.x x) fits in
+            let b = and_parts (u.slot == n) (same u.x x) fits in
             let out = out_apart u.by (voters same votes n x) (λ is.
             let v = voters_in votes n x u.by is in
             once.0 v.vote v.is_in v.by_is (v.slot_is ∙ sym ((Decides-eqb u.slot n).0 b.0))) in
@@ -86,7 +73,7 @@ IsInView (enters w vcs chosen) = ⊥
 IsInView (executes v n value) = Unit {0}
 
 -- why a step comes next
-module _ {V X : Type 0} (digest : V → X) (same : X → X → Bool) (goes : List V → V → Bool) (f : ℕ) (s : State V) (votes commits : List (Vote X)) where
+module _ {V X : Type 0} (digest : V → X) (same : X → X → Bool) (goes : List V → V → Bool) (f : ℕ) (s : State V) (votes commits : List (SlotVote X)) where
   pub data IsNext : Step V X → Type 0 where
     by_sign : (value : V) → s.signed ≡ s.prepared → slice_get s.accepted s.signed ≡ Some value → IsNext (signs s.view s.signed (digest value))
     by_prepare : (value : V) → s.prepared < s.signed → slice_get s.accepted s.prepared ≡ Some value → is_enough same f votes s.prepared (digest value) ≡ true
@@ -108,7 +95,7 @@ module _ {V X : Type 0} (digest : V → X) (same : X → X → Bool) (goes : Lis
   prepare_is : (step : Step V X) → next_prepare digest same f s votes ≡ Some step → IsNext step
   prepare_is step is =
       elim (cases_Bool (nat_lt s.prepared s.signed)) [
-        | inl ahead ↦ of_value (slice_get s.accepted s.prepared) refl (lt_of s.prepared s.signed ahead) (rw ahead at is)
+        | inl ahead ↦ of_value (slice_get s.accepted s.prepared) refl (ltb-true s.prepared s.signed ahead) (rw ahead at is)
         | inr level ↦ absurd (none-some step (rw level at is))
       ]
     where
@@ -124,7 +111,7 @@ module _ {V X : Type 0} (digest : V → X) (same : X → X → Bool) (goes : Lis
   execute_is : (step : Step V X) → next_execute digest same goes f s commits ≡ Some step → IsNext step
   execute_is step is =
       elim (cases_Bool (nat_lt (length s.executed) s.prepared)) [
-        | inl ahead ↦ of_value (slice_get s.accepted (length s.executed)) refl (lt_of (length s.executed) s.prepared ahead) (rw ahead at is)
+        | inl ahead ↦ of_value (slice_get s.accepted (length s.executed)) refl (ltb-true (length s.executed) s.prepared ahead) (rw ahead at is)
         | inr level ↦ absurd (none-some step (rw level at is))
       ]
     where
@@ -135,7 +122,7 @@ module _ {V X : Type 0} (digest : V → X) (same : X → X → Bool) (goes : Lis
           elim (cases_Bool (is_enough same f commits (length s.executed) (digest value) && goes s.executed value)) [
             | inr few ↦ absurd (none-some step (rw few at is))
             | inl both ↦
-                let sure = both_true (is_enough same f commits (length s.executed) (digest value)) (goes s.executed value) both in
+                let sure = and_parts (is_enough same f commits (length s.executed) (digest value)) (goes s.executed value) both in
                 subst (λ (z : Step V X). IsNext z) (same_Some _ step (rw both at is)) (by_execute value ahead there sure.0 sure.1)
           ]
 
@@ -160,24 +147,24 @@ module _ {V X : Type 0} (digest : V → X) (same : X → X → Bool) (goes : Lis
   next_can k step (by_execute value ahead there many on) = ((refl, refl, ahead, there), tt)
 
 -- what a replica goes on with stays in its view
-pub settled_in_view : {V X : Type 0} (digest : V → X) (same : X → X → Bool) (goes : List V → V → Bool) (f me n : ℕ) (s : State V) (votes commits : List (Vote X)) (step : Step V X)
+pub settled_in_view : {V X : Type 0} (digest : V → X) (same : X → X → Bool) (goes : List V → V → Bool) (f me n : ℕ) (s : State V) (votes commits : List (SlotVote X)) (step : Step V X)
     → Contains (settled digest same goes f me n s votes commits) step → IsInView step
-settled_in_view digest same goes f me zero s votes commits step is = absurd (none_of step is)
+settled_in_view digest same goes f me zero s votes commits step is = absurd (Contains-none step is)
 settled_in_view {V} {X} digest same goes f me (suc n) s votes commits step is = of_next (next digest same goes f s votes commits) refl (λ t us cs. settled_in_view digest same goes f me n t us cs step) is
   where
     of_next : (o : Option (Step V X)) → next digest same goes f s votes commits ≡ o
-        → ((t : State V) (us cs : List (Vote X)) → Contains (settled digest same goes f me n t us cs) step → IsInView step)
+        → ((t : State V) (us cs : List (SlotVote X)) → Contains (settled digest same goes f me n t us cs) step → IsInView step)
         → Contains (onward digest same goes f me (settled digest same goes f me n) s votes commits o) step → IsInView step
-    of_next None why further has = absurd (none_of step has)
+    of_next None why further has = absurd (Contains-none step has)
     of_next (Some first) why further has =
         elim (Contains-append_cases (settled digest same goes f me n (after s first) (votes_after me first votes) (commits_after digest me first commits)) (first ∷ []) step has) [
           | inl later ↦ further (after s first) (votes_after me first votes) (commits_after digest me first commits) later
-          | inr now ↦ subst (λ (z : Step V X). IsInView z) (one_of first step now) (next_can digest same goes f s votes commits 0 first (next_is digest same goes f s votes commits first why)).1
+          | inr now ↦ subst (λ (z : Step V X). IsInView z) (Contains-one first step now) (next_can digest same goes f s votes commits 0 first (next_is digest same goes f s votes commits first why)).1
         ]
 
 -- one more vote
-none_there : {X : Type 0} (u : Vote X) (votes : List (Vote X)) → list_any (λ w. (w.by == u.by) && (w.slot == u.slot)) votes ≡ false → (w : Vote X) → Contains votes w → w.by ≡ u.by → w.slot ≡ u.slot → ⊥
-none_there u [] out w is same_by same_slot = none_of w is
+none_there : {X : Type 0} (u : SlotVote X) (votes : List (SlotVote X)) → list_any (λ w. (w.by == u.by) && (w.slot == u.slot)) votes ≡ false → (w : SlotVote X) → Contains votes w → w.by ≡ u.by → w.slot ≡ u.slot → ⊥
+none_there u [] out w is same_by same_slot = Contains-none w is
 none_there u (o ∷ votes) out w is same_by same_slot =
     elim (cases_Bool ((o.by == u.by) && (o.slot == u.slot))) [
       | inl here ↦ absurd (cc (sym (ap (λ b. b || list_any (λ w. (w.by == u.by) && (w.slot == u.slot)) votes) here) ∙ out))
@@ -190,24 +177,24 @@ none_there u (o ∷ votes) out w is same_by same_slot =
       ]
     ]
 
-module _ {V X : Type 0} (digest : V → X) (f : ℕ) (acts : List (Act V X)) (me : ℕ) where
-  pub keep_kept : (what : ℕ → ℕ → X → Content X) (u : Vote X) (votes : List (Vote X)) → AreKeptVotes digest f acts me what votes → u.by < 3 * f + 1 → Knows digest acts me (what u.by u.slot u.x) → AreKeptVotes digest f acts me what (keep u votes)
+module _ {V X : Type 0} (digest : V → X) (f : ℕ) (acts : List (LockAct V X)) (me : ℕ) where
+  pub keep_kept : (what : ℕ → ℕ → X → LockContent X) (u : SlotVote X) (votes : List (SlotVote X)) → AreKeptVotes digest f acts me what votes → u.by < 3 * f + 1 → Knows digest acts me (what u.by u.slot u.x) → AreKeptVotes digest f acts me what (keep u votes)
   keep_kept what u votes kept lt knows =
       elim (cases_Bool (list_any (λ w. (w.by == u.by) && (w.slot == u.slot)) votes)) [
         | inl there ↦ rw there kept
         | inr out ↦ rw out (record {
           once = (none_there u votes out, kept.once);
-          within = λ w is. elim (Contains-cons_cases u votes w is) [ inl e ↦ subst (λ (z : Vote X). z.by < 3 * f + 1) e lt | inr more ↦ kept.within w more ];
-          known = λ w is. elim (Contains-cons_cases u votes w is) [ inl e ↦ subst (λ (z : Vote X). Knows digest acts me (what z.by z.slot z.x)) e knows | inr more ↦ kept.known w more ];
+          within = λ w is. elim (Contains-cons_cases u votes w is) [ inl e ↦ subst (λ (z : SlotVote X). z.by < 3 * f + 1) e lt | inr more ↦ kept.within w more ];
+          known = λ w is. elim (Contains-cons_cases u votes w is) [ inl e ↦ subst (λ (z : SlotVote X). Knows digest acts me (what z.by z.slot z.x)) e knows | inr more ↦ kept.known w more ];
         })
       ]
 
   -- replica me knows what it makes by a step
   abbrev pub KnowsMade : Step V X → Type 0
-  KnowsMade step = (c : Content X) → Contains (made digest me step) c → Knows digest acts me c
+  KnowsMade step = (c : LockContent X) → Contains (made digest me step) c → Knows digest acts me c
 
   module _ (goes : List V → V → Bool) (k : ℕ) where
-    pub votes_known : (s : State V) (step : Step V X) (votes : List (Vote X)) → me < 3 * f + 1 → Can digest goes k s step → IsInView step → KnowsMade step → ArePrepares digest f acts me s.view votes
+    pub votes_known : (s : State V) (step : Step V X) (votes : List (SlotVote X)) → me < 3 * f + 1 → Can digest goes k s step → IsInView step → KnowsMade step → ArePrepares digest f acts me s.view votes
         → ArePrepares digest f acts me (after s step).view (votes_after me step votes)
     votes_known s (accepts n value) votes lt can here knows kept = absurd here
     votes_known s (signs v n x) votes lt can here knows kept =
@@ -218,13 +205,13 @@ module _ {V X : Type 0} (digest : V → X) (f : ℕ) (acts : List (Act V X)) (me
     votes_known s (enters w vcs chosen) votes lt can here knows kept = absurd here
     votes_known s (executes v n value) votes lt can here knows kept = kept
 
-    pub commits_known : (s : State V) (step : Step V X) (commits : List (Vote X)) → me < 3 * f + 1 → Can digest goes k s step → IsInView step → KnowsMade step → AreCommits digest f acts me s.view commits
+    pub commits_known : (s : State V) (step : Step V X) (commits : List (SlotVote X)) → me < 3 * f + 1 → Can digest goes k s step → IsInView step → KnowsMade step → AreCommits digest f acts me s.view commits
         → AreCommits digest f acts me (after s step).view (commits_after digest me step commits)
     commits_known s (accepts n value) commits lt can here knows kept = absurd here
     commits_known s (signs v n x) commits lt can here knows kept = kept
     commits_known s (prepares v h) commits lt can here knows kept = of_last (slice_get h (pred (length h))) knows
       where
-        of_last : (o : Option V) → ((c : Content X) → Contains (commit_of digest me v (pred (length h)) o) c → Knows digest acts me c) → AreCommits digest f acts me s.view (keep_commit digest me (pred (length h)) o commits)
+        of_last : (o : Option V) → ((c : LockContent X) → Contains (commit_of digest me v (pred (length h)) o) c → Knows digest acts me c) → AreCommits digest f acts me s.view (keep_commit digest me (pred (length h)) o commits)
         of_last None knows = kept
         of_last (Some value) knows =
             keep_kept (λ q m y. Commit q s.view m y) (record { by = me; slot = pred (length h); x = digest value }) commits kept lt
@@ -233,11 +220,11 @@ module _ {V X : Type 0} (digest : V → X) (f : ℕ) (acts : List (Act V X)) (me
     commits_known s (enters w vcs chosen) commits lt can here knows kept = absurd here
     commits_known s (executes v n value) commits lt can here knows kept = kept
 
-module _ {V X : Type 0} (digest : V → X) (same : X → X → Bool) (decides : (x y : X) → Decides (same x y) (x ≡ y)) (goes : List V → V → Bool) (k f : ℕ) (Source : ℕ → V → Type 0) (acts : List (Act V X)) (me : ℕ) where
-  enough_known : (what : ℕ → ℕ → X → Content X) (votes : List (Vote X)) (n : ℕ) (x : X) → AreKeptVotes digest f acts me what votes → is_enough same f votes n x ≡ true → KnowsQuorum digest f acts me (λ q. what q n x)
+module _ {V X : Type 0} (digest : V → X) (same : X → X → Bool) (decides : (x y : X) → Decides (same x y) (x ≡ y)) (goes : List V → V → Bool) (k f : ℕ) (Source : ℕ → V → Type 0) (acts : List (LockAct V X)) (me : ℕ) where
+  enough_known : (what : ℕ → ℕ → X → LockContent X) (votes : List (SlotVote X)) (n : ℕ) (x : X) → AreKeptVotes digest f acts me what votes → is_enough same f votes n x ≡ true → KnowsQuorum digest f acts me (λ q. what q n x)
   enough_known what votes n x kept enough =
       let all = voters same votes n x in
-      let m : quorum f ≤ length all = le_of (quorum f) (length all) enough in
+      let m : quorum f ≤ length all = leb-true (quorum f) (length all) enough in
       record {
         by = take (quorum f) all;
         replicas = record {
@@ -260,7 +247,7 @@ module _ {V X : Type 0} (digest : V → X) (same : X → X → Bool) (decides : 
       (e, same_Some value other (sym there ∙ (ap (slice_get s.accepted) (sym e) ∙ (sym (slice_get-take (suc s.prepared) s.accepted n (omega (arith, e))) ∙ at))))
 
   -- it rests on what is known
-  next_backed : (s : State V) (votes commits : List (Vote X)) (step : Step V X) → IsConsistent digest goes k s → ArePrepares digest f acts me s.view votes → AreCommits digest f acts me s.view commits
+  next_backed : (s : State V) (votes commits : List (SlotVote X)) (step : Step V X) → IsConsistent digest goes k s → ArePrepares digest f acts me s.view votes → AreCommits digest f acts me s.view commits
       → IsNext digest same goes f s votes commits step → Backs digest f Source acts me step
   next_backed s votes commits step is kept_votes kept_commits (by_sign value level there) = tt
   next_backed s votes commits step is kept_votes kept_commits (by_prepare value ahead there many) = λ n other len at.
@@ -282,15 +269,15 @@ module _ {V X : Type 0} (digest : V → X) (same : X → X → Bool) (decides : 
           | inl early ↦ good.1 other early
           | inr last ↦ elim (Contains-cons_cases step [] other last) [
             | inl e ↦ subst (λ (z : Step V X). Backs digest f Source acts me z) e backs
-            | inr never ↦ absurd (none_of other never)
+            | inr never ↦ absurd (Contains-none other never)
           ]
         ],
   )
 
-  pub settled_good : (n : ℕ) (trace : List (Step V X)) (votes commits : List (Vote X)) → me < 3 * f + 1 → Follows digest goes k trace → ArePrepares digest f acts me (state_of trace).view votes → AreCommits digest f acts me (state_of trace).view commits
+  pub settled_good : (n : ℕ) (trace : List (Step V X)) (votes commits : List (SlotVote X)) → me < 3 * f + 1 → Follows digest goes k trace → ArePrepares digest f acts me (state_of trace).view votes → AreCommits digest f acts me (state_of trace).view commits
       → ((step : Step V X) → Contains (settled digest same goes f me n (state_of trace) votes commits) step → KnowsMade digest f acts me step)
       → AllGood (settled digest same goes f me n (state_of trace) votes commits) trace
-  settled_good zero trace votes commits lt lawful kept_votes kept_commits knows = (lawful, λ step is. absurd (none_of step is))
+  settled_good zero trace votes commits lt lawful kept_votes kept_commits knows = (lawful, λ step is. absurd (Contains-none step is))
   settled_good (suc n) trace votes commits lt lawful kept_votes kept_commits knows =
       of_next (next digest same goes f (state_of trace) votes commits) refl knows (λ step. settled_good n (step ∷ trace) (votes_after me step votes) (commits_after digest me step commits))
     where
@@ -302,7 +289,7 @@ module _ {V X : Type 0} (digest : V → X) (same : X → X → Bool) (decides : 
           → ((step : Step V X) → me < 3 * f + 1 → Follows digest goes k (step ∷ trace) → ArePrepares digest f acts me (state_of (step ∷ trace)).view (votes_after me step votes)
           → AreCommits digest f acts me (state_of (step ∷ trace)).view (commits_after digest me step commits) → ((other : Step V X) → Contains (Later step) other → KnowsMade digest f acts me other) → AllGood (Later step) (step ∷ trace))
           → AllGood (onward digest same goes f me (settled digest same goes f me n) (state_of trace) votes commits o) trace
-      of_next None is knows further = (lawful, λ step has. absurd (none_of step has))
+      of_next None is knows further = (lawful, λ step has. absurd (Contains-none step has))
       of_next (Some step) is knows further =
           let s = consistent digest goes k trace lawful in
           let why = next_is digest same goes f (state_of trace) votes commits step is in

@@ -3,38 +3,38 @@ use Rattle.std.specs.Prelude.{◌≡◌, ℕ, suc, pred, ◌+◌, Bool, false, �
 use Rattle.ab_num.specs.declared.party.Party.{Party}
 use Rattle.ab_num.specs.declared.party.Party.TheVariants.{Replica}
 use Rattle.ab_abs.specs.Faults.{is_faulty}
-use Rattle.ab_lock.specs.Steps.{Cert, Entry, Change, Step, accepts, signs, prepares, changes, enters, executes, entry_of, Follows}
+use Rattle.ab_lock.specs.Steps.{Cert, SlotEntry, Change, Step, accepts, signs, prepares, changes, enters, executes, entry_of, Follows}
 use Rattle.ab_lock.specs.Quorums.{quorum, IsOlder, AreReplicas}
 
 -- what a replica signs or tags
-pub data Content (X : Type 0) : Type 0 where
-  Prepare : ℕ → ℕ → ℕ → X → Content X
-  Commit : ℕ → ℕ → ℕ → X → Content X
-  ViewChange : ℕ → ℕ → List (Entry X) → Content X
+pub data LockContent (X : Type 0) : Type 0 where
+  Prepare : ℕ → ℕ → ℕ → X → LockContent X
+  Commit : ℕ → ℕ → ℕ → X → LockContent X
+  ViewChange : ℕ → ℕ → List (SlotEntry X) → LockContent X
 
-abbrev pub maker_of : {X : Type 0} → Content X → ℕ
+abbrev pub maker_of : {X : Type 0} → LockContent X → ℕ
 maker_of (Prepare r v n x) = r
 maker_of (Commit r v n x) = r
 maker_of (ViewChange r w entries) = r
 
 -- one event of a correct replica: what others said in the message that it took, and the steps that it
 -- made, the newest first
-pub record Act (V X : Type 0) : Type 0 where
+pub record LockAct (V X : Type 0) : Type 0 where
   pub by : ℕ
-  pub claims : List (Content X)
+  pub claims : List (LockContent X)
   pub steps : List (Step V X)
 
-abbrev pub steps_of : {V X : Type 0} → List (Act V X) → ℕ → List (Step V X)
+abbrev pub steps_of : {V X : Type 0} → List (LockAct V X) → ℕ → List (Step V X)
 steps_of [] r = []
 steps_of (a ∷ acts) r = if a.by == r then a.steps ++ steps_of acts r else steps_of acts r
 
 module _ {V X : Type 0} (digest : V → X) where
-  abbrev pub commit_of : ℕ → ℕ → ℕ → Option V → List (Content X)
+  abbrev pub commit_of : ℕ → ℕ → ℕ → Option V → List (LockContent X)
   commit_of r v n None = []
   commit_of r v n (Some value) = Commit r v n (digest value) ∷ []
 
   -- what replica r signs or tags by a step
-  abbrev pub made : ℕ → Step V X → List (Content X)
+  abbrev pub made : ℕ → Step V X → List (LockContent X)
   made r (accepts n value) = []
   made r (signs v n x) = Prepare r v n x ∷ []
   made r (prepares v h) = commit_of r v (pred (length h)) (slice_get h (pred (length h)))
@@ -43,34 +43,34 @@ module _ {V X : Type 0} (digest : V → X) where
   made r (executes v n value) = []
 
   -- some act made this content
-  pub record WasMade (acts : List (Act V X)) (c : Content X) : Type 0 where
-    pub act : Act V X
+  pub record WasMade (acts : List (LockAct V X)) (c : LockContent X) : Type 0 where
+    pub act : LockAct V X
     pub is_in : Contains acts act
     pub step : Step V X
     pub is_step : Contains act.steps step
     pub makes : Contains (made act.by step) c
 
   -- r took it in some message, or it was made in these acts
-  pub data Knows (acts : List (Act V X)) (r : ℕ) (c : Content X) : Type 0 where
-    taken : (a : Act V X) → Contains acts a → a.by ≡ r → Contains a.claims c → Knows acts r c
+  pub data Knows (acts : List (LockAct V X)) (r : ℕ) (c : LockContent X) : Type 0 where
+    taken : (a : LockAct V X) → Contains acts a → a.by ≡ r → Contains a.claims c → Knows acts r c
     its_own : WasMade acts c → Knows acts r c
 
   -- each claim of a correct replica was made before
-  abbrev pub IsHonest : List Party → List (Act V X) → Type 0
+  abbrev pub IsHonest : List Party → List (LockAct V X) → Type 0
   IsHonest faulty [] = Unit {0}
   IsHonest faulty (a ∷ acts) =
-      ((c : Content X) → Contains a.claims c → is_faulty faulty (Replica (maker_of c)) ≡ false → WasMade acts c) × IsHonest faulty acts
+      ((c : LockContent X) → Contains a.claims c → is_faulty faulty (Replica (maker_of c)) ≡ false → WasMade acts c) × IsHonest faulty acts
 
   module _ (f : ℕ) where
     -- 2f + 1 replicas of whom r knows what they signed
-    pub record KnowsQuorum (acts : List (Act V X)) (r : ℕ) (what : ℕ → Content X) : Type 0 where
+    pub record KnowsQuorum (acts : List (LockAct V X)) (r : ℕ) (what : ℕ → LockContent X) : Type 0 where
       pub by : List ℕ
       pub replicas : AreReplicas f by
       pub enough : length by ≡ quorum f
       pub each : (q : ℕ) → Contains by q → Knows acts r (what q)
 
     -- 2f + 1 VIEW-CHANGEs for w, and 2f + 1 PREPAREs of a lower view for each certificate in them
-    pub record KnowsChanges (acts : List (Act V X)) (r w : ℕ) (vcs : List (Change V)) : Type 0 where
+    pub record KnowsChanges (acts : List (LockAct V X)) (r w : ℕ) (vcs : List (Change V)) : Type 0 where
       pub replicas : AreReplicas f (map (λ c. c.by) vcs)
       pub enough : length vcs ≡ quorum f
       pub signed : (c : Change V) → Contains vcs c → Knows acts r (ViewChange c.by w (map (entry_of digest) c.certs))
@@ -79,7 +79,7 @@ module _ {V X : Type 0} (digest : V → X) where
 
     module _ (Source : ℕ → V → Type 0) where
       -- what r must know for a step
-      abbrev pub Backs : List (Act V X) → ℕ → Step V X → Type 0
+      abbrev pub Backs : List (LockAct V X) → ℕ → Step V X → Type 0
       Backs acts r (accepts n value) = Source n value
       Backs acts r (signs v n x) = Unit {0}
       Backs acts r (prepares v h) = (n : ℕ) (value : V) → length h ≡ suc n → slice_get h n ≡ Some value → KnowsQuorum acts r (λ q. Prepare q v n (digest value))
@@ -89,7 +89,7 @@ module _ {V X : Type 0} (digest : V → X) where
 
       module _ (goes : List V → V → Bool) (k : ℕ) where
         -- each act goes on from the replica's earlier ones, and knows what it rests on
-        abbrev pub AreLawful : List (Act V X) → Type 0
+        abbrev pub AreLawful : List (LockAct V X) → Type 0
         AreLawful [] = Unit {0}
         AreLawful (a ∷ acts) =
             Follows digest goes k (a.steps ++ steps_of acts a.by)

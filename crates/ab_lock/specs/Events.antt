@@ -1,18 +1,18 @@
 -- Events of a replica: what it keeps, and what the steps of an event make of that.
 use Rattle.std.specs.Prelude.{ℕ, Bool, nat_lt, if◌then◌else◌, List, [], ◌∷◌, length}
 use Rattle.ab_lock.specs.Steps.{Change, Step, accepts, State, after}
-use Rattle.ab_lock.specs.Acts.{Content, Act}
-use Rattle.ab_lock.specs.Votes.{Vote, keep, votes_after, commits_after, settled}
+use Rattle.ab_lock.specs.Acts.{LockContent, LockAct}
+use Rattle.ab_lock.specs.Votes.{SlotVote, keep, votes_after, commits_after, settled}
 use Rattle.ab_lock.specs.ViewChanges.{enter, leave}
 
 -- a replica with the votes that it keeps of its view
 pub record Peer (V X : Type 0) : Type 0 where
   pub core : State V
-  pub votes : List (Vote X)
-  pub commits : List (Vote X)
+  pub votes : List (SlotVote X)
+  pub commits : List (SlotVote X)
 
 -- an event of replica me, in which it took these claims
-abbrev pub act_of : {V X : Type 0} → ℕ → List (Content X) → List (Step V X) → Act V X
+abbrev pub act_of : {V X : Type 0} → ℕ → List (LockContent X) → List (Step V X) → LockAct V X
 act_of me claims steps = record { by = me; claims = claims; steps = steps }
 
 -- from a state, and from votes, by steps, the newest first
@@ -20,12 +20,12 @@ abbrev pub state_by : {V X : Type 0} → List (Step V X) → State V → State V
 state_by [] s = s
 state_by (step ∷ steps) s = after (state_by steps s) step
 
-abbrev pub votes_by : {V X : Type 0} → ℕ → List (Step V X) → List (Vote X) → List (Vote X)
+abbrev pub votes_by : {V X : Type 0} → ℕ → List (Step V X) → List (SlotVote X) → List (SlotVote X)
 votes_by me [] votes = votes
 votes_by me (step ∷ steps) votes = votes_after me step (votes_by me steps votes)
 
 module _ {V X : Type 0} (digest : V → X) where
-  abbrev pub commits_by : ℕ → List (Step V X) → List (Vote X) → List (Vote X)
+  abbrev pub commits_by : ℕ → List (Step V X) → List (SlotVote X) → List (SlotVote X)
   commits_by me [] commits = commits
   commits_by me (step ∷ steps) commits = commits_after digest me step (commits_by me steps commits)
 
@@ -42,10 +42,10 @@ module _ {V X : Type 0} (digest : V → X) where
 
 module _ {V X : Type 0} where
   -- a PREPARE, and a COMMIT, of its view is kept if it is the first
-  abbrev pub with_vote : Vote X → Peer V X → Peer V X
+  abbrev pub with_vote : SlotVote X → Peer V X → Peer V X
   with_vote u p = record p { votes = keep u p.votes }
 
-  abbrev pub with_commit : Vote X → Peer V X → Peer V X
+  abbrev pub with_commit : SlotVote X → Peer V X → Peer V X
   with_commit u p = record p { commits = keep u p.commits }
 
   -- it accepts a value in the next slot

@@ -7,7 +7,7 @@ pub record Cert (V : Type 0) : Type 0 where
   pub value : V
 
 -- what a VIEW-CHANGE signs of a slot
-pub record Entry (X : Type 0) : Type 0 where
+pub record SlotEntry (X : Type 0) : Type 0 where
   pub at : ℕ
   pub x : X
 
@@ -22,7 +22,7 @@ pub data Step (V X : Type 0) : Type 0 where
   accepts : ℕ → V → Step V X
   signs : ℕ → ℕ → X → Step V X
   prepares : ℕ → List V → Step V X
-  changes : ℕ → List (Entry X) → Step V X
+  changes : ℕ → List (SlotEntry X) → Step V X
   enters : ℕ → List (Change V) → List V → Step V X
   executes : ℕ → ℕ → V → Step V X
 
@@ -82,7 +82,7 @@ pub record IsBest {V : Type 0} (vcs : List (Change V)) (t : ℕ) (value : V) : T
   pub highest : (other : Change V) → Contains vcs other → (c : Cert V) → slice_get other.certs t ≡ Some c → c.at ≤ cert.at
 
 module _ {V X : Type 0} (digest : V → X) where
-  abbrev pub entry_of : Cert V → Entry X
+  abbrev pub entry_of : Cert V → SlotEntry X
   entry_of c = record { at = c.at; x = digest c.value }
 
   -- slot n of h has digest x
@@ -90,8 +90,8 @@ module _ {V X : Type 0} (digest : V → X) where
   IsAt h n x = (value : V) × (slice_get h n ≡ Some value) × (digest value ≡ x)
 
   -- the entries are the certificates of slots 0 upwards, to the first that has none
-  pub record Lists (certs : ℕ → Option (Cert V)) (entries : List (Entry X)) : Type 0 where
-    pub each : (t : ℕ) (e : Entry X) → slice_get entries t ≡ Some e → (c : Cert V) × (certs t ≡ Some c) × (e ≡ entry_of c)
+  pub record Lists (certs : ℕ → Option (Cert V)) (entries : List (SlotEntry X)) : Type 0 where
+    pub each : (t : ℕ) (e : SlotEntry X) → slice_get entries t ≡ Some e → (c : Cert V) × (certs t ≡ Some c) × (e ≡ entry_of c)
     pub ends : certs (length entries) ≡ None
 
 module _ {V : Type 0} (goes : List V → V → Bool) (k : ℕ) where

@@ -9,8 +9,8 @@ use Rattle.std.proofs.lemmas.Option.{none-some, same_Some}
 use Rattle.arrayvec.specs.ArrayVec.{ArrayVec}
 use Rattle.ab_piece.specs.Joining.{Answer, dropped, more, step_of, whole}
 use Rattle.ab_loop.specs.declared.party_core.Commit.{Commit}
-use Rattle.ab_loop.specs.declared.setting.Setting.{Setting}
-use Rattle.ab_loop.specs.Cores.{Event, Rules, invoke, message, timeout}
+use Rattle.ab_loop.specs.declared.node_setting.NodeSetting.{NodeSetting}
+use Rattle.ab_loop.specs.Cores.{NodeEvent, Rules, invoke, message, timeout}
 use Rattle.ab_msg.specs.Packets.{Packet}
 use Rattle.ab_loop.specs.Outside.{capped}
 use Rattle.ab_loop.specs.Texts.{reply_text}
@@ -19,17 +19,17 @@ use Rattle.ab_loop.specs.Folds.{IsOfCore, commits_in, core_after, printed, print
 
 -- ---- lists of events and of messages
 
-core_after-append : {C : Type 0} (rules : Rules C) (core : C) (a b : List Event) → core_after rules core (a ++ b) ≡ core_after rules (core_after rules core a) b
+core_after-append : {C : Type 0} (rules : Rules C) (core : C) (a b : List NodeEvent) → core_after rules core (a ++ b) ≡ core_after rules (core_after rules core a) b
 core_after-append rules core [] b = refl
 core_after-append rules core (e ∷ a) b = core_after-append rules (rules.step core e).after a b
 
-sends_in-append : {C : Type 0} (rules : Rules C) (core : C) (a b : List Event) → sends_in rules core (a ++ b) ≡ sends_in rules core a ++ sends_in rules (core_after rules core a) b
+sends_in-append : {C : Type 0} (rules : Rules C) (core : C) (a b : List NodeEvent) → sends_in rules core (a ++ b) ≡ sends_in rules core a ++ sends_in rules (core_after rules core a) b
 sends_in-append rules core [] b = refl
 sends_in-append rules core (e ∷ a) b =
     ap (λ rest. (rules.step core e).sends ++ rest) (sends_in-append rules (rules.step core e).after a b)
     ∙ sym (append_assoc (rules.step core e).sends (sends_in rules (rules.step core e).after a) (sends_in rules (core_after rules (rules.step core e).after a) b))
 
-spent_in-append : {C : Type 0} (rules : Rules C) (core : C) (a b : List Event) → spent_in rules core (a ++ b) ≡ spent_in rules core a + spent_in rules (core_after rules core a) b
+spent_in-append : {C : Type 0} (rules : Rules C) (core : C) (a b : List NodeEvent) → spent_in rules core (a ++ b) ≡ spent_in rules core a + spent_in rules (core_after rules core a) b
 spent_in-append rules core [] b = omega arith
 spent_in-append rules core (e ∷ a) b = let rest = spent_in-append rules (rules.step core e).after a b in omega (arith, rest)
 
@@ -37,7 +37,7 @@ cons_option-append : {A : Type 0} (o : Option A) (a b : List A) → cons_option 
 cons_option-append None a b = refl
 cons_option-append (Some x) a b = refl
 
-commits_in-append : {C : Type 0} (rules : Rules C) (core : C) (a b : List Event) → commits_in rules core (a ++ b) ≡ commits_in rules core a ++ commits_in rules (core_after rules core a) b
+commits_in-append : {C : Type 0} (rules : Rules C) (core : C) (a b : List NodeEvent) → commits_in rules core (a ++ b) ≡ commits_in rules core a ++ commits_in rules (core_after rules core a) b
 commits_in-append rules core [] b = refl
 commits_in-append rules core (e ∷ a) b =
     let now = (rules.step core e).after in
@@ -56,7 +56,7 @@ latest_in old None c is = inl is
 latest_in old (Some d) c is = inr (0, omega arith, same_Some d c is)
 
 -- the numbers of messages behind others
-parcels_of-append : (s : Setting) (n : ℕ) (a b : List Packet) → n ≤ 2 ^ 64 - 1 → parcels_of s n (a ++ b) ≡ parcels_of s n a ++ parcels_of s (capped (n + length a)) b
+parcels_of-append : (s : NodeSetting) (n : ℕ) (a b : List Packet) → n ≤ 2 ^ 64 - 1 → parcels_of s n (a ++ b) ≡ parcels_of s n a ++ parcels_of s (capped (n + length a)) b
 parcels_of-append s n [] b le = let e : n ≡ capped (n + 0) = omega arith in ap (λ k. parcels_of s k b) e
 parcels_of-append s n (m ∷ a) b le =
     let next : capped (n + 1) ≤ 2 ^ 64 - 1 = omega arith in
@@ -73,7 +73,7 @@ record IsCapped {C : Type 0} (n : Node C) : Type 0 where
   spent : n.spent ≤ 2 ^ 64 - 1
 
 -- a step from a node to where the events of the step lead its core
-record Steps {C : Type 0} (rules : Rules C) (s : Setting) (n : Node C) (o : Out C) : Type 0 where
+record Steps {C : Type 0} (rules : Rules C) (s : NodeSetting) (n : Node C) (o : Out C) : Type 0 where
   core : o.node.core ≡ core_after rules n.core o.events
   number : o.node.number ≡ capped (n.number + length (sends_in rules n.core o.events))
   datagrams : o.effects.datagrams ≡ datagrams_in (parcels_of s n.number (sends_in rules n.core o.events))
@@ -82,7 +82,7 @@ record Steps {C : Type 0} (rules : Rules C) (s : Setting) (n : Node C) (o : Out 
   sent : o.node.sent ≡ capped (n.sent + length o.effects.datagrams)
   spent : o.node.spent ≡ capped (n.spent + spent_in rules n.core o.events)
 
-module _ {C : Type 0} (rules : Rules C) (s : Setting) where
+module _ {C : Type 0} (rules : Rules C) (s : NodeSetting) where
   capped_after : (n : Node C) (o : Out C) → Steps rules s n o → IsCapped o.node
   capped_after n o st = record { number = omega (arith, st.number); events = omega (arith, st.events); sent = omega (arith, st.sent); spent = omega (arith, st.spent) }
 
@@ -146,7 +146,7 @@ module _ {C : Type 0} (rules : Rules C) (s : Setting) where
   spent_one true k le = omega arith
   spent_one false k le = omega arith
 
-  event_steps : (t : ℕ) (e : Event) (n : Node C) → IsCapped n → Steps rules s n (event_step rules s t e n)
+  event_steps : (t : ℕ) (e : NodeEvent) (n : Node C) → IsCapped n → Steps rules s n (event_step rules s t e n)
   unfolding event_step
   event_steps t e n within =
       let sends = (rules.step n.core e).sends in
@@ -235,7 +235,7 @@ module _ {C : Type 0} (rules : Rules C) (s : Setting) where
   -- ---- what it prints
 
   -- what was committed in events stays so with more of them
-  commits_stay : (core : C) (a b : List Event) (c : Commit) → Contains (commits_in rules core a) c → Contains (commits_in rules core (a ++ b)) c
+  commits_stay : (core : C) (a b : List NodeEvent) (c : Commit) → Contains (commits_in rules core a) c → Contains (commits_in rules core (a ++ b)) c
   commits_stay core a b c has =
       subst (λ (cs : List Commit). Contains cs c) (sym (commits_in-append rules core a b)) (Contains-append_left (commits_in rules core a) (commits_in rules (core_after rules core a) b) c has)
 
@@ -253,7 +253,7 @@ module _ {C : Type 0} (rules : Rules C) (s : Setting) where
         | inl now ↦ elim (reached.commit c now) [
           | inl old ↦ absurd (none-some c (sym none ∙ old))
           | inr there ↦
-              subst (λ (es : List Event). Contains (commits_in rules n.core es) c) (append_assoc rest.events two.events reply.events)
+              subst (λ (es : List NodeEvent). Contains (commits_in rules n.core es) c) (append_assoc rest.events two.events reply.events)
               (commits_stay n.core (rest.events ++ two.events) reply.events c there)
         ]
         | inr earlier ↦ commits_stay n.core rest.events (turn_step rules s turn rest.node).events c (prints n start before within st none c earlier)

@@ -3,7 +3,7 @@ use Rattle.std.proofs.Common.{◌≡◌, ℕ, suc, ◌+◌, ◌-◌, ◌<◌, �
 use Rattle.std.specs.List.{count_by}
 use Rattle.std.specs.Io.KnownBytes.{Appends, Keeps}
 use Rattle.std.proofs.Math.Seq.{take-add}
-use Rattle.std.proofs.lemmas.List.{take_all, length-drop, take-append-drop, take_more}
+use Rattle.std.proofs.lemmas.List.{take-append-drop, take_more}
 use Rattle.std.proofs.lemmas.List.Sums.{sum_by-append}
 use Rattle.std.proofs.lemmas.Grind.{flat_map-append}
 use Rattle.ab_io.specs.Datagrams.{with_sent}
@@ -45,9 +45,6 @@ keeps_same (Some xs) (Some ys) same keeps = ap Some keeps
 -- a part was written
 pub says_part : (a b c : Option (List ℕ)) (bs : List ℕ) (i : ℕ) → b ≡ grown a (take i bs) → is_some c ≡ is_some b → Keeps b c → SaysPart a c bs
 says_part a b c bs i first same keeps = (take i bs, drop i bs, sym (take-append-drop i bs), keeps_same b c same keeps ∙ first)
-
-pub rest_is : (bs : List ℕ) (i : ℕ) → take (length bs - i) (drop i bs) ≡ drop i bs
-rest_is bs i = take_all (length bs - i) (drop i bs) (omega (arith, length-drop i bs))
 
 -- ---- datagrams
 

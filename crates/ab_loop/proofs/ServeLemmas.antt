@@ -1,12 +1,12 @@
 -- A node from its start to its end.
-use Rattle.std.proofs.Common.{◌≡◌, ℕ, ◌+◌, ◌≤◌, ◌==◌, ◌&&◌, List, length, Option, None, Some, Bool, true, false, Result, Ok, Err, IfOk, IfErr, IfSome, inl, inr, refl, ap, sym, subst, ◌∙◌, eqb-true, arith}
+use Rattle.std.proofs.Common.{◌≡◌, ℕ, ◌+◌, ◌≤◌, ◌==◌, ◌&&◌, List, length, Option, None, Some, Bool, true, false, Err, IfSome, inl, inr, refl, ap, sym, subst, ◌∙◌, eqb-true, arith}
 use Rattle.arrayvec.specs.ArrayVec.{ArrayVec}
 use Rattle.ab_io.specs.Causes.{Rose}
 use Rattle.ab_io.specs.Readings.{Readings, next_reading}
 use Rattle.ab_loop.specs.declared.fault.ServeFault.{ServeFault}
 use Rattle.ab_loop.specs.declared.fault.ServeFault.TheVariants as fault
 use Rattle.ab_loop.specs.declared.serving.Served.{Served}
-use Rattle.ab_loop.specs.declared.setting.Setting.{Setting}
+use Rattle.ab_loop.specs.declared.node_setting.NodeSetting.{NodeSetting}
 use Rattle.ab_loop.specs.Cores.{Rules}
 use Rattle.ab_loop.specs.Outside.{capped, Datagram, Effects, writing, both, Outside, outside, grown, DidAll, DidPart, SaysPart, SayFault, Counts, counts, Rises, Counted}
 use Rattle.ab_loop.specs.Texts.{end_text}
@@ -15,14 +15,6 @@ use Rattle.ab_loop.specs.Runs.{Start, end_of, end_line, start_of, HasRun, HasBro
 use Rattle.ab_loop.proofs.DidLemmas.{all_then, part_first, part_then, part_none, all_said, part_said}
 use Rattle.ab_loop.proofs.FollowsLemmas.{cause_later, counted_earlier, say_fault}
 use Rattle.ab_loop.proofs.DriveLemmas.{no_turns}
-
-pub if_ok_map : {T E : Type 0} {P Q : T → Type 0} (r : Result T E) → ((x : T) → P x → Q x) → IfOk r P → IfOk r Q
-if_ok_map (Ok x) f p = f x p
-if_ok_map (Err e) f p = tt
-
-pub if_err_map : {T E : Type 0} {P Q : E → Type 0} (r : Result T E) → ((x : E) → P x → Q x) → IfErr r P → IfErr r Q
-if_err_map (Ok x) f p = tt
-if_err_map (Err e) f p = f e p
 
 -- ---- before the first event
 
@@ -93,7 +85,7 @@ module _ {C : Type 0} (rules : Rules C) (x : Start C) (h : Option (List ℕ)) (s
   fails_opened (fault.TurnsSpent n) r = record { lost = r.lost; run = run_opened r.lost r.run; used = r.used; client = r.client; some = r.some; unanswered = r.unanswered }
 
 -- the same start, where the link tells the same
-pub same_start : {C : Type 0} (P : Start C → Type 0) (setting : Setting) (turns : ℕ) (core : C) (commands : List (ArrayVec ℕ)) (clock : Option Readings) (link link' : Option (List (List ℕ)))
+pub same_start : {C : Type 0} (P : Start C → Type 0) (setting : NodeSetting) (turns : ℕ) (core : C) (commands : List (ArrayVec ℕ)) (clock : Option Readings) (link link' : Option (List (List ℕ)))
     → link' ≡ link → P (start_of setting turns core commands clock link') → P (start_of setting turns core commands clock link)
 same_start P setting turns core commands clock link link' e p = subst (λ (y : Option (List (List ℕ))). P (start_of setting turns core commands clock y)) e p
 

@@ -4,7 +4,7 @@ use Rattle.std.proofs.Math.Seq.{drop-nil}
 use Rattle.std.proofs.Math.ListN.{drop_of_length-le}
 use Rattle.ab_piece.specs.Joining.{Answer, step_of}
 use Rattle.ab_loop.specs.declared.party_core.Commit.{Commit}
-use Rattle.ab_loop.specs.declared.setting.Setting.{Setting}
+use Rattle.ab_loop.specs.declared.node_setting.NodeSetting.{NodeSetting}
 use Rattle.ab_loop.specs.Cores.{Rules}
 use Rattle.ab_loop.specs.declared.fault.ServeFault.{ServeFault}
 use Rattle.ab_loop.specs.Outside.{capped, Datagram, Outside, outside, Counts, counts, grown, SaysPart, SayFault}
@@ -20,23 +20,23 @@ drop_next (x ∷ xs) (suc d) = let e : suc d + 1 ≡ suc (d + 1) = omega arith i
 pub drop_end : {A : Type 0} (xs : List A) (d : ℕ) → length xs ≤ d → drop d xs ≡ drop 1 (drop d xs)
 drop_end xs d le = let e = drop_of_length-le xs {i = d} le in e ∙ sym (ap (drop 1) e)
 
-pub datagram_step_is : {C : Type 0} (rules : Rules C) (s : Setting) (t : ℕ) (node : Node C) (bytes : List ℕ) (a : Answer) → a ≡ (step_of node.joiner bytes).answer
+pub datagram_step_is : {C : Type 0} (rules : Rules C) (s : NodeSetting) (t : ℕ) (node : Node C) (bytes : List ℕ) (a : Answer) → a ≡ (step_of node.joiner bytes).answer
     → datagram_step rules s t (Some bytes) node ≡ joined_step rules s t a (with_joiner (step_of node.joiner bytes).after node)
 unfolding datagram_step
 datagram_step_is rules s t node bytes a e = ap (λ x. joined_step rules s t x (with_joiner (step_of node.joiner bytes).after node)) (sym e)
 
-pub reply_step_some : {C : Type 0} (rules : Rules C) (s : Setting) (t : ℕ) (node : Node C) (c : Commit) → node.commit ≡ Some c
+pub reply_step_some : {C : Type 0} (rules : Rules C) (s : NodeSetting) (t : ℕ) (node : Node C) (c : Commit) → node.commit ≡ Some c
     → reply_step rules s t node ≡ and_then (text_step (after_reply node) (reply_text c)) (command_step rules s t)
 unfolding reply_step
 reply_step_some rules s t node c e = rw e
 
-pub reply_step_none : {C : Type 0} (rules : Rules C) (s : Setting) (t : ℕ) (node : Node C) → node.commit ≡ None → reply_step rules s t node ≡ no_step node
+pub reply_step_none : {C : Type 0} (rules : Rules C) (s : NodeSetting) (t : ℕ) (node : Node C) → node.commit ≡ None → reply_step rules s t node ≡ no_step node
 unfolding reply_step
 reply_step_none rules s t node e = rw e
 
 -- ---- a reply
 
-pub replies : {C : Type 0} (rules : Rules C) (s : Setting) (t : ℕ) (node n1 n2 : Node C) (c : Commit) (h0 h1 : Option (List ℕ)) (sent : Option (List Datagram)) (f l o0 o1 : ℕ)
+pub replies : {C : Type 0} (rules : Rules C) (s : NodeSetting) (t : ℕ) (node n1 n2 : Node C) (c : Commit) (h0 h1 : Option (List ℕ)) (sent : Option (List Datagram)) (f l o0 o1 : ℕ)
     (o3 : Outside) (k3 : Counts) (r : Result ℕ ServeFault)
     → node.commit ≡ Some c → n1 ≡ after_reply node → h1 ≡ grown h0 (reply_text c) → o0 ≤ o1
     → Follows n2 (outside h1 sent) o3 (counts f o1 l) k3 (command_step rules s t n1) r
@@ -47,7 +47,7 @@ replies {C = C} rules s t node n1 n2 c h0 h1 sent f l o0 o1 o3 k3 r commit same 
     (follows_then n1 n2 (outside h0 sent) (outside h1 sent) o3 (counts f o0 l) (counts f o1 l) k3 a (command_step rules s t) r
     (follows_said n1 (after_reply node) h0 h1 sent f l o0 o1 (reply_text c) same wrote out) second)
 
-pub reply_fails : {C : Type 0} (rules : Rules C) (s : Setting) (t : ℕ) (node n1 : Node C) (c : Commit) (h0 h1 : Option (List ℕ)) (sent : Option (List Datagram)) (f l o0 o1 : ℕ) (why : ServeFault)
+pub reply_fails : {C : Type 0} (rules : Rules C) (s : NodeSetting) (t : ℕ) (node n1 : Node C) (c : Commit) (h0 h1 : Option (List ℕ)) (sent : Option (List Datagram)) (f l o0 o1 : ℕ) (why : ServeFault)
     → node.commit ≡ Some c → SaysPart h0 h1 (reply_text c) → o0 ≤ o1 → SayFault why o0 o1
     → Follows n1 (outside h0 sent) (outside h1 sent) (counts f o0 l) (counts f o1 l) (reply_step rules s t node) (Err why)
 reply_fails {C = C} rules s t node n1 c h0 h1 sent f l o0 o1 why commit part out cause =
@@ -58,7 +58,7 @@ reply_fails {C = C} rules s t node n1 c h0 h1 sent f l o0 o1 why commit part out
 
 -- ---- a turn
 
-module _ {C : Type 0} (rules : Rules C) (s : Setting) (t : ℕ) (got : Option (List ℕ)) (node : Node C) where
+module _ {C : Type 0} (rules : Rules C) (s : NodeSetting) (t : ℕ) (got : Option (List ℕ)) (node : Node C) where
   pub turn_done : (n1 n2 n3 : Node C) (o0 o1 o2 o3 : Outside) (k0 k1 k2 k3 : Counts) (l m n x y : ℕ) → x ≡ capped (l + m) → y ≡ capped (x + n)
       → Follows n1 o0 o1 k0 k1 (timer_step rules s t node) (Ok l) → Follows n2 o1 o2 k1 k2 (datagram_step rules s t got n1) (Ok m) → Follows n3 o2 o3 k2 k3 (reply_step rules s t n2) (Ok n)
       → Follows n3 o0 o3 k0 k3 (turn_step rules s (record { reading = t; got = got }) node) (Ok y)

@@ -2,16 +2,16 @@
 use Rattle.std.specs.Prelude.{ℕ, List, Option, Bool}
 use Rattle.ab_msg.specs.Packets.{Packet}
 use Rattle.ab_loop.specs.declared.party_core.Commit.{Commit}
-use Rattle.ab_loop.specs.declared.party_core.Input.{Input}
-use Rattle.ab_loop.specs.declared.party_core.Input.TheVariants as input
+use Rattle.ab_loop.specs.declared.party_core.NodeEventRef.{NodeEventRef}
+use Rattle.ab_loop.specs.declared.party_core.NodeEventRef.TheVariants as input
 
 -- what comes to a core: a command, a message's bytes, or the end of its timer
-pub data Event : Type 0 where
-  invoke : List ℕ → Event
-  message : List ℕ → Event
-  timeout : Event
+pub data NodeEvent : Type 0 where
+  invoke : List ℕ → NodeEvent
+  message : List ℕ → NodeEvent
+  timeout : NodeEvent
 
-abbrev pub event_of : Input → Event
+abbrev pub event_of : NodeEventRef → NodeEvent
 event_of (input.Invoke command) = invoke command.now
 event_of (input.Message bytes) = message bytes.now
 event_of input.Timeout = timeout
@@ -25,5 +25,5 @@ pub record Reaction (C : Type 0) : Type 0 where
 
 -- the rules of a core with the states C: what each event does, and whether the timer is on, and with which number
 pub record Rules (C : Type 0) : Type 0 where
-  pub step : C → Event → Reaction C
+  pub step : C → NodeEvent → Reaction C
   pub timer : C → Option ℕ

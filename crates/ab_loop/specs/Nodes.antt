@@ -8,19 +8,19 @@ use Rattle.ab_loop.specs.declared.fault.ServeFault.{ServeFault}
 use Rattle.ab_num.specs.declared.party.Party.{Party}
 use Rattle.ab_num.specs.declared.party.Party.TheVariants.{Replica, Client}
 use Rattle.ab_piece.specs.Pieces.{cut_of}
-use Rattle.ab_piece.specs.Joining.{Opened, Answer, whole, more, dropped, step_of}
+use Rattle.ab_piece.specs.Joining.{OpenMessage, Answer, whole, more, dropped, step_of}
 use Rattle.ab_loop.specs.declared.party_core.Commit.{Commit}
-use Rattle.ab_loop.specs.Cores.{Event, invoke, message, timeout, Reaction, Rules}
+use Rattle.ab_loop.specs.Cores.{NodeEvent, invoke, message, timeout, Reaction, Rules}
 use Rattle.ab_msg.specs.Packets.{Packet}
 use Rattle.ab_loop.specs.Outside.{capped, Datagram, Effects, nothing, writing, sending, both, Outside, Counts, Does, Counted}
 use Rattle.ab_loop.specs.Texts.{event_text, reply_text}
-use Rattle.ab_loop.specs.declared.setting.Setting.{Setting}
+use Rattle.ab_loop.specs.declared.node_setting.NodeSetting.{NodeSetting}
 
 -- ---- a node's state
 
 pub record Node (C : Type 0) : Type 0 where
   pub core : C
-  pub joiner : List Opened
+  pub joiner : List OpenMessage
   -- when the timer runs out, where it is on
   pub deadline : ℕ
   -- the number of the last message that was sent
@@ -38,7 +38,7 @@ pub record Node (C : Type 0) : Type 0 where
 pub record Out (C : Type 0) : Type 0 where
   pub node : Node C
   pub effects : Effects
-  pub events : List Event
+  pub events : List NodeEvent
 
 abbrev pub no_step : {C : Type 0} → Node C → Out C
 no_step node = record { node = node; effects = nothing; events = [] }
@@ -57,11 +57,11 @@ port_of base (Replica r) = base + r
 port_of base (Client c) = base + 100 + c
 
 -- the datagrams of a message
-unfoldable pub parcel_of : Setting → ℕ → Packet → List Datagram
+unfoldable pub parcel_of : NodeSetting → ℕ → Packet → List Datagram
 parcel_of s number m = map (λ piece. (port_of s.base m.to, piece)) (cut_of s.me number m.bytes)
 
 -- the datagrams of each message, where the last one before them had this number
-abbrev pub parcels_of : Setting → ℕ → List Packet → List (List Datagram)
+abbrev pub parcels_of : NodeSetting → ℕ → List Packet → List (List Datagram)
 parcels_of s number [] = []
 parcels_of s number (m ∷ ms) = parcel_of s (capped (number + 1)) m ∷ parcels_of s (capped (number + 1)) ms
 
@@ -71,7 +71,7 @@ datagrams_in parcels = flat_map (λ p. p) parcels
 -- ---- one event
 
 -- t and W, and the last number where that is more
-abbrev pub next_deadline : Setting → ℕ → ℕ
+abbrev pub next_deadline : NodeSetting → ℕ → ℕ
 next_deadline s t = capped (t + s.wait)
 
 abbrev pub same_timer : Option ℕ → Option ℕ → Bool
@@ -85,11 +85,11 @@ latest old None = old
 latest old (Some c) = Some c
 
 -- the deadline after an event: a new one where the core's timer changed
-abbrev pub deadline_after : Setting → ℕ → ℕ → Option ℕ → Option ℕ → ℕ
+abbrev pub deadline_after : NodeSetting → ℕ → ℕ → Option ℕ → Option ℕ → ℕ
 deadline_after s t deadline old new = if same_timer old new then deadline else next_deadline s t
 
 -- the node after what the core did at time t
-abbrev pub node_after : {C : Type 0} → Rules C → Setting → ℕ → Node C → Reaction C → Node C
+abbrev pub node_after : {C : Type 0} → Rules C → NodeSetting → ℕ → Node C → Reaction C → Node C
 node_after rules s t node done = record {
   core = done.after;
   joiner = node.joiner;
@@ -103,11 +103,11 @@ node_after rules s t node done = record {
 }
 
 -- the line of an event, where a trace is wanted
-abbrev pub trace_text : Setting → Event → List ℕ
+abbrev pub trace_text : NodeSetting → NodeEvent → List ℕ
 trace_text s e = if s.trace then event_text s.me e else []
 
 -- an event at time t
-unfoldable pub event_step : {C : Type 0} → Rules C → Setting → ℕ → Event → Node C → Out C
+unfoldable pub event_step : {C : Type 0} → Rules C → NodeSetting → ℕ → NodeEvent → Node C → Out C
 event_step rules s t e node =
     let done = rules.step node.core e in
     record {
@@ -130,24 +130,24 @@ abbrev pub with_deadline : {C : Type 0} → ℕ → Out C → Out C
 with_deadline deadline o = record { node = record o.node { deadline = deadline }; effects = o.effects; events = o.events }
 
 -- the timer runs out, if it is on and its time has come
-unfoldable pub timer_step : {C : Type 0} → Rules C → Setting → ℕ → Node C → Out C
+unfoldable pub timer_step : {C : Type 0} → Rules C → NodeSetting → ℕ → Node C → Out C
 timer_step rules s t node = if has_expired rules t node then with_deadline (next_deadline s t) (event_step rules s t timeout node) else no_step node
 
-abbrev pub with_joiner : {C : Type 0} → List Opened → Node C → Node C
+abbrev pub with_joiner : {C : Type 0} → List OpenMessage → Node C → Node C
 with_joiner joiner node = record node { joiner = joiner }
 
-abbrev pub joined_step : {C : Type 0} → Rules C → Setting → ℕ → Answer → Node C → Out C
+abbrev pub joined_step : {C : Type 0} → Rules C → NodeSetting → ℕ → Answer → Node C → Out C
 joined_step rules s t (whole m) node = event_step rules s t (message m) node
 joined_step rules s t more node = no_step node
 joined_step rules s t (dropped c) node = no_step node
 
 -- a datagram, which may complete a message
-unfoldable pub datagram_step : {C : Type 0} → Rules C → Setting → ℕ → Option (List ℕ) → Node C → Out C
+unfoldable pub datagram_step : {C : Type 0} → Rules C → NodeSetting → ℕ → Option (List ℕ) → Node C → Out C
 datagram_step rules s t None node = no_step node
 datagram_step rules s t (Some bytes) node = joined_step rules s t (step_of node.joiner bytes).answer (with_joiner (step_of node.joiner bytes).after node)
 
 -- the next command, if there is one
-unfoldable pub command_step : {C : Type 0} → Rules C → Setting → ℕ → Node C → Out C
+unfoldable pub command_step : {C : Type 0} → Rules C → NodeSetting → ℕ → Node C → Out C
 command_step rules s t node = elim (slice_get node.commands 0) [ None ↦ no_step node | Some c ↦ event_step rules s t (invoke c.items) node ]
 
 -- the node without its open command and its commit
@@ -155,14 +155,14 @@ abbrev pub after_reply : {C : Type 0} → Node C → Node C
 after_reply node = record node { commands = drop 1 node.commands; commit = None }
 
 -- a commit is printed, and the next command invoked
-unfoldable pub reply_step : {C : Type 0} → Rules C → Setting → ℕ → Node C → Out C
+unfoldable pub reply_step : {C : Type 0} → Rules C → NodeSetting → ℕ → Node C → Out C
 reply_step rules s t node = elim node.commit [
   | None ↦ no_step node
   | Some c ↦ and_then (text_step (after_reply node) (reply_text c)) (command_step rules s t)
 ]
 
 -- one turn: the clock, the timer, the link, the message, the reply
-unfoldable pub turn_step : {C : Type 0} → Rules C → Setting → Turn → Node C → Out C
+unfoldable pub turn_step : {C : Type 0} → Rules C → NodeSetting → Turn → Node C → Out C
 turn_step rules s turn node =
     and_then (and_then (timer_step rules s turn.reading node) (datagram_step rules s turn.reading turn.got)) (reply_step rules s turn.reading)
 
@@ -173,11 +173,11 @@ is_client (Replica r) = false
 is_client (Client c) = true
 
 -- a client whose commands are answered
-abbrev pub is_done : {C : Type 0} → Setting → Node C → Bool
+abbrev pub is_done : {C : Type 0} → NodeSetting → Node C → Bool
 is_done s node = is_client s.me && (length node.commands == 0)
 
 -- a node before its first event
-abbrev pub new_node : {C : Type 0} → Setting → ℕ → C → List (ArrayVec ℕ) → Node C
+abbrev pub new_node : {C : Type 0} → NodeSetting → ℕ → C → List (ArrayVec ℕ) → Node C
 new_node s t core commands = record {
   core = core;
   joiner = [];
@@ -191,11 +191,11 @@ new_node s t core commands = record {
 }
 
 -- after the first command, if there is one, at the reading before the first turn
-unfoldable pub first_step : {C : Type 0} → Rules C → Setting → ℕ → C → List (ArrayVec ℕ) → Out C
+unfoldable pub first_step : {C : Type 0} → Rules C → NodeSetting → ℕ → C → List (ArrayVec ℕ) → Out C
 first_step rules s t core commands = command_step rules s t (new_node s t core commands)
 
 -- after these turns, the newest first
-abbrev pub run_after : {C : Type 0} → Rules C → Setting → Out C → List Turn → Out C
+abbrev pub run_after : {C : Type 0} → Rules C → NodeSetting → Out C → List Turn → Out C
 run_after rules s start [] = start
 run_after rules s start (turn ∷ before) = and_then (run_after rules s start before) (turn_step rules s turn)
 

@@ -3,7 +3,7 @@ use Rattle.std.specs.Prelude.{◌≡◌, ◌⊎◌, ℕ, ◌<◌, List, [], ◌�
 use Rattle.std.specs.Option.{option_map}
 use Rattle.arrayvec.specs.ArrayVec.{ArrayVec}
 use Rattle.ab_io.specs.Readings.{Readings, next_reading, later_readings}
-use Rattle.ab_loop.specs.declared.setting.Setting.{Setting}
+use Rattle.ab_loop.specs.declared.node_setting.NodeSetting.{NodeSetting}
 use Rattle.ab_loop.specs.declared.fault.ServeFault.{ServeFault}
 use Rattle.ab_loop.specs.declared.fault.ServeFault.TheVariants as fault
 use Rattle.ab_loop.specs.declared.serving.Served.{Served}
@@ -35,7 +35,7 @@ AreTold clock link (turn ∷ before) =
 -- ---- the end
 
 -- no turn began where the commands were answered
-abbrev pub AreWanted : {C : Type 0} → Rules C → Setting → Out C → List Turn → Type 0
+abbrev pub AreWanted : {C : Type 0} → Rules C → NodeSetting → Out C → List Turn → Type 0
 AreWanted rules s start [] = ⊤
 AreWanted rules s start (turn ∷ before) = AreWanted rules s start before × (is_done s (run_after rules s start before).node ≡ false)
 
@@ -45,7 +45,7 @@ end_line node lost = writing (end_text node.events node.sent lost node.spent)
 
 -- what a node is started with, and what the outside tells before
 pub record Start (C : Type 0) : Type 0 where
-  pub setting : Setting
+  pub setting : NodeSetting
   pub turns : ℕ
   pub core : C
   pub commands : List (ArrayVec ℕ)
@@ -104,7 +104,7 @@ HasFaultOf rules x old new before after fault.OutOfMemory = NodeFront rules x ol
 
 -- ---- a part of the code: the turns without the line of the end
 
-abbrev pub start_of : {C : Type 0} → Setting → ℕ → C → List (ArrayVec ℕ) → Option Readings → Option (List (List ℕ)) → Start C
+abbrev pub start_of : {C : Type 0} → NodeSetting → ℕ → C → List (ArrayVec ℕ) → Option Readings → Option (List (List ℕ)) → Start C
 start_of setting turns core commands clock link = record { setting = setting; turns = turns; core = core; commands = commands; clock = clock; link = link }
 
 pub record HasRun {C : Type 0} (rules : Rules C) (x : Start C) (old new : Outside) (before after : Counts) (node : Node C) (lost : ℕ) : Type 0 where
@@ -117,14 +117,14 @@ pub record HasBroken {C : Type 0} (rules : Rules C) (x : Start C) (old new : Out
   pub did : DidPart old new (end_of rules x turns).effects
   pub counted : Counted before after (Err why)
 
-pub record ShowsNumbers {C : Type 0} (s : Setting) (node : Node C) (lost : ℕ) (served : Served) : Type 0 where
+pub record ShowsNumbers {C : Type 0} (s : NodeSetting) (node : Node C) (lost : ℕ) (served : Served) : Type 0 where
   pub events : served.events ≡ node.events
   pub sent : served.sent ≡ node.sent
   pub lost_is : served.lost ≡ lost
   pub spent : served.spent ≡ node.spent
   pub answered : is_client s.me ≡ true → node.commands ≡ []
 
-abbrev pub ShowsOpen : {C : Type 0} → Setting → Node C → ServeFault → Type 0
+abbrev pub ShowsOpen : {C : Type 0} → NodeSetting → Node C → ServeFault → Type 0
 ShowsOpen s node (fault.TurnsSpent n) = (is_client s.me ≡ true) × (0 < n) × (n ≡ length node.commands)
 ShowsOpen s node fault.LinkFailed = ⊥
 ShowsOpen s node fault.WriteFailed = ⊥

@@ -6,20 +6,20 @@ use Rattle.ab_text.specs.declared.event.Event.{Event as Happening}
 use Rattle.ab_text.specs.declared.event.Event.TheVariants.{Invoke, Timeout, Inject}
 use Rattle.ab_text.specs.EventLines.{event_line}
 use Rattle.ab_loop.specs.declared.party_core.Commit.{Commit}
-use Rattle.ab_loop.specs.Cores.{Event, invoke, message, timeout}
+use Rattle.ab_loop.specs.Cores.{NodeEvent, invoke, message, timeout}
 
 -- the one core of a party
 abbrev pub own_core : Party → Core
 own_core me = record { party = me; twin = None }
 
 -- an event of this party in a schedule
-abbrev pub happening : Party → Event → Happening
+abbrev pub happening : Party → NodeEvent → Happening
 happening me (invoke command) = Invoke (own_core me) (record { items = command })
 happening me (message bytes) = Inject (own_core me) bytes
 happening me timeout = Timeout (own_core me)
 
 -- an event as a line of a schedule
-unfoldable pub event_text : Party → Event → List ℕ
+unfoldable pub event_text : Party → NodeEvent → List ℕ
 event_text me e = event_line (happening me e) ++ codes "\n"
 
 abbrev pub reply_front : ℕ → ℕ → ℕ → List ℕ

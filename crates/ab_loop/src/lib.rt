@@ -4,15 +4,15 @@
 mod fault;
 mod laws;
 mod node;
+mod node_setting;
 mod outside;
 mod parcel;
 mod party_core;
 mod serving;
-mod setting;
 mod texts;
 
 pub use fault::ServeFault;
 pub use laws::nodes_follow_their_core;
-pub use party_core::{Commit, Input, PartyCore, Reaction};
+pub use node_setting::NodeSetting;
+pub use party_core::{Commit, NodeEventRef, PartyCore, Reaction};
 pub use serving::{Commands, Job, Served, serve};
-pub use setting::Setting;

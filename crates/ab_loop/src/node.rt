@@ -10,10 +10,10 @@ ghost use Rattle.ab_loop.specs.Outside.{Says, SayCause, capped, counts, outside}
 ghost use Rattle.ab_loop.specs.Nodes.{Follows, Takes, with_joiner, turn_step, command_step, reply_step, deadline_after, next_deadline, event_step, has_expired, is_done, latest, new_node, parcels_of, datagram_step, after_reply, same_timer, timer_step, trace_text};
 
 use crate::fault::ServeFault;
+use crate::node_setting::NodeSetting;
 use crate::outside::{say, send_all};
 use crate::parcel::{Parcel, count, parcels};
-use crate::party_core::{Commit, Input, PartyCore, Reaction};
-use crate::setting::Setting;
+use crate::party_core::{Commit, NodeEventRef, PartyCore, Reaction};
 use crate::texts::{event_line, reply_line};
 use ab_hist::array_of;
 use ab_io::{Got, Link, Sink};
@@ -84,7 +84,7 @@ fn same_timer(old: Option<u64>, new: Option<u64>) -> bool
 }
 
 /// The deadline of a timer that starts now.
-fn next_deadline(setting: &Setting, t: u64) -> u64
+fn next_deadline(setting: &NodeSetting, t: u64) -> u64
     ensures { result ≡ next_deadline setting.now t }
 {
     t.saturating_add(u64::from(setting.wait))
@@ -92,7 +92,7 @@ fn next_deadline(setting: &Setting, t: u64) -> u64
 
 /// The deadline after an event.
 fn deadline_after(
-    setting: &Setting,
+    setting: &NodeSetting,
     t: u64,
     deadline: u64,
     old: Option<u64>,
@@ -121,8 +121,8 @@ fn counted(count: u64, holds: bool) -> u64
 /// The line of an event, where a trace is wanted.
 fn announce<O: Sink>(
     alloc: Global,
-    setting: &Setting,
-    input: &Input<'_>,
+    setting: &NodeSetting,
+    input: &NodeEventRef<'_>,
     out: &mut O,
 ) -> Result<(), ServeFault>
     ensures says { Says (O.contents out.old) (O.contents out.new) (trace_text setting.now (event_of input.now)) result }
@@ -173,7 +173,7 @@ impl<K: PartyCore> Node<K> {
     /// A node before its first event.
     pub(crate) fn new(
         alloc: Global,
-        setting: &Setting,
+        setting: &NodeSetting,
         t: u64,
         core: K,
         commands: Items<ArrayVec<u8, 128>>,
@@ -195,7 +195,7 @@ impl<K: PartyCore> Node<K> {
     }
 
     /// Whether this is a client whose commands are answered.
-    pub(crate) fn is_done(&self, setting: &Setting) -> bool
+    pub(crate) fn is_done(&self, setting: &NodeSetting) -> bool
         ensures { result ≡ is_done setting.now self.now }
     {
         match setting.me {
@@ -272,9 +272,9 @@ impl<K: PartyCore> Node<K> {
     fn react(
         &mut self,
         alloc: Global,
-        setting: &Setting,
+        setting: &NodeSetting,
         t: u64,
-        input: &Input<'_>,
+        input: &NodeEventRef<'_>,
     ) -> Result<Vec<Parcel>, OutOfMemory>
         requires base { setting.now.base ≤ 65000 }
         requires me { IsParty setting.now.me }
@@ -304,9 +304,9 @@ impl<K: PartyCore> Node<K> {
     fn handle<L: Link, O: Sink>(
         &mut self,
         alloc: Global,
-        setting: &Setting,
+        setting: &NodeSetting,
         t: u64,
-        input: &Input<'_>,
+        input: &NodeEventRef<'_>,
         link: &mut L,
         out: &mut O,
     ) -> Result<u64, ServeFault>
@@ -329,7 +329,7 @@ impl<K: PartyCore> Node<K> {
     fn time<L: Link, O: Sink>(
         &mut self,
         alloc: Global,
-        setting: &Setting,
+        setting: &NodeSetting,
         t: u64,
         link: &mut L,
         out: &mut O,
@@ -340,7 +340,7 @@ impl<K: PartyCore> Node<K> {
         ensures to_come { L.to_come link.new ≡ L.to_come link.old }
     {
         if self.has_expired(t) {
-            match self.handle(alloc, setting, t, &Input::Timeout, link, out) {
+            match self.handle(alloc, setting, t, &NodeEventRef::Timeout, link, out) {
                 Ok(lost) => {
                     self.deadline = next_deadline(setting, t);
                     Ok(lost)
@@ -357,7 +357,7 @@ impl<K: PartyCore> Node<K> {
     fn receive<L: Link, O: Sink>(
         &mut self,
         alloc: Global,
-        setting: &Setting,
+        setting: &NodeSetting,
         t: u64,
         datagram: &[u8],
         link: &mut L,
@@ -374,7 +374,7 @@ impl<K: PartyCore> Node<K> {
                     alloc,
                     setting,
                     t,
-                    &Input::Message(message.as_slice()),
+                    &NodeEventRef::Message(message.as_slice()),
                     link,
                     out,
                 )
@@ -390,7 +390,7 @@ impl<K: PartyCore> Node<K> {
     pub(crate) fn ask<L: Link, O: Sink>(
         &mut self,
         alloc: Global,
-        setting: &Setting,
+        setting: &NodeSetting,
         t: u64,
         link: &mut L,
         out: &mut O,
@@ -405,7 +405,7 @@ impl<K: PartyCore> Node<K> {
                 alloc,
                 setting,
                 t,
-                &Input::Invoke(command.as_slice()),
+                &NodeEventRef::Invoke(command.as_slice()),
                 link,
                 out,
             ),
@@ -418,7 +418,7 @@ impl<K: PartyCore> Node<K> {
     fn answer<L: Link, O: Sink>(
         &mut self,
         alloc: Global,
-        setting: &Setting,
+        setting: &NodeSetting,
         t: u64,
         link: &mut L,
         out: &mut O,
@@ -441,7 +441,7 @@ impl<K: PartyCore> Node<K> {
     fn take<L: Link, O: Sink>(
         &mut self,
         alloc: Global,
-        setting: &Setting,
+        setting: &NodeSetting,
         t: u64,
         buf: &mut [u8],
         link: &mut L,
@@ -464,7 +464,7 @@ impl<K: PartyCore> Node<K> {
     pub(crate) fn turn<L: Link, O: Sink>(
         &mut self,
         alloc: Global,
-        setting: &Setting,
+        setting: &NodeSetting,
         t: u64,
         buf: &mut [u8],
         link: &mut L,

@@ -6,7 +6,7 @@ ghost use Rattle.ab_msg.specs.Packets.{IsSendable};
 ghost use Rattle.ab_loop.specs.Outside.{capped};
 ghost use Rattle.ab_loop.specs.Nodes.{port_of, parcel_of, parcels_of, datagrams_in};
 
-use crate::setting::Setting;
+use crate::node_setting::NodeSetting;
 use ab_msg::Packet;
 use ab_num::{OutOfMemory, Party};
 use ab_piece::{Pieces, cut};
@@ -47,7 +47,7 @@ impl Parcel {
     #[tactic(auto, unfolding(crate::specs::Nodes::parcel_of))]
     pub(crate) fn new(
         alloc: Global,
-        setting: &Setting,
+        setting: &NodeSetting,
         number: u64,
         m: &Packet,
     ) -> Result<Parcel, OutOfMemory>
@@ -80,7 +80,7 @@ impl Parcel {
 /// The datagrams of each message, where the last message before them had this number.
 pub(crate) fn parcels(
     alloc: Global,
-    setting: &Setting,
+    setting: &NodeSetting,
     number: u64,
     messages: &[Packet],
 ) -> Result<Vec<Parcel>, OutOfMemory>

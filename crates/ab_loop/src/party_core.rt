@@ -7,7 +7,7 @@ use std::alloc::Global;
 
 /// What comes to a party's core.
 #[derive(Clone, Copy)]
-pub enum Input<'a> {
+pub enum NodeEventRef<'a> {
     /// A client's command.
     Invoke(&'a [u8]),
     /// The bytes of a message.
@@ -44,7 +44,7 @@ pub trait PartyCore: Sized + Drop {
 
     /// Handles an event. After an `Err` it is as before, or where the event leads it: then what it
     /// sends is lost, as a datagram may be.
-    fn step(&mut self, alloc: Global, input: &Input<'_>) -> Result<Reaction, OutOfMemory>
+    fn step(&mut self, alloc: Global, input: &NodeEventRef<'_>) -> Result<Reaction, OutOfMemory>
         ensures after { IfOk result (λ e. self.new ≡ (rules.step self.old (event_of input.now)).after) }
         ensures sends { IfOk result (λ e. e.sends.items ≡ (rules.step self.old (event_of input.now)).sends) }
         ensures commit { IfOk result (λ e. e.commit ≡ (rules.step self.old (event_of input.now)).commit) }

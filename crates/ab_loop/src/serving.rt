@@ -8,10 +8,10 @@ ghost use Rattle.ab_loop.specs.Runs.{HasServed, HasBroken, HasRun, ShowsNumbers,
 
 use crate::fault::ServeFault;
 use crate::node::Node;
+use crate::node_setting::NodeSetting;
 use crate::outside::say;
 use crate::parcel::port_of;
 use crate::party_core::PartyCore;
-use crate::setting::Setting;
 use crate::texts::end_line;
 use ab_io::{Clock, Failed, LONGEST_DATAGRAM, Link, Sink};
 use ab_num::Party;
@@ -26,7 +26,7 @@ pub type Commands = Items<ArrayVec<u8, 128>>;
 #[derive(Drop)]
 pub struct Job<K: PartyCore> {
     pub core: K,
-    pub setting: Setting,
+    pub setting: NodeSetting,
     pub commands: Commands,
     pub turns: u64,
 }
@@ -45,7 +45,7 @@ pub struct Served {
 fn drive<K: PartyCore, L: Link, C: Clock, O: Sink>(
     alloc: Global,
     core: K,
-    setting: &Setting,
+    setting: &NodeSetting,
     commands: Commands,
     turns: u64,
     buf: &mut [u8],
@@ -98,7 +98,7 @@ fn say_end<K: PartyCore, O: Sink>(
 fn run<K: PartyCore, L: Link, C: Clock, O: Sink>(
     alloc: Global,
     core: K,
-    setting: &Setting,
+    setting: &NodeSetting,
     commands: Commands,
     turns: u64,
     buf: &mut [u8],
@@ -153,7 +153,11 @@ pub fn serve<K: PartyCore, L: Link, C: Clock, O: Sink>(
 }
 
 /// What is answered at the end.
-fn ended<K: PartyCore>(setting: &Setting, node: &Node<K>, lost: u64) -> Result<Served, ServeFault>
+fn ended<K: PartyCore>(
+    setting: &NodeSetting,
+    node: &Node<K>,
+    lost: u64,
+) -> Result<Served, ServeFault>
     ensures ok { IfOk result (λ served. ShowsNumbers setting.now node.now lost served) }
     ensures err { IfErr result (λ why. ShowsOpen setting.now node.now why) }
 {

@@ -5,7 +5,7 @@ ghost use Rattle.ab_text.specs.Cores.{core_text};
 ghost use Rattle.ab_loop.specs.Cores.{event_of};
 ghost use Rattle.ab_loop.specs.Texts.{end_text, event_text, own_core, reply_front, reply_text};
 
-use crate::party_core::{Commit, Input};
+use crate::party_core::{Commit, NodeEventRef};
 use ab_num::{OutOfMemory, Party};
 use ab_text::party_string;
 use std::alloc::{AllocError, Global};
@@ -44,17 +44,17 @@ fn told(alloc: Global, word: &str, me: Party, text: &[u8]) -> Result<Vec<u8>, Ou
 pub(crate) fn event_line(
     alloc: Global,
     me: Party,
-    input: &Input<'_>,
+    input: &NodeEventRef<'_>,
 ) -> Result<Vec<u8>, OutOfMemory>
     ensures { IfOk result (λ v. v.items ≡ event_text me (event_of input.now)) }
 {
     match input {
-        Input::Invoke(command) => told(alloc, "invoke ", me, command),
-        Input::Message(bytes) => {
+        NodeEventRef::Invoke(command) => told(alloc, "invoke ", me, command),
+        NodeEventRef::Message(bytes) => {
             let digits = hex::encode(alloc, bytes)?;
             told(alloc, "inject ", me, digits.as_bytes())
         }
-        Input::Timeout => {
+        NodeEventRef::Timeout => {
             let mut out = front(alloc, "timeout ", me)?;
             add(&mut out, b"\n")?;
             Ok(out)

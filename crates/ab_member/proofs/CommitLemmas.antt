@@ -5,11 +5,10 @@ use Rattle.std.proofs.lemmas.List.Elements.{Contains-append_cases}
 use Rattle.std.proofs.lemmas.Option.{none-some, same_Some}
 use Rattle.ab_hist.specs.declared.request.Request.{Request}
 use Rattle.ab_num.specs.declared.party.Party.TheVariants.{Client}
+use Rattle.ab_num.proofs.Lists.{Contains-head, Contains-tail, Contains-cons_cases}
 use Rattle.ab_abs.specs.declared.seen.Seen.{Seen}
 use Rattle.ab_abs.specs.declared.seen.Seen.TheVariants.{Invoked, Cert, Committed}
-use Rattle.ab_abs.proofs.Counting.{Contains-head, Contains-tail}
-use Rattle.ab_abs.proofs.Lists.{Contains-cons_cases}
-use Rattle.ab_run.specs.Clients.{Cli, Move, move_ask, move_vote, move_commit, move_keep, move_take, move_panic, move_again, after_move, seen_in_move}
+use Rattle.ab_run.specs.Clients.{Cli, CliAction, move_ask, move_vote, move_commit, move_keep, move_take, move_panic, move_again, after_move, seen_in_move}
 use Rattle.ab_run.specs.Local.{seen_in_moves}
 use Rattle.ab_loop.specs.declared.party_core.Commit.{Commit}
 use Rattle.ab_member.specs.Clients.{commit_in, commit_of, first_of}
@@ -48,7 +47,7 @@ one_own c seen s commit has is own = elim (Contains-cons_cases seen [] s has) [
   | inr gone ↦ absurd (omega (arith, gone.1))
 ]
 
-own_move : (c : ℕ) (at : Cli) (t : Move) (s : Seen) (commit : Commit) → Contains (seen_in_move c at t) s → commit_of s ≡ Some commit → IsOwnCommit c s commit
+own_move : (c : ℕ) (at : Cli) (t : CliAction) (s : Seen) (commit : Commit) → Contains (seen_in_move c at t) s → commit_of s ≡ Some commit → IsOwnCommit c s commit
 own_move c at (move_ask m) s commit has is = one_own c (Invoked at.at c m) s commit has is (λ none. absurd (none-some commit none))
 own_move c at (move_vote b) s commit gone is = absurd (omega (arith, gone.1))
 own_move c at (move_commit m n d reply claims) s commit has is =
@@ -63,7 +62,7 @@ own_move c at (move_take j cert h m) s commit has is = elim (Contains-cons_cases
 own_move c at move_panic s commit gone is = absurd (omega (arith, gone.1))
 own_move c at (move_again m) s commit gone is = absurd (omega (arith, gone.1))
 
-pub own_commit : (c : ℕ) (ts : List Move) (at : Cli) (s : Seen) (commit : Commit) → Contains (seen_in_moves c at ts) s → commit_of s ≡ Some commit → IsOwnCommit c s commit
+pub own_commit : (c : ℕ) (ts : List CliAction) (at : Cli) (s : Seen) (commit : Commit) → Contains (seen_in_moves c at ts) s → commit_of s ≡ Some commit → IsOwnCommit c s commit
 own_commit c [] at s commit gone is = absurd (omega (arith, gone.1))
 own_commit c (t ∷ ts) at s commit has is = elim (Contains-append_cases (seen_in_moves c (after_move at t) ts) (seen_in_move c at t) s has) [
   | inl later ↦ own_commit c ts (after_move at t) s commit later is

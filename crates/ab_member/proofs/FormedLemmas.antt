@@ -21,12 +21,12 @@ use Rattle.ab_open.proofs.ByteLemmas.{are_bytes}
 use Rattle.ab_sign.specs.Judges.{judge_of}
 use Rattle.ab_abs.specs.Ensembles.{Proto}
 use Rattle.ab_abs.specs.Messages.{took}
-use Rattle.ab_run.specs.Setups.{Setup}
+use Rattle.ab_run.specs.Setups.{RunSetup}
 use Rattle.ab_run.specs.Runs.{Event as Happening}
 use Rattle.ab_run.specs.Premises.{AreFormed, IsFormedFor}
 use Rattle.ab_run.specs.Local.{cue_message}
 use Rattle.ab_client.specs.Clients.{told}
-use Rattle.ab_loop.specs.Cores.{Event, invoke, message, timeout}
+use Rattle.ab_loop.specs.Cores.{NodeEvent, invoke, message, timeout}
 use Rattle.ab_member.specs.Credentials.{Credentials, opened}
 use Rattle.ab_member.specs.Replicas.{call_of}
 use Rattle.ab_member.specs.Clients.{cue_of, is_command}
@@ -36,7 +36,7 @@ is_ok : (o : Result Msg OpenFault) (m : Msg) → result_ok o ≡ Some m → o �
 is_ok (Ok n) m is = ap Ok (same_Some n m is)
 is_ok (Err fault) m is = absurd (none-some m is)
 
-module _ (k : Setup) (grammar : (c : Credentials) (bytes : List ℕ) (m : Msg) → IsBytes bytes → opening (judge_of c.ring c.keys) c.ring.f c.ring.clients c.ring.me bytes ≡ Ok m → IsMessage m)
+module _ (k : RunSetup) (grammar : (c : Credentials) (bytes : List ℕ) (m : Msg) → IsBytes bytes → opening (judge_of c.ring c.keys) c.ring.f c.ring.clients c.ring.me bytes ≡ Ok m → IsMessage m)
     (histories : (f clients : ℕ) (me : Party) (m : Msg) → IsInBounds f clients → IsMessage m → (h : List Request) → Contains (flat_map stated_history (claims f me m)) h → IsHistory h) where
   of_grammar : (c : Credentials) (bytes : List ℕ) (m : Msg) → opened c bytes ≡ Some m → IsMessage m
   of_grammar c bytes m is = by (list_all (λ b. nat_lt b 256) bytes) refl is where
@@ -54,7 +54,7 @@ module _ (k : Setup) (grammar : (c : Credentials) (bytes : List ℕ) (m : Msg) �
   formed_append (e ∷ a) b first second = (first.0, formed_append a b first.1 second)
 
   module _ {P : Type 0} (proto : Proto P) where
-    replica_formed : (r : ℕ) (c : Credentials) (e : Event) → AreFormed k (option_to_list (option_map (call_event r) (call_of c e)))
+    replica_formed : (r : ℕ) (c : Credentials) (e : NodeEvent) → AreFormed k (option_to_list (option_map (call_event r) (call_of c e)))
     replica_formed r c (invoke command) = tt
     replica_formed r c (message bytes) = go (opened c bytes) refl where
       go : (o : Option Msg) → opened c bytes ≡ o → AreFormed k (option_to_list (option_map (call_event r) (option_map took o)))
@@ -62,7 +62,7 @@ module _ (k : Setup) (grammar : (c : Credentials) (bytes : List ℕ) (m : Msg) �
       go (Some m) is = (opened_formed (Replica r) c bytes m is, tt)
     replica_formed r c timeout = (tt, tt)
 
-    client_formed : (w : Members P) (c : ℕ) (e : Event) → AreFormed k (option_to_list (option_map (cue_event c) (cue_of (w.clients c) e)))
+    client_formed : (w : Members P) (c : ℕ) (e : NodeEvent) → AreFormed k (option_to_list (option_map (cue_event c) (cue_of (w.clients c) e)))
     client_formed w c (invoke command) = go (is_command (w.clients c).seat.cli command) where
       go : (b : Bool) → AreFormed k (option_to_list (option_map (cue_event c) (if b then Some (told command) else None)))
       go true = (tt, tt)
@@ -73,11 +73,11 @@ module _ (k : Setup) (grammar : (c : Credentials) (bytes : List ℕ) (m : Msg) �
       go (Some m) is = (opened_formed (Client c) (w.clients c).credentials bytes m is, tt)
     client_formed w c timeout = (tt, tt)
 
-    one_formed : (w : Members P) (p : Party) (e : Event) → AreFormed k (happens proto w p e)
+    one_formed : (w : Members P) (p : Party) (e : NodeEvent) → AreFormed k (happens proto w p e)
     one_formed w (Replica r) e = replica_formed r (w.replicas r).credentials e
     one_formed w (Client c) e = client_formed w c e
 
-    pub all_formed : (w : Members P) (xs : List (Party × Event)) → AreFormed k (all_happens proto w xs)
+    pub all_formed : (w : Members P) (xs : List (Party × NodeEvent)) → AreFormed k (all_happens proto w xs)
     all_formed w [] = tt
     all_formed w (x ∷ xs) =
         let now = members_after proto w x.0 x.1 in

@@ -15,7 +15,7 @@ use Rattle.ab_abs.specs.Faults.{is_faulty}
 use Rattle.ab_abs.specs.Ensembles.{Proto, put}
 use Rattle.ab_abs.specs.Messages.{Call, took, timed}
 use Rattle.ab_abs.proofs.Reach.{put_same, put_other}
-use Rattle.ab_run.specs.Setups.{Setup, replicas}
+use Rattle.ab_run.specs.Setups.{RunSetup, replicas}
 use Rattle.ab_run.specs.Runs.{Event as Happening, Run, invoke, to_replica, to_client, replica_time, client_time, first_rep, run}
 use Rattle.ab_run.specs.Local.{Cue, cue_command, cue_message, cue_time, cli_after, cli_marks, cli_shows, moves_at, rep_after, rep_shows}
 use Rattle.ab_run.proofs.Effects.{at_call, at_cue, called, cued, reps_stay, reps_apart, clis_stay, clis_apart}
@@ -23,7 +23,7 @@ use Rattle.ab_run.proofs.Listed.{Contains-reverse}
 use Rattle.ab_run.proofs.Shown.{moves_backward}
 use Rattle.ab_client.specs.Clients.{alone, marks}
 use Rattle.ab_loop.specs.declared.party_core.Commit.{Commit}
-use Rattle.ab_loop.specs.Cores.{Event}
+use Rattle.ab_loop.specs.Cores.{NodeEvent}
 use Rattle.ab_loop.specs.Folds.{commits_in, core_after}
 use Rattle.ab_member.specs.Replicas.{ReplicaMember, call_of, replica_after, replica_may_take, replica_rules, replica_step}
 use Rattle.ab_member.specs.Clients.{ClientMember, client_after, client_may_take, client_rules, client_step, cue_of}
@@ -32,7 +32,7 @@ use Rattle.ab_loop.proofs.FoldLemmas.{option_cases}
 use Rattle.ab_member.proofs.CommitLemmas.{commit_among, own_commit}
 use Rattle.ab_member.proofs.LocalLemmas.{IsPlaced, after_is, cli_is, placed_after}
 
-module _ {P : Type 0} (k : Setup) (proto : Proto P) where
+module _ {P : Type 0} (k : RunSetup) (proto : Proto P) where
   -- the run has left these members where they are
   record Stand (w : Members P) (before : List Happening) : Type 0 where
     placed : (r : ℕ) → r < 3 * k.cluster.f + 1 → IsPlaced k proto (w.replicas r)
@@ -59,7 +59,7 @@ module _ {P : Type 0} (k : Setup) (proto : Proto P) where
         | inr differ ↦ rw differ (elsewhere (eqb-false r q differ))
       ]
 
-  replica_stands : (w : Members P) (before : List Happening) (q : ℕ) (e : Event) → Stand w before → Stand (members_after proto w (Replica q) e) (happens proto w (Replica q) e ++ before)
+  replica_stands : (w : Members P) (before : List Happening) (q : ℕ) (e : NodeEvent) → Stand w before → Stand (members_after proto w (Replica q) e) (happens proto w (Replica q) e ++ before)
   replica_stands w before q e st = go (call_of (w.replicas q).credentials e) where
     go : (o : Option Call) → Stand (record w { replicas = put w.replicas q (replica_may_take proto (w.replicas q) o).after }) (option_to_list (option_map (call_event q) o) ++ before)
     go None = record {
@@ -92,7 +92,7 @@ module _ {P : Type 0} (k : Setup) (proto : Proto P) where
           clients = λ c lt. ap (λ v. v.clis c) (call_happens before q call) ∙ clis_apart k proto (run k proto before) q call c ∙ st.clients c lt;
         }
 
-  client_stands : (w : Members P) (before : List Happening) (d : ℕ) (e : Event) → Stand w before → Stand (members_after proto w (Client d) e) (happens proto w (Client d) e ++ before)
+  client_stands : (w : Members P) (before : List Happening) (d : ℕ) (e : NodeEvent) → Stand w before → Stand (members_after proto w (Client d) e) (happens proto w (Client d) e ++ before)
   client_stands w before d e st = go (cue_of (w.clients d) e) where
     go : (o : Option Cue) → Stand (record w { clients = put w.clients d (client_may_take (w.clients d) o).after }) (option_to_list (option_map (cue_event d) o) ++ before)
     go None = record {
@@ -125,11 +125,11 @@ module _ {P : Type 0} (k : Setup) (proto : Proto P) where
               (λ ne. clis_stay k proto (run k proto before) d cue c ne ∙ st.clients c lt);
         }
 
-  one_stands : (w : Members P) (before : List Happening) (p : Party) (e : Event) → Stand w before → Stand (members_after proto w p e) (happens proto w p e ++ before)
+  one_stands : (w : Members P) (before : List Happening) (p : Party) (e : NodeEvent) → Stand w before → Stand (members_after proto w p e) (happens proto w p e ++ before)
   one_stands w before (Replica q) e st = replica_stands w before q e st
   one_stands w before (Client d) e st = client_stands w before d e st
 
-  all_stand : (xs : List (Party × Event)) (w : Members P) (before : List Happening) → Stand w before → Stand (all_after proto w xs) (all_happens proto w xs ++ before)
+  all_stand : (xs : List (Party × NodeEvent)) (w : Members P) (before : List Happening) → Stand w before → Stand (all_after proto w xs) (all_happens proto w xs ++ before)
   all_stand [] w before st = st
   all_stand (x ∷ xs) w before st =
       let now = members_after proto w x.0 x.1 in
@@ -139,7 +139,7 @@ module _ {P : Type 0} (k : Setup) (proto : Proto P) where
   -- ---- each where its own events lead it
 
   module _ (counted : P → Option ℕ) where
-    replica_comes : (r : ℕ) (xs : List (Party × Event)) (w : Members P) → (all_after proto w xs).replicas r ≡ core_after (replica_rules proto counted) (w.replicas r) (events_at_replica r xs)
+    replica_comes : (r : ℕ) (xs : List (Party × NodeEvent)) (w : Members P) → (all_after proto w xs).replicas r ≡ core_after (replica_rules proto counted) (w.replicas r) (events_at_replica r xs)
     replica_comes r [] w = refl
     replica_comes r ((Replica q, e) ∷ xs) w =
         let v = (replica_step proto (w.replicas q) e).after in
@@ -155,7 +155,7 @@ module _ {P : Type 0} (k : Setup) (proto : Proto P) where
         ]
     replica_comes r ((Client c, e) ∷ xs) w = replica_comes r xs (members_after proto w (Client c) e)
 
-  client_comes : (c : ℕ) (xs : List (Party × Event)) (w : Members P) → (all_after proto w xs).clients c ≡ core_after client_rules (w.clients c) (events_at_client c xs)
+  client_comes : (c : ℕ) (xs : List (Party × NodeEvent)) (w : Members P) → (all_after proto w xs).clients c ≡ core_after client_rules (w.clients c) (events_at_client c xs)
   client_comes c [] w = refl
   client_comes c ((Replica q, e) ∷ xs) w = client_comes c xs (members_after proto w (Replica q) e)
   client_comes c ((Client d, e) ∷ xs) w =
@@ -216,7 +216,7 @@ module _ {P : Type 0} (k : Setup) (proto : Proto P) where
 
   module _ (c : ℕ) (lt : c < k.cluster.clients) (good : is_faulty k.faulty (Client c) ≡ false) where
     -- what it commits in an event is seen in that event
-    commit_now : (w : Members P) (before : List Happening) → Stand w before → (e : Event) (commit : Commit) → (client_step (w.clients c) e).commit ≡ Some commit
+    commit_now : (w : Members P) (before : List Happening) → Stand w before → (e : NodeEvent) (commit : Commit) → (client_step (w.clients c) e).commit ≡ Some commit
         → IsSeen c commit (run k proto (happens proto w (Client c) e ++ before)).seen
     commit_now w before st e commit is = go (cue_of (w.clients c) e) is where
       go : (o : Option Cue) → (client_may_take (w.clients c) o).commit ≡ Some commit → IsSeen c commit (run k proto (option_to_list (option_map (cue_event c) o) ++ before)).seen
@@ -240,7 +240,7 @@ module _ {P : Type 0} (k : Setup) (proto : Proto P) where
           (subst (λ (b : Bool). Contains (if b then v.seen else shows ++ v.seen) found.0) (sym good) (Contains-append_left shows v.seen found.0 shown)) in
           record { request = own.request; digest = own.digest; there = subst (λ s. Contains (run k proto (cue_event c cue ∷ before)).seen s) own.is there; stamp = own.stamp }
 
-    commits_seen : (xs : List (Party × Event)) (w : Members P) (before : List Happening) → Stand w before → (commit : Commit)
+    commits_seen : (xs : List (Party × NodeEvent)) (w : Members P) (before : List Happening) → Stand w before → (commit : Commit)
         → Contains (commits_in client_rules (w.clients c) (events_at_client c xs)) commit → IsSeen c commit (run k proto (all_happens proto w xs ++ before)).seen
     commits_seen [] w before st commit gone = absurd (omega (arith, gone.1))
     commits_seen ((Replica q, e) ∷ xs) w before st commit has =
@@ -270,7 +270,7 @@ module _ {P : Type 0} (k : Setup) (proto : Proto P) where
               (subst (λ m. Contains (commits_in client_rules m (events_at_client c xs)) commit) (sym (put_other w.clients d c v (λ is. eqb-false d c differ (sym is)))) (rw differ at has))
         ])
 
-  pub are_run : (counted : P → Option ℕ) (w : Members P) (xs : List (Party × Event)) → AllStartIn k proto w → AreRun k proto counted w xs
+  pub are_run : (counted : P → Option ℕ) (w : Members P) (xs : List (Party × NodeEvent)) → AllStartIn k proto w → AreRun k proto counted w xs
   are_run counted w xs starts =
       let first : Stand w [] = record {
         placed = λ r lt. (starts.replicas r lt).0.setup;

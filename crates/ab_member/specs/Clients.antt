@@ -15,7 +15,7 @@ use Rattle.ab_run.specs.Clients.{Cli}
 use Rattle.ab_run.specs.Local.{Cue, cue_message, cue_time}
 use Rattle.ab_client.specs.Clients.{Seat, told, after, sends, marks}
 use Rattle.ab_loop.specs.declared.party_core.Commit.{Commit}
-use Rattle.ab_loop.specs.Cores.{Event, invoke, message, timeout, Reaction, Rules}
+use Rattle.ab_loop.specs.Cores.{NodeEvent, invoke, message, timeout, Reaction, Rules}
 use Rattle.ab_member.specs.Credentials.{Credentials, IsClusterOf, IsPartyRing, credentials_in, opened, sealed_all}
 use Rattle.ab_member.specs.Replicas.{still}
 
@@ -32,7 +32,7 @@ abbrev pub command_cue : Cli → List ℕ → Option Cue
 command_cue s command = if is_command s command then Some (told command) else None
 
 -- what a client takes in an event: a command, the message that bytes are to it, or the end of its timer
-abbrev pub cue_of : ClientMember → Event → Option Cue
+abbrev pub cue_of : ClientMember → NodeEvent → Option Cue
 cue_of m (invoke command) = command_cue m.seat.cli command
 cue_of m (message bytes) = option_map cue_message (opened m.credentials bytes)
 cue_of m timeout = Some cue_time
@@ -68,7 +68,7 @@ abbrev pub client_may_take : ClientMember → Option Cue → Reaction ClientMemb
 client_may_take m None = still m
 client_may_take m (Some cue) = client_takes m cue
 
-abbrev pub client_step : ClientMember → Event → Reaction ClientMember
+abbrev pub client_step : ClientMember → NodeEvent → Reaction ClientMember
 client_step m e = client_may_take m (cue_of m e)
 
 -- its timer is on while a request is open

@@ -12,13 +12,13 @@ use Rattle.ab_key_text.specs.Keys.{PartyKeys}
 use Rattle.ab_abs.specs.Ensembles.{Proto}
 use Rattle.ab_abs.specs.Messages.{Call, took, timed}
 use Rattle.ab_abs.specs.Promises.{ServesAll}
-use Rattle.ab_run.specs.Setups.{Setup}
+use Rattle.ab_run.specs.Setups.{RunSetup}
 use Rattle.ab_run.specs.Forms.{IsWrittenRep}
 use Rattle.ab_run.specs.Replicas.{is_spent, turns}
 use Rattle.ab_run.specs.Local.{rep_after, rep_sends}
 use Rattle.ab_replica.specs.Sites.{Site, first_site, setup_of, timer_number}
 use Rattle.ab_replica.specs.Doings.{entries_in}
-use Rattle.ab_loop.specs.Cores.{Event, invoke, message, timeout, Reaction, Rules}
+use Rattle.ab_loop.specs.Cores.{NodeEvent, invoke, message, timeout, Reaction, Rules}
 use Rattle.ab_member.specs.Credentials.{Credentials, IsClusterOf, IsPartyRing, credentials_in, opened, sealed_all}
 
 -- where it is, and what it opens and seals by
@@ -27,11 +27,11 @@ pub record ReplicaMember (P : Type 0) : Type 0 where
   pub credentials : Credentials
 
 -- a run in which it takes part: nobody is faulty, and everybody signs as it does, since what it does depends on neither
-abbrev pub own_setup : {P : Type 0} → ReplicaMember P → Setup
+abbrev pub own_setup : {P : Type 0} → ReplicaMember P → RunSetup
 own_setup m = setup_of m.site (pen_of m.credentials.keys m.site.me 0)
 
 -- what a replica takes in an event: the message that bytes are to it, or the end of its timer. It takes no command
-abbrev pub call_of : Credentials → Event → Option Call
+abbrev pub call_of : Credentials → NodeEvent → Option Call
 call_of c (invoke command) = None
 call_of c (message bytes) = option_map took (opened c bytes)
 call_of c timeout = Some timed
@@ -60,7 +60,7 @@ module _ {P : Type 0} (proto : Proto P) where
   replica_may_take m None = still m
   replica_may_take m (Some call) = replica_takes m call
 
-  abbrev pub replica_step : ReplicaMember P → Event → Reaction (ReplicaMember P)
+  abbrev pub replica_step : ReplicaMember P → NodeEvent → Reaction (ReplicaMember P)
   replica_step m e = replica_may_take m (call_of m.credentials e)
 
 -- its rules, where `counted` is what the timer of its protocol counts

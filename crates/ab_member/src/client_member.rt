@@ -17,7 +17,7 @@ use crate::given::{Given, nothing};
 use ab_abs::Marks;
 use ab_client::{Client, InvokeFault};
 use ab_key_text::PartyKeys;
-use ab_loop::{Input, PartyCore, Reaction};
+use ab_loop::{NodeEventRef, PartyCore, Reaction};
 use ab_msg::Outs;
 use ab_num::OutOfMemory;
 use std::alloc::Global;
@@ -156,20 +156,20 @@ impl PartyCore for ClientMember {
 
     ghost rules = { client_rules };
 
-    fn step(&mut self, alloc: Global, input: &Input<'_>) -> Result<Reaction, OutOfMemory> {
+    fn step(&mut self, alloc: Global, input: &NodeEventRef<'_>) -> Result<Reaction, OutOfMemory> {
         match input {
-            Input::Invoke(command) => {
+            NodeEventRef::Invoke(command) => {
                 if self.takes(command) {
                     self.ask(alloc, command)
                 } else {
                     Ok(nothing(alloc))
                 }
             }
-            Input::Message(bytes) => match self.credentials.open(alloc, bytes) {
+            NodeEventRef::Message(bytes) => match self.credentials.open(alloc, bytes) {
                 Some(m) => self.react(alloc, Given::Message(m)),
                 None => Ok(nothing(alloc)),
             },
-            Input::Timeout => self.react(alloc, Given::Time),
+            NodeEventRef::Timeout => self.react(alloc, Given::Time),
         }
     }
 

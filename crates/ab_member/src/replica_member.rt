@@ -17,7 +17,7 @@ use crate::credentials::Credentials;
 use crate::given::{Given, nothing};
 use ab_abs::Protocol;
 use ab_key_text::PartyKeys;
-use ab_loop::{Input, PartyCore, Reaction};
+use ab_loop::{NodeEventRef, PartyCore, Reaction};
 use ab_num::OutOfMemory;
 use ab_replica::{Effects, Replica};
 use ab_svc::Service;
@@ -120,14 +120,14 @@ impl<S: Service, P: Protocol<S>> PartyCore for ReplicaMember<S, P> {
 
     ghost rules = { replica_rules P.proto P.counted };
 
-    fn step(&mut self, alloc: Global, input: &Input<'_>) -> Result<Reaction, OutOfMemory> {
+    fn step(&mut self, alloc: Global, input: &NodeEventRef<'_>) -> Result<Reaction, OutOfMemory> {
         match input {
-            Input::Invoke(_) => Ok(nothing(alloc)),
-            Input::Message(bytes) => match self.credentials.open(alloc, bytes) {
+            NodeEventRef::Invoke(_) => Ok(nothing(alloc)),
+            NodeEventRef::Message(bytes) => match self.credentials.open(alloc, bytes) {
                 Some(m) => self.react(alloc, Given::Message(m)),
                 None => Ok(nothing(alloc)),
             },
-            Input::Timeout => self.react(alloc, Given::Time),
+            NodeEventRef::Timeout => self.react(alloc, Given::Time),
         }
     }
 

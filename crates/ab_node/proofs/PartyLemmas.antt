@@ -1,29 +1,13 @@
 -- One party that is served.
-use Rattle.std.proofs.Common.{◌≡◌, ℕ, List, [], ◌∷◌, map, Result, IfOk, IfErr, IsTrue, refl, sym, ap, subst, ◌∙◌}
+use Rattle.std.proofs.Common.{◌≡◌, ℕ, List, [], ◌∷◌, map, Result, IfOk, IfErr, refl, sym, ap, subst, ◌∙◌}
 use Rattle.arrayvec.specs.ArrayVec.{ArrayVec}
 use Rattle.ab_num.specs.declared.party.Party.{Party}
-use Rattle.ab_num.specs.declared.plan.Kind.{Kind}
-use Rattle.ab_num.specs.declared.plan.Kind.TheVariants.{Quorum, ZLight, Chain, Backup}
-use Rattle.ab_num.specs.declared.plan.Plan.{Plan}
-use Rattle.ab_num.specs.Places.{kind_of}
 use Rattle.ab_loop.specs.declared.fault.ServeFault.{ServeFault}
 use Rattle.ab_loop.specs.declared.serving.Served.{Served}
-use Rattle.ab_loop.specs.declared.setting.Setting.{Setting}
+use Rattle.ab_loop.specs.declared.node_setting.NodeSetting.{NodeSetting}
 use Rattle.ab_loop.specs.Cores.{Rules}
 use Rattle.ab_loop.specs.Runs.{HasServed, HasFaultOf, Start, start_of}
-use Rattle.ab_replay.specs.Protocols.{is_served}
 use Rattle.ab_node.specs.Nodes.{Meeting, CoreServed, CoreStopped, as_command, setting_of, start_with}
-
--- ---- each instance has a protocol, whatever the plan
-
-each_is_served : (k : Kind) → IsTrue (is_served k)
-each_is_served Quorum = refl
-each_is_served ZLight = refl
-each_is_served Chain = refl
-each_is_served Backup = refl
-
-pub all_served : (plan : Plan) (i : ℕ) → IsTrue (is_served (kind_of plan i))
-all_served plan i = each_is_served (kind_of plan i)
 
 -- ---- what a node is started with
 
@@ -31,10 +15,10 @@ as_were : (commands : List (ArrayVec ℕ)) → map as_command (map (λ c. c.item
 as_were [] = refl
 as_were (c ∷ cs) = ap (λ rest. c ∷ rest) (as_were cs)
 
-module _ {C : Type 0} (rules : Rules C) (x : Meeting) (me : Party) (core : C) (commands : List (ArrayVec ℕ)) (s : Setting) (turns : ℕ) (set : s ≡ setting_of x.asked me) (so_many : turns ≡ x.asked.turns) where
+module _ {C : Type 0} (rules : Rules C) (x : Meeting) (me : Party) (core : C) (commands : List (ArrayVec ℕ)) (s : NodeSetting) (turns : ℕ) (set : s ≡ setting_of x.asked me) (so_many : turns ≡ x.asked.turns) where
   start_is : start_of s turns core commands x.clock x.link ≡ start_with x me core (map (λ c. c.items) commands)
   start_is =
-      ap (λ (v : Setting). start_of v turns core commands x.clock x.link) set
+      ap (λ (v : NodeSetting). start_of v turns core commands x.clock x.link) set
       ∙ ap (λ (n : ℕ). start_of (setting_of x.asked me) n core commands x.clock x.link) so_many
       ∙ ap (λ (cs : List (ArrayVec ℕ)). start_of (setting_of x.asked me) x.asked.turns core cs x.clock x.link) (sym (as_were commands))
 

@@ -1,8 +1,9 @@
 -- A text that sets up a replica.
-use Rattle.std.proofs.Common.{◌≡◌, ℕ, List, Result, Ok, Err, IfOk, IfErr, sym, subst}
+use Rattle.std.proofs.Common.{◌≡◌, ℕ, List, Result, Ok, IfOk, IfErr, sym, subst}
 use Rattle.ab_num.specs.declared.party.Party.{Party}
 use Rattle.ab_num.specs.declared.party.Party.TheVariants.{Replica}
 use Rattle.ab_num.specs.declared.plan.ServiceName.{ServiceName}
+use Rattle.ab_num.proofs.Results.{if_ok_map, if_err_map}
 use Rattle.ab_text.specs.Lines.{lines_of}
 use Rattle.ab_key_text.specs.Keys.{PartyKeys}
 use Rattle.ab_key_text.specs.Nodes.{node_in, node_of}
@@ -11,14 +12,6 @@ use Rattle.ab_replay.specs.Replays.{proto_of}
 use Rattle.ab_node.specs.declared.stop.Stop.{Stop}
 use Rattle.ab_node.specs.declared.stop.Stop.TheVariants as stop
 use Rattle.ab_node.specs.Nodes.{Meeting, PartyServed, PartyStopped, ReplicaCause, ReplicaServed, IsServed, TextCause}
-
-if_ok_map : {T E : Type 0} {P Q : T → Type 0} (r : Result T E) → ((t : T) → P t → Q t) → IfOk r P → IfOk r Q
-if_ok_map (Ok t) each is = each t is
-if_ok_map (Err e) each is = tt
-
-if_err_map : {T E : Type 0} {P Q : E → Type 0} (r : Result T E) → ((e : E) → P e → Q e) → IfErr r P → IfErr r Q
-if_err_map (Ok t) each is = tt
-if_err_map (Err e) each is = each e is
 
 module _ (text : List ℕ) (x : Meeting) (k : PartyKeys) (commands : List (List ℕ)) (r : ℕ) (reads : node_in (lines_of text) ≡ Ok (node_of k commands)) (me : k.me ≡ Replica r) where
   serves : (served : Served) → ReplicaServed (proto_of k.service) k r commands x served → IsServed text x served

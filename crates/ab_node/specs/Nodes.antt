@@ -9,12 +9,12 @@ use Rattle.ab_text.specs.Lines.{lines_of}
 use Rattle.ab_key_text.specs.declared.fault.NodeFault.{NodeFault}
 use Rattle.ab_key_text.specs.declared.fault.NodeFault.TheVariants as text_fault
 use Rattle.ab_key_text.specs.Keys.{PartyKeys}
-use Rattle.ab_key_text.specs.Nodes.{Node, node_in}
+use Rattle.ab_key_text.specs.Nodes.{NodeText, node_in}
 use Rattle.ab_words.specs.Commands.{NodeCommand}
 use Rattle.ab_abs.specs.Ensembles.{Proto}
 use Rattle.ab_loop.specs.declared.fault.ServeFault.{ServeFault}
 use Rattle.ab_loop.specs.declared.serving.Served.{Served}
-use Rattle.ab_loop.specs.declared.setting.Setting.{Setting}
+use Rattle.ab_loop.specs.declared.node_setting.NodeSetting.{NodeSetting}
 use Rattle.ab_loop.specs.Cores.{Rules}
 use Rattle.ab_loop.specs.Outside.{Counts, Outside}
 use Rattle.ab_loop.specs.Runs.{HasFaultOf, HasServed, Start, start_of}
@@ -39,7 +39,7 @@ pub record Meeting : Type 0 where
   pub before : Counts
   pub after : Counts
 
-abbrev pub setting_of : NodeCommand → Party → Setting
+abbrev pub setting_of : NodeCommand → Party → NodeSetting
 setting_of a me = record { me = me; base = a.base; wait = a.wait; trace = a.trace }
 
 abbrev pub as_command : List ℕ → ArrayVec ℕ
@@ -94,13 +94,13 @@ PartyStopped (Client c) k commands x why = ClientStopped k c commands x why
 
 -- the party that the text sets up was served to the end: a client's commands are answered, or a replica's turns are used
 pub record IsServed (text : List ℕ) (x : Meeting) (served : Served) : Type 0 where
-  pub node : Node
+  pub node : NodeText
   pub reads : node_in (lines_of text) ≡ Ok node
   pub run : PartyServed node.keys.me node.keys node.commands x served
 
 -- it was served, and the node stopped for this
 pub record IsStopped (text : List ℕ) (x : Meeting) (why : ServeFault) : Type 0 where
-  pub node : Node
+  pub node : NodeText
   pub reads : node_in (lines_of text) ≡ Ok node
   pub fault : PartyStopped node.keys.me node.keys node.commands x why
 

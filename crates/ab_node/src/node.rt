@@ -14,7 +14,7 @@ use crate::stop::Stop;
 use ab_io::{Clock, Link, Sink, Source};
 use ab_key_text::{Commands, NodeFault, PartyKeys, keys_are_whole, read_node};
 use ab_kv::Kv;
-use ab_loop::{Job, PartyCore, ServeFault, Served, Setting, serve};
+use ab_loop::{Job, NodeSetting, PartyCore, ServeFault, Served, serve};
 use ab_member::{ClientMember, ReplicaMember};
 use ab_num::{Party, ServiceName};
 use ab_replay::{AnyProtocol, ReadFault, Refusal, RefusalCause, read_all};
@@ -23,11 +23,11 @@ use ab_words::NodeCommand;
 use std::alloc::Global;
 
 /// What the node is told once.
-fn setting_of(asked: &NodeCommand, me: Party) -> Setting
+fn setting_of(asked: &NodeCommand, me: Party) -> NodeSetting
     ensures value { result ≡ setting_of asked.now me }
     ensures bound { result.base ≤ 65000 }
 {
-    Setting {
+    NodeSetting {
         me,
         base: asked.base(),
         wait: u32::from(asked.wait()),

@@ -4,7 +4,7 @@ use Rattle.std.specs.List.{list_all, flat_map}
 use Rattle.std.proofs.lemmas.Grind.{flat_map-append}
 use Rattle.std.proofs.lemmas.List.Elements.{All-head, All-tail}
 use Rattle.std.proofs.lemmas.Bool.{lt-ltb}
-use Rattle.std.proofs.Math.Bool.{and_assoc}
+use Rattle.std.proofs.Math.Bool.{and_assoc, and-true}
 use Rattle.std.proofs.Math.Nat.{mod-lt}
 use Rattle.std.proofs.lemmas.List.{append-nil, map-append}
 use Rattle.std.proofs.lemmas.List.Folds.{list_all-append}
@@ -30,10 +30,6 @@ use Rattle.ab_msg.specs.Certs.{IsProof, entries_of}
 use Rattle.ab_open.specs.Named.{clients_of, signers_of, values_name, aborts_name, offer_names, change_names}
 
 -- ---- tests
-
-and_true : (a : Bool) → (a && true) ≡ a
-and_true true = refl
-and_true false = refl
 
 twice : (a : Bool) → (a && a) ≡ a
 twice true = refl
@@ -107,7 +103,7 @@ prepare-names P f me s = one-content P (parties_of_content s.content)
 history-named : (P : Party → Bool) (c : Content) → (list_all P (parties_of_content c) && list_all P (flat_map clients_of (stated_history c))) ≡ list_all P (parties_of_content c)
 history-named P (Abort maker i h) =
     ap (λ (xs : List Party). (P maker && list_all P (clients_of h)) && list_all P xs) (append-nil (clients_of h)) ∙ again (P maker) (list_all P (clients_of h))
-history-named P c = and_true (list_all P (parties_of_content c))
+history-named P c = and-true (list_all P (parties_of_content c))
 
 abort-names-of : (P : Party → Bool) (f : ℕ) (me : Party) (s : Signed) (c : Content) → s.content ≡ c → list_all P (parties_of f me (msg.Abort s)) ≡ (list_all P (parties_of_content c) && list_all P (flat_map clients_of (stated_history c)))
 abort-names-of P f me s c e =
@@ -173,18 +169,18 @@ pre_prepare-names P f me c tag o =
 
 -- ---- values
 
-requests-of : (rs : List Request) → value_requests (map value.Request rs) ≡ rs
-requests-of [] = refl
-requests-of (m ∷ rs) = ap (λ (xs : List Request). m ∷ xs) (requests-of rs)
+pub requests_of : (rs : List Request) → value_requests (map value.Request rs) ≡ rs
+requests_of [] = refl
+requests_of (m ∷ rs) = ap (λ (xs : List Request). m ∷ xs) (requests_of rs)
 
-histories-of : (rs : List Request) → value_histories (map value.Request rs) ≡ []
-histories-of [] = refl
-histories-of (m ∷ rs) = histories-of rs
+pub histories_of : (rs : List Request) → value_histories (map value.Request rs) ≡ []
+histories_of [] = refl
+histories_of (m ∷ rs) = histories_of rs
 
 pub values-test : (P : Party → Bool) (h rs : List Request) → list_all P (values_name (value.Base h ∷ map value.Request rs)) ≡ (list_all P (clients_of rs) && list_all P (clients_of h))
 values-test P h rs =
-    ap (λ (xs : List Request). list_all P (clients_of xs ++ flat_map clients_of (h ∷ value_histories (map value.Request rs)))) (requests-of rs)
-    ∙ ap (λ (hs : List (List Request)). list_all P (clients_of rs ++ flat_map clients_of (h ∷ hs))) (histories-of rs)
+    ap (λ (xs : List Request). list_all P (clients_of xs ++ flat_map clients_of (h ∷ value_histories (map value.Request rs)))) (requests_of rs)
+    ∙ ap (λ (hs : List (List Request)). list_all P (clients_of rs ++ flat_map clients_of (h ∷ hs))) (histories_of rs)
     ∙ ap (λ (xs : List Party). list_all P (clients_of rs ++ xs)) (append-nil (clients_of h))
     ∙ list_all-append P (clients_of rs) (clients_of h)
 
@@ -308,5 +304,5 @@ pub chain-names : (f clients : ℕ) (me : Party) (i : ℕ) (m : Request) (n : �
     → list_all (is_party f clients) (parties_of f me (msg.Chain i m n d reply tags)) ≡ is_party f clients (Client m.client)
 chain-names f clients me i m n d reply tags =
     list_all-append (is_party f clients) (flat_map parties_of_content (chain_claims f me i m n d reply)) (Client m.client ∷ [])
-    ∙ ap (λ (b : Bool). list_all (is_party f clients) (flat_map parties_of_content (chain_claims f me i m n d reply)) && b) (and_true (is_party f clients (Client m.client)))
+    ∙ ap (λ (b : Bool). list_all (is_party f clients) (flat_map parties_of_content (chain_claims f me i m n d reply)) && b) (and-true (is_party f clients (Client m.client)))
     ∙ implied _ (is_party f clients (Client m.client)) (chain-named f clients me i m n d reply)

@@ -1,9 +1,8 @@
 -- A Backup over a lawful orderer is lawful.
 use Rattle.std.proofs.Common.{◌≡◌, ◌≢◌, ℕ, zero, suc, ◌+◌, ◌<◌, ◌≤◌, Bool, true, false, Some, None, Option, List, [], ◌∷◌, ◌++◌, ◌⊎◌, length, refl, sym, ap, ◌∙◌, subst, inl, inr, arith, append-nil, length-append}
-use Rattle.std.specs.Prelude.{Contains, IsTrue, nat_le, nat_lt, slice_get, unwrap_or}
-use Rattle.std.proofs.lemmas.Bool.{cases_Bool, cases_lt}
+use Rattle.std.specs.Prelude.{Contains, IsTrue, nat_lt, slice_get, unwrap_or}
+use Rattle.std.proofs.lemmas.Bool.{cases_Bool, cases_lt, leb-true, le-leb}
 use Rattle.std.proofs.lemmas.Option.{slice_get_within}
-use Rattle.std.proofs.lemmas.Bool.Decides.{nat_tests}
 use mathlib.Core.List.{IsPrefix}
 use base.Growing.{prefix_refl}
 use Rattle.ab_num.specs.declared.party.Party.TheVariants.{Replica, Client}
@@ -15,6 +14,7 @@ use Rattle.ab_msg.specs.declared.content.Content.TheVariants.{Req, Order, Resp, 
 use Rattle.ab_abs.specs.declared.seen.Seen.{Seen}
 use Rattle.ab_abs.specs.declared.rule.ReplyRule.TheVariants as rules
 use Rattle.ab_num.specs.Places.{limit_of}
+use Rattle.ab_num.proofs.Lists.{Contains-head, Contains-tail, Contains-cons_cases, flat_map_cases, Contains-one, Contains-none}
 use Rattle.ab_msg.specs.declared.value.Value.{Value}
 use Rattle.ab_abs.specs.Faults.{is_faulty}
 use Rattle.ab_abs.specs.Instances.{IsAbstract}
@@ -23,11 +23,8 @@ use Rattle.ab_abs.specs.Rules.{IsOtherBy, IsAsked, request, panic, IsStill, is_i
 use Rattle.ab_abs.specs.Lawful.{first, call, other}
 use Rattle.ab_abs.specs.Backing.{IsCorrect, IsStopped}
 use Rattle.ab_abs.specs.OrderRules.{WasClaimed, IsOrderCall, IsOrderAnswer, IsOrderSound}
-use Rattle.ab_abs.proofs.Counting.{Contains-head, Contains-tail}
-use Rattle.ab_abs.proofs.Lists.{Contains-cons_cases, flat_map_cases}
 use Rattle.ab_abs.proofs.Facts.{state_cases, state_own, state_quiet}
 use Rattle.ab_abs.proofs.Prefixes.{prefix_length}
-use Rattle.ab_abs.proofs.Statements.{one_of, none_of}
 use Rattle.ab_abs.proofs.Orders.{order_promises}
 use Rattle.ab_order.specs.Orders.{OrderPremises, IsOneOrder, IsQuiet, is_ordering}
 use Rattle.ab_order.specs.Orderers.{IsReached, by_input, Handed, Ordering, base_at, begun_empty, IsTurn, IsOrderly, IsLawfulOrderer}
@@ -52,23 +49,17 @@ front_stands [] rest t m lt is = absurd (omega (arith, lt))
 front_stands (n ∷ h) rest zero m lt is = let e : n ≡ m = cc (is) in subst (λ (z : Request). Contains (n ∷ h) z) e (Contains-head n h)
 front_stands (n ∷ h) rest (suc t) m lt is = Contains-tail n m h (front_stands h rest t m (omega (arith, lt)) is)
 
-le_of : (a b : ℕ) → nat_le a b ≡ true → a ≤ b
-le_of a b h = grind (arith, nat_tests)
-
-of_le : (a b : ℕ) → a ≤ b → nat_le a b ≡ true
-of_le a b h = grind (arith, nat_tests)
-
 -- an answer is no statement of an order
 answers_quiet : {S : Type 0} (machine : Machine S) (i me b : ℕ) (log : List Request) (m : Request) (s : Content) → Contains (answer_of machine i me b log m) s → is_ordering s ≡ false
 answers_quiet machine i me b log m s has = of_place (place_in log m) has
   where
     of_place : (o : Option ℕ) → Contains (answer_in machine i me b log m o) s → is_ordering s ≡ false
-    of_place None has = absurd (none_of s has)
-    of_place (Some n) has = ap is_ordering (sym (one_of _ s has))
+    of_place None has = absurd (Contains-none s has)
+    of_place (Some n) has = ap is_ordering (sym (Contains-one _ s has))
 
 -- a request is kept as it is asked
 pub keep_cases : (q : Request) (kept : List Request) (m : Request) → Contains (keep q kept) m → (q ≡ m) ⊎ Contains kept m
-keep_cases q [] m has = inl (one_of q m has)
+keep_cases q [] m has = inl (Contains-one q m has)
 keep_cases q (o ∷ kept) m has =
     elim (cases_Bool (nat_lt q.client o.client)) [
       | inl below ↦ Contains-cons_cases q (o ∷ kept) m (rw below at has)
@@ -112,11 +103,11 @@ other_quiet x acts a (by_client c own is) = record {
   rests = λ r. elim (state_cases a acts r) [ inl same ↦ absurd (cc (own, same.0)) | inr differ ↦ differ.1 ];
 }
 other_quiet x acts a (takes q claims h lt is valid) = record {
-  states = λ s has. absurd (none_of s (subst (λ (b : Act). Contains b.made s) is has));
+  states = λ s has. absurd (Contains-none s (subst (λ (b : Act). Contains b.made s) is has));
   rests = λ r. state_quiet a acts r (ap (λ b. b.state) is);
 }
 other_quiet x acts a (aborts q s lt was stopped is) = record {
-  states = λ c has. ap is_ordering (sym (one_of (Abort (Replica q) x.i s.log) c (subst (λ (b : Act). Contains b.made c) is has)));
+  states = λ c has. ap is_ordering (sym (Contains-one (Abort (Replica q) x.i s.log) c (subst (λ (b : Act). Contains b.made c) is has)));
   rests = λ r. state_quiet a acts r (ap (λ b. b.state) is);
 }
 
@@ -127,7 +118,7 @@ module _ {P E : Type 0} (handed : Handed E) (proto : Ordering P E) (orderly : Is
     where
       of_base : (o : Option (List Request)) → proto.base v.order ≡ o → is_done v.k o (proto.ordered v.order) ≡ true → (h : List Request) × (proto.base v.order ≡ Some h) × (length h + v.k ≤ length (proto.ordered v.order))
       of_base None none halt = absurd (cc (halt))
-      of_base (Some h) is halt = (h, is, le_of (length h + v.k) (length (proto.ordered v.order)) halt)
+      of_base (Some h) is halt = (h, is, leb-true (length h + v.k) (length (proto.ordered v.order)) halt)
 
   -- with its requests all there, and no more to come, it stays as it is
   still_stopped : (v : Backing P) (e : E) (h : List Request) → proto.base v.order ≡ Some h → length h + v.k ≤ length (proto.ordered v.order) → length (proto.ordered (proto.after v.order e)) ≤ length h + v.k
@@ -136,7 +127,7 @@ module _ {P E : Type 0} (handed : Handed E) (proto : Ordering P E) (orderly : Is
       let grows = orderly.grows v.order e in
       let more = prefix_length (proto.ordered v.order) (proto.ordered (proto.after v.order e)) grows in (
         same_length (proto.ordered v.order) (proto.ordered (proto.after v.order e)) grows (omega (arith, long, short)),
-        ap (λ o. is_done v.k o (proto.ordered (proto.after v.order e))) (orderly.keeps v.order e h is) ∙ of_le (length h + v.k) (length (proto.ordered (proto.after v.order e))) (omega (arith, long, more)),
+        ap (λ o. is_done v.k o (proto.ordered (proto.after v.order e))) (orderly.keeps v.order e h is) ∙ le-leb (length h + v.k) (length (proto.ordered (proto.after v.order e))) (omega (arith, long, more)),
       )
 
   -- so a stopped value stays so, whatever it is handed
@@ -217,7 +208,7 @@ module _ {S P E : Type 0} (machine : Machine S) (handed : Handed E) (proto : Ord
                 limit = refl;
                 rooted = may.nothing;
                 left = state_own (start_of x me base (begun_empty base)) own me (begun_empty base) refl refl ∙ ap Some same;
-                kept = λ m has. absurd (none_of m has);
+                kept = λ m has. absurd (Contains-none m has);
                 order = l.0;
               },
               λ premises. record {
@@ -254,7 +245,7 @@ module _ {S P E : Type 0} (machine : Machine S) (handed : Handed E) (proto : Ord
         where
           of_stop : (b : Bool) → Contains (unless_stopped b (answers_by proto handed machine v (asked_list (handed.asked e)))) s
               → (m : Request) × Contains (asked_list (handed.asked e)) m × Contains (answer_of machine v.instance v.me (length (base_at proto v.order)) (proto.ordered v.order) m) s
-          of_stop true none = absurd (none_of s none)
+          of_stop true none = absurd (Contains-none s none)
           of_stop false has = flat_map_cases (answer_of machine v.instance v.me (length (base_at proto v.order)) (proto.ordered v.order)) (asked_list (handed.asked e)) s has
 
       abbrev due_now : List Request
@@ -266,7 +257,7 @@ module _ {S P E : Type 0} (machine : Machine S) (handed : Handed E) (proto : Ord
         where
           of_stop : (b : Bool) → Contains (unless_stopped b (answers_by proto handed machine (next v e) due_now)) s
               → (m : Request) × Contains due_now m × Contains (answer_of machine v.instance v.me (length (base_at proto q)) (proto.ordered q) m) s
-          of_stop true none = absurd (none_of s none)
+          of_stop true none = absurd (Contains-none s none)
           of_stop false has = flat_map_cases (answer_of machine v.instance v.me (length (base_at proto q)) (proto.ordered q)) due_now s has
 
       turn : IsTurn handed proto x own me p e act
@@ -370,11 +361,11 @@ module _ {S P E : Type 0} (machine : Machine S) (handed : Handed E) (proto : Ord
         first_right m s asked has = of_base (proto.base p) refl
           where
             was_asked : (o : Option Request) → Contains (asked_list o) m → o ≡ Some m
-            was_asked None none = absurd (none_of m none)
-            was_asked (Some n) is = ap Some (one_of n m is)
+            was_asked None none = absurd (Contains-none m none)
+            was_asked (Some n) is = ap Some (Contains-one n m is)
 
             no_answer : (log : List Request) (b : ℕ) → log ≡ [] → Contains (answer_of machine v.instance v.me b log m) s → ⊥
-            no_answer log b none answer = none_of s (subst (λ (l : List Request). Contains (answer_of machine v.instance v.me b l m) s) none answer)
+            no_answer log b none answer = Contains-none s (subst (λ (l : List Request). Contains (answer_of machine v.instance v.me b l m) s) none answer)
 
             of_base : (o : Option (List Request)) → proto.base p ≡ o → IsOrderAnswer machine x acts claims (at (next v e)) me s
             of_base None none = absurd (no_answer (proto.ordered p) (length (base_at proto p)) (orderly.empty p none) has)
@@ -472,7 +463,7 @@ module _ {S P E : Type 0} (machine : Machine S) (handed : Handed E) (proto : Ord
       let a = call_of me [] [] [] [] (at v) in
       let here : state_of acts me ≡ Some (at v) = sym (own_state acts me) ∙ stands.left in
       let quiet : IsQuiet acts (call_of me [] [] [] [] (at v)) = record {
-        states = λ s has. absurd (none_of s has);
+        states = λ s has. absurd (Contains-none s has);
         rests = λ r.
             elim (state_cases a acts r) [
               | inl same ↦ let e : me ≡ r = cc (same.0) in same.1 ∙ subst (λ (q : ℕ). Some (at v) ≡ state_of acts q) e (sym here)
@@ -491,7 +482,7 @@ module _ {S P E : Type 0} (machine : Machine S) (handed : Handed E) (proto : Ord
               grows = prefix_refl (at v).log;
               rises = subst (λ (h : List Request). IsHistory h) (ap log_at here) ((law.one_order x k acts was.ordered).rises me good);
               frozen = λ halt. (refl, halt);
-              states = λ s has. absurd (none_of s has);
+              states = λ s has. absurd (Contains-none s has);
             }) (unmarked refl) refl,
             stands.correct,
             was.lawful,

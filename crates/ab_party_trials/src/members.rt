@@ -12,7 +12,9 @@ use ab_hist::array_of;
 use ab_io::{MemClock, MemLink, SureSink};
 use ab_key_text::{PartyKeys, keys_are_whole};
 use ab_kv::Kv;
-use ab_loop::{Commands, Input, Job, PartyCore, Reaction, ServeFault, Served, Setting, serve};
+use ab_loop::{
+    Commands, Job, NodeEventRef, NodeSetting, PartyCore, Reaction, ServeFault, Served, serve,
+};
 use ab_member::{ClientMember, ReplicaMember};
 use ab_msg::Packet;
 use ab_num::{Cluster, Height, OutOfMemory, Party, Plan, ServiceName};
@@ -87,7 +89,7 @@ fn add_message(
 /// What the client sends as it takes its first command.
 fn asked(alloc: Global) -> Result<Reaction, OutOfMemory> {
     let mut client = client(alloc)?;
-    let done = client.step(alloc, &Input::Invoke(b"put a 1"));
+    let done = client.step(alloc, &NodeEventRef::Invoke(b"put a 1"));
     drop(client);
     done
 }
@@ -97,7 +99,7 @@ fn told(alloc: Global, r: u8, bytes: &[u8]) -> Result<Reaction, OutOfMemory>
     requires { r < 4 }
 {
     let mut replica = replica(alloc, r)?;
-    let done = replica.step(alloc, &Input::Message(bytes));
+    let done = replica.step(alloc, &NodeEventRef::Message(bytes));
     drop(replica);
     done
 }
@@ -161,7 +163,7 @@ fn job(alloc: Global, turns: u64) -> Option<Job<ClientMember>>
     };
     Some(Job {
         core,
-        setting: Setting {
+        setting: NodeSetting {
             me: Party::Client(0),
             base: 9000,
             wait: 50,

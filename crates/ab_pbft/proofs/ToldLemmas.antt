@@ -1,6 +1,5 @@
 -- What is put on the shelf of a message that is told.
-use Rattle.std.proofs.Common.{◌≡◌, ℕ, List, Result, Ok, Err, refl}
-use Rattle.std.specs.Prelude.{OnOk}
+use Rattle.std.proofs.Common.{◌≡◌, ℕ, List, refl}
 use Rattle.ab_msg.specs.declared.content.Content.{Content}
 use Rattle.arrayvec.specs.ArrayVec.{ArrayVec}
 use Rattle.ab_msg.specs.declared.signed.Signed.{Signed}
@@ -8,17 +7,12 @@ use Rattle.ab_msg.specs.declared.change.Proof.{Proof}
 use Rattle.ab_msg.specs.declared.message.Msg.{Msg}
 use Rattle.ab_msg.specs.declared.message.Msg.TheVariants as msg
 use Rattle.ab_abs.specs.Messages.{took}
-use Rattle.ab_order.specs.Inputs.{Input}
+use Rattle.ab_order.specs.Inputs.{Reading}
 use Rattle.ab_pbft_shelf.specs.Shelves.{Shelf}
 use Rattle.ab_pbft_shelf.specs.Signing.{puts}
 
--- what follows where there is a value
-pub on_ok : {T E A B : Type 0} (r : Result T E) → (A → B) → OnOk r A → OnOk r B
-on_ok (Ok t) f a = f a
-on_ok (Err e) f a = tt
-
 -- of a message that is no request, PREPARE or VIEW-CHANGE nothing is put there
-pub puts_none : (f : ℕ) (m : Msg) (e : Input) (s : Shelf)
+pub puts_none : (f : ℕ) (m : Msg) (e : Reading) (s : Shelf)
     → ((content : Content) (tags : ArrayVec (ℕ × List ℕ)) → m ≡ msg.Req content tags → ⊥) → ((signed : Signed) → m ≡ msg.Prepare signed → ⊥) → ((proof : Proof) → m ≡ msg.ViewChange proof → ⊥)
     → s ≡ puts f (took m) e s
 puts_none f (msg.Req content tags) e s request prepare change = absurd (request content tags refl)

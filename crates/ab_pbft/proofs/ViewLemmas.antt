@@ -5,17 +5,17 @@ use Rattle.std.specs.Str.{bytes_eq}
 use Rattle.std.proofs.lemmas.Grind.{flat_map-append}
 use Rattle.std.proofs.lemmas.List.{map-append}
 use Rattle.std.proofs.lemmas.List.Sums.{sum_by-append}
+use Rattle.ab_num.proofs.Lists.{Contains-head, Contains-tail}
 use Rattle.ab_msg.specs.declared.value.Value.{Value}
 use Rattle.ab_msg.specs.Slots.{slot_digest}
 use Rattle.ab_abs.specs.Values.{goes}
-use Rattle.ab_abs.proofs.Counting.{Contains-head, Contains-tail}
 use Rattle.ab_lock.specs.Steps.{accepts, signs, prepares, changes, enters, executes, State, after}
 use Rattle.ab_lock.specs.ViewChanges.{enter, leave}
 use Rattle.ab_lock.specs.Events.{state_by, settles_by, accept}
 use Rattle.ab_lock.proofs.VoteLemmas.{IsInView, settled_in_view}
-use Rattle.ab_order.specs.Inputs.{Input}
+use Rattle.ab_order.specs.Inputs.{Reading}
 use Rattle.ab_pbft_rules.specs.Traces.{OrderStep}
-use Rattle.ab_pbft_rules.specs.Rules.{Doing, takes_step, offers, leads, oldest_first, Seat, Work, core_of, settle, idle, Pbft, done_by}
+use Rattle.ab_pbft_rules.specs.Rules.{Doing, takes_step, offers, leads, oldest_first, Placement, Work, core_of, settle, idle, Pbft, done_by}
 use Rattle.ab_pbft_rules.proofs.RuleInduction.{IsSpoken, is_spoken, IsKept, work_kept}
 use Rattle.ab_slots.specs.Deeds.{prepared_in, deeds_of, told_in}
 use Rattle.ab_pbft_shelf.specs.Signing.{is_leaving, leavings}
@@ -76,7 +76,7 @@ view_stays (step ∷ steps) s each =
 
 -- ---- each rule
 
-module _ (seat : Seat) (e : Input) (start : Work) (first : ℕ) where
+module _ (seat : Placement) (e : Reading) (start : Work) (first : ℕ) where
   -- the view is at least the first one with one for each that was left
   abbrev Rises : Work → Type 0
   Rises w = first + left_in w.doings ≤ (core_of w).view
@@ -105,7 +105,7 @@ module _ (seat : Seat) (e : Input) (start : Work) (first : ℕ) where
   }
 
 -- in an event
-pub views_rise : (q : Pbft) (e : Input) → q.memory.peer.core.view + left_in (done_by q e).doings ≤ (done_by q e).at.peer.core.view
+pub views_rise : (q : Pbft) (e : Reading) → q.memory.peer.core.view + left_in (done_by q e).doings ≤ (done_by q e).at.peer.core.view
 views_rise q e =
     let start = idle q.memory in
     let first = q.memory.peer.core.view in

@@ -17,8 +17,8 @@ use ab_hist::History;
 use ab_msg::{Notary, Outs};
 use ab_num::{Cluster, OutOfMemory};
 use ab_pbft_shelf::{Author, Shelf};
-use ab_pbft_work::{Memory, Seat, Turn};
-use ab_slots::{Deed, Input};
+use ab_pbft_work::{Memory, Placement, Progress};
+use ab_slots::{Notice, Reading};
 use ab_wire::MsgRef;
 use std::alloc::Global;
 use std::marker::Model;
@@ -29,7 +29,7 @@ use std::marker::Model;
 /// counted in `left`.
 pub struct Pbft {
     cluster: Cluster,
-    seat: Seat,
+    seat: Placement,
     memory: Memory,
     shelf: Shelf,
     left: u32,
@@ -60,17 +60,17 @@ impl Model for Pbft {
 }
 
 /// Whether it leaves a view.
-fn is_leaving(deed: &Deed) -> bool
+fn is_leaving(deed: &Notice) -> bool
     ensures { result ≡ is_leaving deed.now }
 {
     match deed {
-        Deed::Changes { .. } => true,
+        Notice::Changes { .. } => true,
         _ => false,
     }
 }
 
 /// How many of these leave a view.
-fn leavings(deeds: &[Deed]) -> usize
+fn leavings(deeds: &[Notice]) -> usize
     ensures { result ≡ leavings deeds.now }
 {
     deeds.iter().filter(|d| is_leaving(d)).count()
@@ -89,7 +89,7 @@ impl Pbft {
     }
 
     /// How often it left a view, once it did this.
-    fn left_after(&self, turn: &Turn) -> u32
+    fn left_after(&self, turn: &Progress) -> u32
         requires { self.now.order.memory.peer.core.view + leavings turn.now.deeds.items ≤ (memory_of turn.now.memory).peer.core.view }
         ensures count { result ≡ self.now.left + leavings turn.now.deeds.items }
         ensures within { result ≤ (memory_of turn.now.memory).peer.core.view }
@@ -102,11 +102,11 @@ impl Pbft {
     }
 
     /// A copy of its memory, once it does what the rules say as something comes, with what others hear of.
-    fn turned(&self, alloc: Global, input: Input) -> Result<Turn, OutOfMemory>
+    fn turned(&self, alloc: Global, input: Reading) -> Result<Progress, OutOfMemory>
         ensures { IfOk result (λ turn. Shows turn (done_by self.now.order (input_of input))) }
     {
         let memory = self.memory.copy(alloc)?;
-        let mut turn = Turn::new(alloc, memory);
+        let mut turn = Progress::new(alloc, memory);
         turn.work(alloc, &self.seat, input)?;
         Ok(turn)
     }
@@ -116,7 +116,7 @@ impl Pbft {
         &self,
         alloc: Global,
         mut shelf: Shelf,
-        deeds: &[Deed],
+        deeds: &[Notice],
         n: &mut N,
     ) -> Result<(Shelf, Outs), StepFault>
         ensures ok { IfOk result (λ made. posts_all (author_of self.now) deeds.now (record { pen = N.pen n.old; shelf = shelf; sent = [] }) ≡ record { pen = N.pen n.new; shelf = made.0; sent = made.1 }) }
@@ -134,7 +134,7 @@ impl Pbft {
         &self,
         alloc: Global,
         shelf: Shelf,
-        input: Input,
+        input: Reading,
         n: &mut N,
     ) -> Result<(Pbft, Outs), StepFault>
         ensures next { IfOk result (λ made. made.0 ≡ next_of (N.pen n.old) self.now shelf (input_of input)) }
@@ -181,7 +181,7 @@ impl Orderer for Pbft {
         let k = c.limit(i);
         let base = e.base.copy(alloc)?;
         let shelf = Shelf::new(alloc, k, &e.cert)?;
-        let seat = Seat {
+        let seat = Placement {
             k,
             f: c.f,
             instance: i,
@@ -211,7 +211,7 @@ impl Orderer for Pbft {
 
     fn timeout<N: Notary>(&self, alloc: Global, n: &mut N) -> Result<(Self, Outs), StepFault> {
         let shelf = self.shelf.copy(alloc)?;
-        self.work(alloc, shelf, Input::Timeout, n)
+        self.work(alloc, shelf, Reading::Timeout, n)
     }
 
     fn copy(&self, alloc: Global) -> Result<Self, OutOfMemory> {

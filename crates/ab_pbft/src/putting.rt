@@ -11,31 +11,31 @@ ghost use Rattle.ab_pbft_shelf.specs.Signing.{puts};
 
 use ab_msg::{Msg, Proof, Signed, Tags};
 use ab_num::{Cluster, OutOfMemory};
-use ab_pbft_shelf::{Ballot, Shelf};
+use ab_pbft_shelf::{Shelf, SignedVote};
 use ab_pbft_work::read;
-use ab_slots::Input;
+use ab_slots::Reading;
 use ab_wire::MsgRef;
 use std::alloc::Global;
 use std::mem::drop;
 
 /// The tags of a request that is told.
-fn put_tags(shelf: &mut Shelf, tags: Tags, input: &Input) -> Result<(), OutOfMemory>
+fn put_tags(shelf: &mut Shelf, tags: Tags, input: &Reading) -> Result<(), OutOfMemory>
     ensures { OnOk result ((f : ℕ) (s : Content) → shelf.new ≡ puts f (took (msg.Req s tags)) (input_of input.now) shelf.old) }
 {
     match input {
-        Input::Request(m) => shelf.keep_tags(m.client, tags),
+        Reading::Request(m) => shelf.keep_tags(m.client, tags),
         _ => Ok(()),
     }
 }
 
 /// A PREPARE that is told.
-fn put_ballot(shelf: &mut Shelf, prepare: Signed, input: &Input) -> Result<(), OutOfMemory>
+fn put_ballot(shelf: &mut Shelf, prepare: Signed, input: &Reading) -> Result<(), OutOfMemory>
     ensures { OnOk result ((f : ℕ) → shelf.new ≡ puts f (took (msg.Prepare prepare)) (input_of input.now) shelf.old) }
 {
     match input {
-        Input::Prepare { by, view, slot, x } => shelf.keep_ballot(
+        Reading::Prepare { by, view, slot, x } => shelf.keep_ballot(
             *view,
-            Ballot {
+            SignedVote {
                 by: *by,
                 slot: *slot,
                 x: *x,
@@ -47,11 +47,11 @@ fn put_ballot(shelf: &mut Shelf, prepare: Signed, input: &Input) -> Result<(), O
 }
 
 /// A VIEW-CHANGE that is told and fits.
-fn put_proof(f: u8, shelf: &mut Shelf, proof: Proof, input: &Input) -> Result<(), OutOfMemory>
+fn put_proof(f: u8, shelf: &mut Shelf, proof: Proof, input: &Reading) -> Result<(), OutOfMemory>
     ensures { OnOk result (shelf.new ≡ puts f (took (msg.ViewChange proof)) (input_of input.now) shelf.old) }
 {
     match input {
-        Input::ViewChange(change) => {
+        Reading::ViewChange(change) => {
             if change.fits(f) {
                 shelf.keep_proof(proof)
             } else {
@@ -68,7 +68,7 @@ pub(crate) fn receive(
     c: &Cluster,
     instance: u32,
     m: MsgRef<'_>,
-) -> Result<(Msg, Input), OutOfMemory>
+) -> Result<(Msg, Reading), OutOfMemory>
     requires { IsReceived m }
     ensures own { IfOk result (λ told. told.0 ≡ message m.entry) }
     ensures tells { IfOk result (λ told. input_of told.1 ≡ read_message c.now instance (message m.entry)) }
@@ -86,7 +86,7 @@ pub(crate) fn receive(
 
 /// Keeps what a message brings, which tells a replica this: a request's tags, a PREPARE of the present view, and a
 /// VIEW-CHANGE that fits where f replicas may be faulty. After an `Err` the shelf may be anything.
-fn put(f: u8, shelf: &mut Shelf, m: Msg, input: &Input) -> Result<(), OutOfMemory>
+fn put(f: u8, shelf: &mut Shelf, m: Msg, input: &Reading) -> Result<(), OutOfMemory>
     ensures { OnOk result (shelf.new ≡ puts f (took m) (input_of input.now) shelf.old) }
 {
     match m {
@@ -104,7 +104,7 @@ fn put(f: u8, shelf: &mut Shelf, m: Msg, input: &Input) -> Result<(), OutOfMemor
 }
 
 /// A shelf once what a message brings is on it.
-pub(crate) fn shelve(f: u8, mut shelf: Shelf, m: Msg, input: &Input) -> Result<Shelf, OutOfMemory>
+pub(crate) fn shelve(f: u8, mut shelf: Shelf, m: Msg, input: &Reading) -> Result<Shelf, OutOfMemory>
     ensures { IfOk result (λ held. held ≡ puts f (took m) (input_of input.now) shelf) }
 {
     put(f, &mut shelf, m, input)?;

@@ -4,6 +4,7 @@ use Rattle.std.specs.Prelude.{Contains}
 use Rattle.std.proofs.lemmas.Option.{none-some, same_Some}
 use Rattle.std.proofs.lemmas.List.{length-set, length-map, length-replicate}
 use Rattle.ab_num.specs.declared.party.Party.TheVariants.{Replica}
+use Rattle.ab_num.proofs.Lists.{Contains-map_cases}
 use Rattle.ab_hist.specs.declared.request.Request.{Request}
 use Rattle.ab_mac.proofs.Sha256Lemmas.{length-sha256}
 use Rattle.ab_hist.specs.Digests.{digest_of_base, request_digest}
@@ -15,10 +16,10 @@ use Rattle.ab_msg.specs.Fields.{IsInstance, IsView, IsSig}
 use Rattle.ab_msg.specs.Contents.{IsEntry}
 use Rattle.ab_msg.specs.Certs.{IsRequestValue, AreSlotValues, ArePrepares, IsProof}
 use Rattle.ab_abs.proofs.Certified.{all_of}
-use Rattle.ab_lock.specs.Steps.{Cert, Entry, cert_at, with_cert, entry_of}
+use Rattle.ab_lock.specs.Steps.{Cert, SlotEntry, cert_at, with_cert, entry_of}
 use Rattle.ab_lock.specs.ViewChanges.{cert_then, certs_from}
 use Rattle.ab_lock.proofs.CertLemmas.{with_cert-last, with_cert-other}
-use Rattle.ab_lock.proofs.Lists.{nth_map, Contains-map_cases}
+use Rattle.ab_lock.proofs.Lists.{nth_map}
 use Rattle.ab_lock.proofs.ViewChangeLemmas.{listed}
 use Rattle.ab_order.proofs.Answering.{place_of}
 use Rattle.ab_pbft_rules.specs.Traces.{pair_of}
@@ -138,7 +139,7 @@ own_formed k me i view certs certified sig small few placed seen signs each are 
     let p = Contains-map_cases pair_of entries e has in
     let c = Contains-map_cases (entry_of slot_digest) stated p.0 p.1 in
     let t = place_of stated c.0 c.1 in
-    subst (λ (x : ℕ × List ℕ). IsEntry x) p.2 (subst (λ (x : Entry (List ℕ)). IsEntry (pair_of x)) c.2 (entry_formed c.0 t.0 (own_certs k certs each t.0 c.0 t.1))) in
+    subst (λ (x : ℕ × List ℕ). IsEntry x) p.2 (subst (λ (x : SlotEntry (List ℕ)). IsEntry (pair_of x)) c.2 (entry_formed c.0 t.0 (own_certs k certs each t.0 c.0 t.1))) in
     let values : AreValuesAt (map (λ (z : Certified). z.value) certificates) = λ t v is.
     let z = nth_map (λ (z : Certified). z.value) certificates t v is in
     let here : 0 + t ≡ t = omega arith in

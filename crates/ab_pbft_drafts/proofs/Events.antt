@@ -7,6 +7,7 @@ use Rattle.std.proofs.lemmas.List.{length-replicate}
 use Rattle.ab_num.specs.declared.cluster.Cluster.{Cluster}
 use Rattle.ab_num.specs.declared.party.Party.TheVariants.{Replica}
 use Rattle.ab_num.specs.Places.{limit_of}
+use Rattle.ab_num.proofs.Lists.{Contains-filter_cases, Contains-head, Contains-tail, Contains-none, Contains-map_cases}
 use Rattle.ab_hist.specs.declared.request.Request.{Request}
 use Rattle.ab_msg.specs.declared.content.Content.{Content}
 use Rattle.ab_msg.specs.declared.content.Content.TheVariants.{ViewChange}
@@ -22,21 +23,18 @@ use Rattle.ab_wire.specs.Inside.{tag_in}
 use Rattle.ab_abs.specs.Values.{goes}
 use Rattle.ab_abs.proofs.Certified.{all_of}
 use Rattle.ab_abs.proofs.Drafts.{few_replicas}
-use Rattle.ab_abs.proofs.Lists.{Contains-filter_cases}
-use Rattle.ab_abs.proofs.Counting.{Contains-head, Contains-tail}
-use Rattle.ab_abs.proofs.Statements.{none_of}
 use Rattle.ab_lock.specs.Quorums.{quorum}
 use Rattle.ab_lock.specs.Steps.{Change, cert_at, entry_of}
-use Rattle.ab_lock.specs.Votes.{Vote, keep}
+use Rattle.ab_lock.specs.Votes.{SlotVote, keep}
 use Rattle.ab_lock.specs.ViewChanges.{Kept, put, of_view, enter, leave, certs_from, own_change}
 use Rattle.ab_lock.specs.Events.{Peer, peer_by, settles_by, entered_peer, left_peer, accept, accepted_peer}
 use Rattle.ab_lock.proofs.ChoosingLemmas.{chosen_of-IsChosen}
-use Rattle.ab_lock.proofs.Lists.{first_in, Contains-take, Contains-map_cases}
+use Rattle.ab_lock.proofs.Lists.{first_in, Contains-take}
 use Rattle.ab_lock.proofs.ViewChangeLemmas.{of_view_in}
-use Rattle.ab_order.specs.Inputs.{Input, request}
+use Rattle.ab_order.specs.Inputs.{Reading, request}
 use Rattle.ab_order.proofs.BackupLaws.{keep_cases}
 use Rattle.ab_pbft_rules.specs.Traces.{OrderStep, pair_of}
-use Rattle.ab_pbft_rules.specs.Rules.{Seat, Doing, takes_step, Work, core_of, with_peer, does, oldest_first, take_value, change_of, settle, keep_request, leave_to, without}
+use Rattle.ab_pbft_rules.specs.Rules.{Placement, Doing, takes_step, Work, core_of, with_peer, does, oldest_first, take_value, change_of, settle, keep_request, leave_to, without}
 use Rattle.ab_pbft_rules.proofs.RuleInduction.{WhyTaken, own_base, waiting, base_brought, request_brought, WhyEntered, from_kept, from_new_view, WhySaid, offered, led, WhyLeft, followed, timed_out, IsKept}
 use Rattle.ab_slots.specs.Deeds.{told_in}
 use Rattle.ab_pbft_shelf.specs.declared.author.Author.{Author}
@@ -64,7 +62,7 @@ tag_long r (t ∷ all) each = at (t.0 == r) (tag_long r all (λ tag has. each ta
     at false rest = rest
 
 client_tags : (client : ℕ) (tagged : List Tagged) → ((t : Tagged) → Contains tagged t → HasTags t) → (tag : ℕ × List ℕ) → Contains (tags_of client tagged) tag → length tag.1 ≡ 32
-client_tags client [] each tag has = absurd (none_of tag has)
+client_tags client [] each tag has = absurd (Contains-none tag has)
 client_tags client (t ∷ tagged) each tag has = at (t.client == client) (λ more. client_tags client tagged (λ o in_rest. each o (Contains-tail t o tagged in_rest)) tag more) has
   where
     at : (here : Bool) → (Contains (tags_of client tagged) tag → length tag.1 ≡ 32) → Contains (if here then t.tags.items else tags_of client tagged) tag → length tag.1 ≡ 32
@@ -84,7 +82,7 @@ module _ (c : Cluster) (i me : ℕ) (placed : IsInstance i) (owned : me < 3 * c.
   abbrev pub by : Author
   by = own_author c i me
 
-  abbrev pub seat : Seat
+  abbrev pub seat : Placement
   seat = seat_of c i me base
 
   module _ (first : Post) where
@@ -105,7 +103,7 @@ module _ (c : Cluster) (i me : ℕ) (placed : IsInstance i) (owned : me < 3 * c.
         by_steps w (peer_by slot_digest me more w.at.peer) more
         (settled_on c i me placed owned w.at.changes w.at.requests (suc (3 * suc (limit_of c.plan i))) (core_of w) w.at.peer.votes w.at.peer.commits (post_of w) was)
 
-    module _ (e : Input) (start : Work) (told : IsInputWritten e) where
+    module _ (e : Reading) (start : Work) (told : IsInputWritten e) where
       -- a value that it takes is of its slot
       taken_at : (w : Work) (value : Value) → Stands w → goes (core_of w).accepted value ≡ true → WhyTaken seat e start w value → IsValueAt (length (core_of w).accepted) value
       taken_at w value was on (own_base none is) =
@@ -113,10 +111,10 @@ module _ (c : Cluster) (i me : ℕ) (placed : IsInstance i) (owned : me < 3 * c.
       taken_at w value was on (waiting m has is) =
           subst (λ (z : Value). IsValueAt (length (core_of w).accepted) z) (sym is) (order_at (core_of w).accepted m (ap (λ z. goes (core_of w).accepted z) (sym is) ∙ on) (was.held.asked m has))
       taken_at w value was on (base_brought by_whom view x h is before none value_is then_is) =
-          subst (λ (z : Value). IsValueAt (length (core_of w).accepted) z) (sym value_is) (subst (λ (l : List Value). IsValueAt (length l) (Base h)) (sym none) (subst (λ (z : Input). IsInputWritten z) is told))
+          subst (λ (z : Value). IsValueAt (length (core_of w).accepted) z) (sym value_is) (subst (λ (l : List Value). IsValueAt (length l) (Base h)) (sym none) (subst (λ (z : Reading). IsInputWritten z) is told))
       taken_at w value was on (request_brought by_whom view slot x m is value_is) =
           subst (λ (z : Value). IsValueAt (length (core_of w).accepted) z) (sym value_is)
-          (order_at (core_of w).accepted m (ap (λ z. goes (core_of w).accepted z) (sym value_is) ∙ on) (subst (λ (z : Input). IsInputWritten z) is told))
+          (order_at (core_of w).accepted m (ap (λ z. goes (core_of w).accepted z) (sym value_is) ∙ on) (subst (λ (z : Reading). IsInputWritten z) is told))
 
       takes_on : (w : Work) (value : Value) → Stands w → length (core_of w).accepted ≤ limit_of c.plan i → goes (core_of w).accepted value ≡ true → WhyTaken seat e start w value → Stands (take_value value w)
       takes_on w value was room on why =
@@ -197,7 +195,7 @@ module _ (c : Cluster) (i me : ℕ) (placed : IsInstance i) (owned : me < 3 * c.
                 subst (λ (z : Change Value). AreCertsAt z.certs) u.3 (p.certs u.0 u.1);
           }
       entered_from w v vcs was (from_new_view by_whom inputs is may vcs_are) =
-          let all = subst (λ (z : Input). IsInputWritten z) is told in
+          let all = subst (λ (z : Reading). IsInputWritten z) is told in
           record {
             view = all.0;
             certs = λ change has.
@@ -205,7 +203,7 @@ module _ (c : Cluster) (i me : ℕ) (placed : IsInstance i) (owned : me < 3 * c.
                 subst (λ (z : Change Value). AreCertsAt z.certs) w.2 (certs_told w.0 (all.1 w.0 w.1));
           }
 
-      entered_ballots : (v at : ℕ) (votes : List (Vote (List ℕ))) (s : Shelf) → s.view ≡ at → AreBallots c.f votes s.ballots → AreBallots c.f (if nat_lt at v then [] else votes) (entered v s).ballots
+      entered_ballots : (v at : ℕ) (votes : List (SlotVote (List ℕ))) (s : Shelf) → s.view ≡ at → AreBallots c.f votes s.ballots → AreBallots c.f (if nat_lt at v then [] else votes) (entered v s).ballots
       entered_ballots v at votes s same are =
           subst (λ (n : ℕ). AreBallots c.f (if nat_lt n v then [] else votes) (entered v s).ballots) same (of_test (nat_lt s.view v))
         where
@@ -282,7 +280,7 @@ module _ (c : Cluster) (i me : ℕ) (placed : IsInstance i) (owned : me < 3 * c.
             held = record {
               core = h.core;
               asked = λ q has. elim (keep_cases m start.at.requests q has) [
-                | inl same ↦ subst (λ (z : Request). IsRequest 0 15 z) same (subst (λ (z : Input). IsInputWritten z) is told)
+                | inl same ↦ subst (λ (z : Request). IsRequest 0 15 z) same (subst (λ (z : Reading). IsInputWritten z) is told)
                 | inr old ↦ h.asked q old
               ];
               view = h.view;
@@ -305,7 +303,7 @@ module _ (c : Cluster) (i me : ℕ) (placed : IsInstance i) (owned : me < 3 * c.
         enters = λ w v vcs was may why. enters_on w v vcs was why;
         leaves = λ w v was above why. leaves_on w v was why;
         keeps_request = asks_on;
-        keeps_change = λ change is fit was. absurd (subst (λ (z : Input). IsPlain z) is plain);
-        keeps_vote = λ by_whom slot x is was. absurd (subst (λ (z : Input). IsPlain z) is plain);
+        keeps_change = λ change is fit was. absurd (subst (λ (z : Reading). IsPlain z) is plain);
+        keeps_vote = λ by_whom slot x is was. absurd (subst (λ (z : Reading). IsPlain z) is plain);
         keeps_commit = λ by_whom slot x is was. by_steps start (record { core = core_of start; votes = start.at.peer.votes; commits = keep (record { by = by_whom; slot = slot; x = x }) start.at.peer.commits }) [] was;
       }

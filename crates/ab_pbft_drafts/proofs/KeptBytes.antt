@@ -6,6 +6,7 @@ use Rattle.std.proofs.lemmas.Option.{none-some}
 use Rattle.std.proofs.lemmas.List.Elements.{All-nil}
 use Rattle.ab_num.specs.declared.cluster.Cluster.{Cluster}
 use Rattle.ab_num.specs.Places.{limit_of}
+use Rattle.ab_num.proofs.Lists.{Contains-none}
 use Rattle.ab_hist.specs.declared.request.Request.{Request}
 use Rattle.ab_msg.specs.declared.message.Out.{Out}
 use Rattle.ab_msg.specs.declared.signed.Signed.{Signed}
@@ -18,14 +19,13 @@ use Rattle.ab_msg.specs.Pens.{Pen}
 use Rattle.ab_abs.specs.declared.entry.Entry.{Entry}
 use Rattle.ab_abs.specs.Messages.{Call, IsFormed}
 use Rattle.ab_abs.specs.FormLaws.{IsWrittenEntry, SignsInForm}
-use Rattle.ab_abs.proofs.Statements.{none_of}
 use Rattle.ab_lock.specs.Events.{with_vote}
-use Rattle.ab_order.specs.Inputs.{Input, request, prepare, view_change, other, ChangeInput}
+use Rattle.ab_order.specs.Inputs.{Reading, request, prepare, view_change, other, ChangeReading}
 use Rattle.ab_order.specs.Readings.{read}
 use Rattle.ab_order.specs.Bytes.{ArisesAs, from_entry, by_call, KeepsBytes}
-use Rattle.ab_pbft_rules.specs.Rules.{Seat, Memory, Work, core_of, with_peer, fits, keep_change, follow, lead, idle, work, pbft}
+use Rattle.ab_pbft_rules.specs.Rules.{Placement, Memory, Work, core_of, with_peer, fits, keep_change, follow, lead, idle, work, pbft}
 use Rattle.ab_pbft_rules.proofs.RuleInduction.{leads_on, follows_on, work_kept}
-use Rattle.ab_pbft_shelf.specs.declared.kept.Ballot.{Ballot}
+use Rattle.ab_pbft_shelf.specs.declared.kept.SignedVote.{SignedVote}
 use Rattle.ab_pbft_shelf.specs.declared.kept.Tagged.{Tagged}
 use Rattle.ab_pbft_shelf.specs.Shelves.{Shelf, maker_of, view_of, with_ballot, with_ballot_of, with_proof, with_tags}
 use Rattle.ab_pbft_shelf.specs.Posts.{Post}
@@ -42,7 +42,7 @@ use Rattle.ab_pbft_drafts.proofs.Events.{Stands, settles_on, kept_by}
 
 module _ (c : Cluster) (i me : ℕ) (placed : IsInstance i) (owned : me < 3 * c.f + 1) (base : List Request) (written : IsWritten base) (pen : Pen) (signs : SignsInForm pen) (memory : Memory) (s : Shelf) (left : ℕ)
     (was : IsBounded c.f (limit_of c.plan i) memory.peer.core memory.peer.votes memory.changes memory.requests s) where
-  abbrev seat : Seat
+  abbrev seat : Placement
   seat = seat_of c i me base
 
   abbrev start : Work
@@ -56,9 +56,9 @@ module _ (c : Cluster) (i me : ℕ) (placed : IsInstance i) (owned : me < 3 * c.
   After t w = Stands c i me placed owned base written (first t) w
 
   begins : (t : Shelf) (v : Work) → IsBounded c.f (limit_of c.plan i) (core_of v) v.at.peer.votes v.at.changes v.at.requests t → IsPosted c i (core_of v) v.at.peer.votes v.at.changes v.at.requests (first t)
-  begins t v is = record { held = is; pen = signs; sent = λ o has. absurd (none_of o has) }
+  begins t v is = record { held = is; pen = signs; sent = λ o has. absurd (Contains-none o has) }
 
-  plain_event : (e : Input) (t : Shelf) → IsPlain e → IsInputWritten e → IsBounded c.f (limit_of c.plan i) memory.peer.core memory.peer.votes memory.changes memory.requests t → After t (work seat e start)
+  plain_event : (e : Reading) (t : Shelf) → IsPlain e → IsInputWritten e → IsBounded c.f (limit_of c.plan i) memory.peer.core memory.peer.votes memory.changes memory.requests t → After t (work seat e start)
   plain_event e t plain told is = work_kept seat e start (After t) (kept_by c i me placed owned base written (first t) e start told plain) (begins t start is)
 
   tagged_on : (t : Tagged) → HasTags t → IsBounded c.f (limit_of c.plan i) memory.peer.core memory.peer.votes memory.changes memory.requests (with_tags t s)
@@ -74,11 +74,11 @@ module _ (c : Cluster) (i me : ℕ) (placed : IsInstance i) (owned : me < 3 * c.
   }
 
   -- with a vote
-  abbrev voted : Ballot → Work
+  abbrev voted : SignedVote → Work
   voted b = with_peer start (with_vote (record { by = b.by; slot = b.slot; x = b.x }) start.at.peer) []
 
   -- a PREPARE is kept as a vote, and signed, where it is of the present view
-  ballot_event : (view : ℕ) (b : Ballot) → b.by < 3 * c.f + 1 → IsSig b.sig → After (with_ballot_of view b s) (work seat (prepare b.by view b.slot b.x) start)
+  ballot_event : (view : ℕ) (b : SignedVote) → b.by < 3 * c.f + 1 → IsSig b.sig → After (with_ballot_of view b s) (work seat (prepare b.by view b.slot b.x) start)
   ballot_event view b within formed =
       elim (cases_Bool (view == memory.peer.core.view)) [
         | inl same ↦
@@ -99,7 +99,7 @@ module _ (c : Cluster) (i me : ℕ) (placed : IsInstance i) (owned : me < 3 * c.
       ]
 
   -- a VIEW-CHANGE that fits is kept as such, and as a message
-  change_event : (change : ChangeInput) (p : Proof) → IsChangeWritten change → maker_of p ≡ change.by → view_of p ≡ change.view → IsProof p
+  change_event : (change : ChangeReading) (p : Proof) → IsChangeWritten change → maker_of p ≡ change.by → view_of p ≡ change.view → IsProof p
       → After (if fits c.f change then with_proof p s else s) (work seat (view_change change) start)
   change_event change p told maker view formed =
       elim (cases_Bool (fits c.f change)) [
@@ -121,7 +121,7 @@ module _ (c : Cluster) (i me : ℕ) (placed : IsInstance i) (owned : me < 3 * c.
           let by_rules = kept_by c i me placed owned base written (first (with_proof p s)) other (keep_change change start) tt tt in
           leads_on seat other (keep_change change start) (After (with_proof p s)) by_rules (follow seat (keep_change change start)) (follows_on seat other (keep_change change start) (After (with_proof p s)) by_rules (keep_change change start) kept)
 
-  event : (e : Input) (t : Shelf) → IsPut c i s e t → IsInputWritten e → After t (work seat e start)
+  event : (e : Reading) (t : Shelf) → IsPut c i s e t → IsInputWritten e → After t (work seat e start)
   event e t (nothing e' plain) told = plain_event e' s plain told was
   event e t (tags m tagged long) told = plain_event (request m) (with_tags tagged s) tt told (tagged_on tagged long)
   event e t (ballot view b within formed) told = ballot_event view b within formed
@@ -150,13 +150,13 @@ begun_in_form c i r e is = record {
   seated = refl;
   kept = record {
     core = record { view = lit< tt; few = omega arith; accepted = no_values; certs = λ t d there. absurd (none-some d there); executed = nothing_written };
-    asked = λ m has. absurd (none_of m has);
+    asked = λ m has. absurd (Contains-none m has);
     view = refl;
     ballots = no_ballots c.f;
     certified = none_certified (limit_of c.plan i);
     proofs = no_proofs;
     entry = entry_formed e.cert is.cert;
-    tags = λ t has. absurd (none_of t has);
+    tags = λ t has. absurd (Contains-none t has);
   };
 }
 
@@ -165,9 +165,9 @@ GoesOn c i r pen q call = IsInForm c i r (signing.after pen q call) × ((o : Out
 
 call_within : (c : Cluster) (i r : ℕ) (pen : Pen) (q : Signing) (call : Call) → IsInstance i → r < 3 * c.f + 1 → SignsInForm pen → IsFormed call → IsInForm c i r q → GoesOn c i r pen q call
 call_within c i r pen q call placed owned signs formed is =
-    let at : Cluster → Seat → Signing = λ d seat. record { cluster = d; order = record { seat = seat; memory = q.order.memory }; shelf = q.shelf; left = q.left } in
+    let at : Cluster → Placement → Signing = λ d seat. record { cluster = d; order = record { seat = seat; memory = q.order.memory }; shelf = q.shelf; left = q.left } in
     subst (λ (d : Cluster). GoesOn c i r pen (at d q.order.seat) call) (sym is.cluster)
-    (subst (λ (seat : Seat). GoesOn c i r pen (at c seat) call) (sym is.seated)
+    (subst (λ (seat : Placement). GoesOn c i r pen (at c seat) call) (sym is.seated)
     (call_on c i r placed owned is.base is.written pen signs q.order.memory q.shelf q.left is.kept call formed))
 
 -- it is a replica of the cluster, in an instance that can be

@@ -2,13 +2,11 @@
 use Rattle.std.proofs.Common.{◌≡◌, ℕ, suc, ◌==◌, Bool, true, false, not, List, [], ◌∷◌, ◌⊎◌, length, map, refl, sym, ap, ◌∙◌, subst, inl, inr}
 use Rattle.std.specs.Prelude.{Contains, nat_lt, if◌then◌else◌}
 use Rattle.std.specs.List.{filter}
+use Rattle.ab_num.proofs.Lists.{Contains-head, Contains-tail, Contains-cons_cases, Contains-filter_cases, Contains-none}
 use Rattle.ab_msg.specs.declared.change.Proof.{Proof}
 use Rattle.ab_msg.specs.declared.value.Value.{Value}
 use Rattle.ab_msg.specs.Fields.{IsView}
 use Rattle.ab_msg.specs.Certs.{IsProof}
-use Rattle.ab_abs.proofs.Counting.{Contains-head, Contains-tail}
-use Rattle.ab_abs.proofs.Lists.{Contains-cons_cases, Contains-filter_cases}
-use Rattle.ab_abs.proofs.Statements.{none_of}
 use Rattle.ab_lock.specs.ViewChanges.{Kept, of_view, put}
 use Rattle.ab_lock.proofs.KeptChanges.{put_in}
 use Rattle.ab_pbft_rules.specs.Rules.{without}
@@ -141,7 +139,7 @@ proofs_left r changes proofs was = record {
 }
 
 pub no_proofs : AreProofs [] []
-no_proofs = record { same = refl; views = λ u has. absurd (none_of u has); certs = λ u has. absurd (none_of u has); formed = λ p has. absurd (none_of p has) }
+no_proofs = record { same = refl; views = λ u has. absurd (Contains-none u has); certs = λ u has. absurd (Contains-none u has); formed = λ p has. absurd (Contains-none p has) }
 
 -- as many are for a view
 pub as_many : (v : ℕ) (changes : List (Kept Value)) (proofs : List Proof) → AreProofs changes proofs → length (of_view changes v) ≡ length (filter (λ p. view_of p == v) proofs)

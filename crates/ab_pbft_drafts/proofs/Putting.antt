@@ -1,9 +1,10 @@
 -- What a call puts on the shelf.
 use Rattle.std.proofs.Common.{◌≡◌, ℕ, ◌+◌, ◌*◌, ◌<◌, ◌==◌, Bool, true, false, Some, None, Option, List, [], ◌∷◌, ◌⊎◌, length, refl, subst, inl, inr}
 use Rattle.std.specs.Prelude.{Contains, nat_lt, if◌then◌else◌}
-use Rattle.std.proofs.lemmas.Bool.{cases_Bool}
+use Rattle.std.proofs.lemmas.Bool.{cases_Bool, and_parts, ltb-true}
 use Rattle.ab_num.specs.declared.cluster.Cluster.{Cluster}
 use Rattle.ab_num.specs.declared.party.Party.TheVariants.{Replica, Client}
+use Rattle.ab_num.proofs.Lists.{Contains-head, Contains-tail, Contains-cons_cases, Contains-none}
 use Rattle.ab_hist.specs.declared.request.Request.{Request}
 use Rattle.ab_form.specs.Formats.{EachFits}
 use Rattle.ab_msg.specs.declared.content.Content.{Content}
@@ -18,14 +19,10 @@ use Rattle.ab_msg.specs.Fields.{IsSig, IsTag, above}
 use Rattle.ab_msg.specs.Certs.{IsProof}
 use Rattle.ab_msg.specs.Messages.{IsMessage}
 use Rattle.ab_abs.specs.Messages.{Call, took, timed, IsFormed}
-use Rattle.ab_abs.proofs.Counting.{Contains-head, Contains-tail}
-use Rattle.ab_abs.proofs.Lists.{Contains-cons_cases}
-use Rattle.ab_abs.proofs.Statements.{none_of}
-use Rattle.ab_order.specs.Inputs.{Input, request, pre_prepare_base, pre_prepare, prepare, commit, view_change, new_view, timeout, other, ChangeInput}
+use Rattle.ab_order.specs.Inputs.{Reading, request, pre_prepare_base, pre_prepare, prepare, commit, view_change, new_view, timeout, other, ChangeReading}
 use Rattle.ab_order.specs.Readings.{is_own_request, is_ours, change_of, changes_of, read_request, base_offered, read_base, read_offer, read_pre_prepare, read_prepare, read_commit, read_change, read_new_view_of, read_new_view, read_message, read}
 use Rattle.ab_pbft_rules.specs.Rules.{fits}
-use Rattle.ab_pbft_rules.proofs.RuleInduction.{and_both, lt_of}
-use Rattle.ab_pbft_shelf.specs.declared.kept.Ballot.{Ballot}
+use Rattle.ab_pbft_shelf.specs.declared.kept.SignedVote.{SignedVote}
 use Rattle.ab_pbft_shelf.specs.declared.kept.Tagged.{Tagged}
 use Rattle.ab_pbft_shelf.specs.Shelves.{Shelf, maker_of, view_of, with_ballot_of, with_proof, with_tags, put_tags}
 use Rattle.ab_pbft_shelf.specs.Signing.{puts}
@@ -33,7 +30,7 @@ use Rattle.ab_pbft_drafts.specs.Bounds.{HasTags}
 use Rattle.ab_pbft_drafts.proofs.Reading.{IsChangeWritten, told_change}
 
 -- an input for which nothing signed is put on the shelf
-abbrev pub IsPlain : Input → Type 0
+abbrev pub IsPlain : Reading → Type 0
 IsPlain (request m) = Unit {0}
 IsPlain (pre_prepare_base by view x h) = Unit {0}
 IsPlain (pre_prepare by view slot x m) = Unit {0}
@@ -45,7 +42,7 @@ IsPlain timeout = Unit {0}
 IsPlain other = Unit {0}
 
 tags_long : (low : ℕ) (tags : List (ℕ × List ℕ)) → EachFits IsTag above low tags → (tag : ℕ × List ℕ) → Contains tags tag → length tag.1 ≡ 32
-tags_long low [] fit tag has = absurd (none_of tag has)
+tags_long low [] fit tag has = absurd (Contains-none tag has)
 tags_long low (t ∷ tags) fit tag has =
     elim (Contains-cons_cases t tags tag has) [
       | inl e ↦ subst (λ (z : ℕ × List ℕ). length z.1 ≡ 32) e fit.0.1
@@ -66,11 +63,11 @@ tagged_in t (o ∷ tagged) x has = at (o.client == t.client) (λ more. tagged_in
 
 module _ (c : Cluster) (i : ℕ) (s : Shelf) where
   -- what is on the shelf then, for an input
-  pub data IsPut : Input → Shelf → Type 0 where
-    nothing : (e : Input) → IsPlain e → IsPut e s
+  pub data IsPut : Reading → Shelf → Type 0 where
+    nothing : (e : Reading) → IsPlain e → IsPut e s
     tags : (m : Request) (t : Tagged) → HasTags t → IsPut (request m) (with_tags t s)
-    ballot : (view : ℕ) (b : Ballot) → b.by < 3 * c.f + 1 → IsSig b.sig → IsPut (prepare b.by view b.slot b.x) (with_ballot_of view b s)
-    proof : (change : ChangeInput) (p : Proof) → IsChangeWritten change → maker_of p ≡ change.by → view_of p ≡ change.view → IsProof p → IsPut (view_change change) (if fits c.f change then with_proof p s else s)
+    ballot : (view : ℕ) (b : SignedVote) → b.by < 3 * c.f + 1 → IsSig b.sig → IsPut (prepare b.by view b.slot b.x) (with_ballot_of view b s)
+    proof : (change : ChangeReading) (p : Proof) → IsChangeWritten change → maker_of p ≡ change.by → view_of p ≡ change.view → IsProof p → IsPut (view_change change) (if fits c.f change then with_proof p s else s)
 
   -- ---- what is told of messages by which nothing is put
 
@@ -91,7 +88,7 @@ module _ (c : Cluster) (i : ℕ) (s : Shelf) where
   plain_commit (Commit (Replica by) j view slot x) = elim (cases_Bool (is_ours c.f i j by)) [ inl ours ↦ rw ours tt | inr others ↦ rw others tt ]
   plain_commit _ = tt
 
-  plain_new_view_of : (by view : ℕ) (o : Option (List ChangeInput)) → IsPlain (read_new_view_of by view o)
+  plain_new_view_of : (by view : ℕ) (o : Option (List ChangeReading)) → IsPlain (read_new_view_of by view o)
   plain_new_view_of by view None = tt
   plain_new_view_of by view (Some changes) = tt
 
@@ -102,18 +99,18 @@ module _ (c : Cluster) (i : ℕ) (s : Shelf) where
 
   -- ---- and of those by which something is
 
-  abbrev Puts : Msg → Input → Type 0
+  abbrev Puts : Msg → Reading → Type 0
   Puts m e = IsPut e (puts c.f (took m) e s)
 
   put_prepare : (signed : Signed) (content : Content) → IsSig signed.sig → Puts (msg.Prepare signed) (read_prepare c.f i content)
   put_prepare signed (Prepare (Replica by) j view slot x) formed =
       elim (cases_Bool (is_ours c.f i j by)) [
-        | inl ours ↦ rw ours (ballot view (record { by = by; slot = slot; x = x; sig = signed.sig }) (lt_of by (3 * c.f + 1) (and_both (j == i) (nat_lt by (3 * c.f + 1)) ours).1) formed)
+        | inl ours ↦ rw ours (ballot view (record { by = by; slot = slot; x = x; sig = signed.sig }) (ltb-true by (3 * c.f + 1) (and_parts (j == i) (nat_lt by (3 * c.f + 1)) ours).1) formed)
         | inr others ↦ rw others (nothing other tt)
       ]
   put_prepare signed _ formed = nothing other tt
 
-  put_change : (p : Proof) (o : Option ChangeInput) → IsProof p → change_of c.f i p ≡ o → Puts (msg.ViewChange p) (read_change o)
+  put_change : (p : Proof) (o : Option ChangeReading) → IsProof p → change_of c.f i p ≡ o → Puts (msg.ViewChange p) (read_change o)
   put_change p None formed is = nothing other tt
   put_change p (Some change) formed is = let w = told_change c i p change formed is in proof change p w.written w.maker w.view formed
 

@@ -6,6 +6,7 @@ use Rattle.std.proofs.lemmas.Option.{none-some, same_Some}
 use Rattle.std.proofs.lemmas.List.Elements.{All-contains}
 use Rattle.ab_num.specs.declared.cluster.Cluster.{Cluster}
 use Rattle.ab_num.specs.declared.party.Party.TheVariants.{Replica, Client}
+use Rattle.ab_num.proofs.Lists.{Contains-head, Contains-tail, Contains-cons_cases, Contains-none}
 use Rattle.ab_hist.specs.declared.request.Request.{Request}
 use Rattle.ab_msg.specs.declared.content.Content.{Content}
 use Rattle.ab_msg.specs.declared.content.Content.TheVariants.{Req, PrePrepare, Prepare, Commit, ViewChange, NewView}
@@ -23,12 +24,9 @@ use Rattle.ab_msg.specs.Certs.{AreAborts, AreSlotValues, IsRequestValue, IsProof
 use Rattle.ab_msg.specs.Messages.{IsMessage, IsOffer, slot_in}
 use Rattle.ab_abs.specs.Messages.{Call, took, timed, IsFormed}
 use Rattle.ab_abs.proofs.Certified.{certificate_written}
-use Rattle.ab_abs.proofs.Counting.{Contains-head, Contains-tail}
-use Rattle.ab_abs.proofs.Lists.{Contains-cons_cases}
-use Rattle.ab_abs.proofs.Statements.{none_of}
 use Rattle.ab_lock.specs.Steps.{Cert}
 use Rattle.ab_lock.proofs.Lists.{nth_map, Contains-nth}
-use Rattle.ab_order.specs.Inputs.{Input, request, pre_prepare_base, pre_prepare, prepare, commit, view_change, new_view, timeout, other, ProvedSlot, ChangeInput}
+use Rattle.ab_order.specs.Inputs.{Reading, request, pre_prepare_base, pre_prepare, prepare, commit, view_change, new_view, timeout, other, ProvedSlot, ChangeReading}
 use Rattle.ab_order.specs.Readings.{is_own_request, slots_of, with_slots, is_ours, change_by, change_of, with_change, changes_of, read_request, base_offered, read_base, read_offer, read_pre_prepare, read_prepare, read_commit, read_change, read_new_view_of, read_new_view, read_message, read}
 use Rattle.ab_order.proofs.ReadingLaws.{slots_are}
 use Rattle.ab_pbft_rules.specs.Rules.{cert_of}
@@ -40,23 +38,23 @@ use Rattle.ab_pbft_drafts.proofs.Values.{nothing_written}
 
 -- ---- what has bytes
 
-pub record IsChangeWritten (change : ChangeInput) : Type 0 where
+pub record IsChangeWritten (change : ChangeReading) : Type 0 where
   pub view : IsView change.view
   pub slots : (t : ℕ) (s : ProvedSlot) → slice_get change.slots t ≡ Some s → IsCertAt t (cert_of s)
 
-abbrev pub IsInputWritten : Input → Type 0
+abbrev pub IsInputWritten : Reading → Type 0
 IsInputWritten (request m) = IsRequest 0 15 m
 IsInputWritten (pre_prepare_base by view x h) = IsWritten h
 IsInputWritten (pre_prepare by view slot x m) = IsRequest 0 15 m
 IsInputWritten (prepare by view slot x) = Unit {0}
 IsInputWritten (commit by view slot x) = Unit {0}
 IsInputWritten (view_change change) = IsChangeWritten change
-IsInputWritten (new_view by view changes) = IsView view × ((change : ChangeInput) → Contains changes change → IsChangeWritten change)
+IsInputWritten (new_view by view changes) = IsView view × ((change : ChangeReading) → Contains changes change → IsChangeWritten change)
 IsInputWritten timeout = Unit {0}
 IsInputWritten other = Unit {0}
 
 -- the certificates of a VIEW-CHANGE that is told
-pub certs_told : (change : ChangeInput) → IsChangeWritten change → AreCertsAt (rules.change_of change).certs
+pub certs_told : (change : ChangeReading) → IsChangeWritten change → AreCertsAt (rules.change_of change).certs
 certs_told change is t c there = let w = nth_map cert_of change.slots t c there in subst (λ (z : Cert Value). IsCertAt t z) w.2 (is.slots t w.0 w.1)
 
 -- ---- VIEW-CHANGEs
@@ -72,13 +70,13 @@ value_at (Base h ∷ values) (suc t) v are is = request_value t v (All-contains 
 value_at (Order m ∷ values) t v are is = absurd are
 
 -- whose it is, and for which view
-pub record IsTold (content : Content) (change : ChangeInput) : Type 0 where
+pub record IsTold (content : Content) (change : ChangeReading) : Type 0 where
   pub written : IsChangeWritten change
   pub maker : maker_in content ≡ change.by
   pub view : view_in content ≡ change.view
 
 module _ (c : Cluster) (i : ℕ) where
-  change_told : (content : Content) (values : List Value) (signed : List (List (ℕ × List ℕ))) (change : ChangeInput) → IsChange content → AreSlotValues values → change_by c.f i content values signed ≡ Some change → IsTold content change
+  change_told : (content : Content) (values : List Value) (signed : List (List (ℕ × List ℕ))) (change : ChangeReading) → IsChange content → AreSlotValues values → change_by c.f i content values signed ≡ Some change → IsTold content change
   change_told (ViewChange (Replica r) j view entries) values signed change formed are is =
       elim (cases_Bool (is_ours c.f i j r)) [
         | inr others ↦ absurd (none-some change (rw others at is))
@@ -89,9 +87,9 @@ module _ (c : Cluster) (i : ℕ) where
       of_slots None slots is' = absurd (none-some change is')
       of_slots (Some all) slots is' =
           let right = slots_are c i 0 entries values signed all slots in
-          let made : ChangeInput = record { by = r; view = view; slots = all } in
+          let made : ChangeReading = record { by = r; view = view; slots = all } in
           let e : made ≡ change = same_Some made change is' in
-          subst (λ (z : ChangeInput). IsTold (ViewChange (Replica r) j view entries) z) e (record {
+          subst (λ (z : ChangeReading). IsTold (ViewChange (Replica r) j view entries) z) e (record {
             written = record {
               view = formed.1.1.0;
               slots = λ t s there.
@@ -104,20 +102,20 @@ module _ (c : Cluster) (i : ℕ) where
           })
   change_told _ values signed change formed are is = absurd (none-some change is)
 
-  pub told_change : (proof : Proof) (change : ChangeInput) → IsProof proof → change_of c.f i proof ≡ Some change → IsTold proof.change.content change
+  pub told_change : (proof : Proof) (change : ChangeReading) → IsProof proof → change_of c.f i proof ≡ Some change → IsTold proof.change.content change
   told_change proof change formed is = change_told proof.change.content proof.values proof.prepares change formed.0.1.0 formed.1.0.1 is
 
-  told_changes : (proofs : List Proof) (changes : List ChangeInput) → ((p : Proof) → Contains proofs p → IsProof p) → changes_of c.f i proofs ≡ Some changes → (change : ChangeInput) → Contains changes change → IsChangeWritten change
-  told_changes [] changes each is change has = absurd (none_of change (subst (λ (l : List ChangeInput). Contains l change) (sym (same_Some [] changes is)) has))
+  told_changes : (proofs : List Proof) (changes : List ChangeReading) → ((p : Proof) → Contains proofs p → IsProof p) → changes_of c.f i proofs ≡ Some changes → (change : ChangeReading) → Contains changes change → IsChangeWritten change
+  told_changes [] changes each is change has = absurd (Contains-none change (subst (λ (l : List ChangeReading). Contains l change) (sym (same_Some [] changes is)) has))
   told_changes (p ∷ proofs) changes each is change has = of_change (change_of c.f i p) (changes_of c.f i proofs) refl (λ rest e. told_changes proofs rest (λ q in_rest. each q (Contains-tail p q proofs in_rest)) e) is
     where
-      of_change : (o : Option ChangeInput) (more : Option (List ChangeInput)) → change_of c.f i p ≡ o → ((rest : List ChangeInput) → more ≡ Some rest → (change : ChangeInput) → Contains rest change → IsChangeWritten change)
+      of_change : (o : Option ChangeReading) (more : Option (List ChangeReading)) → change_of c.f i p ≡ o → ((rest : List ChangeReading) → more ≡ Some rest → (change : ChangeReading) → Contains rest change → IsChangeWritten change)
           → with_change o more ≡ Some changes → IsChangeWritten change
       of_change None more first later is' = absurd (none-some changes is')
       of_change (Some head) None first later is' = absurd (none-some changes is')
       of_change (Some head) (Some rest) first later is' =
-          elim (Contains-cons_cases head rest change (subst (λ (l : List ChangeInput). Contains l change) (sym (same_Some (head ∷ rest) changes is')) has)) [
-            | inl e ↦ subst (λ (z : ChangeInput). IsChangeWritten z) e (told_change p head (each p (Contains-head p proofs)) first).written
+          elim (Contains-cons_cases head rest change (subst (λ (l : List ChangeReading). Contains l change) (sym (same_Some (head ∷ rest) changes is')) has)) [
+            | inl e ↦ subst (λ (z : ChangeReading). IsChangeWritten z) e (told_change p head (each p (Contains-head p proofs)) first).written
             | inr in_rest ↦ later rest refl change in_rest
           ]
 
@@ -155,11 +153,11 @@ module _ (c : Cluster) (i : ℕ) where
   told_commit (Commit (Replica by) j view slot x) = elim (cases_Bool (is_ours c.f i j by)) [ inl ours ↦ rw ours tt | inr others ↦ rw others tt ]
   told_commit _ = tt
 
-  told_view_change : (proof : Proof) (o : Option ChangeInput) → IsProof proof → change_of c.f i proof ≡ o → IsInputWritten (read_change o)
+  told_view_change : (proof : Proof) (o : Option ChangeReading) → IsProof proof → change_of c.f i proof ≡ o → IsInputWritten (read_change o)
   told_view_change proof None formed is = tt
   told_view_change proof (Some change) formed is = (told_change proof change formed is).written
 
-  told_new_view_of : (by view : ℕ) (proofs : List Proof) (o : Option (List ChangeInput)) → IsView view → ((p : Proof) → Contains proofs p → IsProof p) → changes_of c.f i proofs ≡ o → IsInputWritten (read_new_view_of by view o)
+  told_new_view_of : (by view : ℕ) (proofs : List Proof) (o : Option (List ChangeReading)) → IsView view → ((p : Proof) → Contains proofs p → IsProof p) → changes_of c.f i proofs ≡ o → IsInputWritten (read_new_view_of by view o)
   told_new_view_of by view proofs None seen each is = tt
   told_new_view_of by view proofs (Some changes) seen each is = (seen, told_changes proofs changes each is)
 

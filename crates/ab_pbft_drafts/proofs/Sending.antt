@@ -11,6 +11,7 @@ use Rattle.std.proofs.lemmas.Option.{slice_get_within, same_Some}
 use Rattle.ab_num.specs.declared.cluster.Cluster.{Cluster}
 use Rattle.ab_num.specs.declared.party.Party.TheVariants.{Replica}
 use Rattle.ab_num.specs.Places.{limit_of}
+use Rattle.ab_num.proofs.Lists.{Contains-one, Contains-none}
 use Rattle.ab_hist.specs.declared.request.Request.{Request}
 use Rattle.ab_hist.proofs.KeptLemmas.{slice_get-take}
 use Rattle.ab_msg.specs.declared.content.Content.{Content}
@@ -26,9 +27,8 @@ use Rattle.ab_msg.specs.Slots.{slot_digest}
 use Rattle.ab_abs.specs.FormLaws.{SignsInForm}
 use Rattle.ab_abs.specs.Values.{goes}
 use Rattle.ab_abs.proofs.Drafts.{few_replicas}
-use Rattle.ab_abs.proofs.Statements.{one_of, none_of}
 use Rattle.ab_lock.specs.Steps.{Cert, prepares, State, after, cert_at, with_cert}
-use Rattle.ab_lock.specs.Votes.{Vote, keep, is_enough, next, votes_after, commits_after, onward, settled}
+use Rattle.ab_lock.specs.Votes.{SlotVote, keep, is_enough, next, votes_after, commits_after, onward, settled}
 use Rattle.ab_lock.specs.ViewChanges.{Kept}
 use Rattle.ab_lock.specs.Events.{state_by, votes_by}
 use Rattle.ab_lock.proofs.CertLemmas.{with_cert-last, with_cert-other}
@@ -36,8 +36,8 @@ use Rattle.ab_lock.proofs.Settling.{state_by-last, votes_by-last}
 use Rattle.ab_lock.proofs.VoteLemmas.{IsNext, by_sign, by_prepare, by_execute, next_is}
 use Rattle.ab_pbft_rules.specs.Traces.{OrderStep}
 use Rattle.ab_pbft_rules.specs.Rules.{Doing, takes_step, oldest_first}
-use Rattle.ab_slots.specs.declared.deed.Deed.{Deed}
-use Rattle.ab_slots.specs.declared.deed.Deed.TheVariants.{Signs, Prepares}
+use Rattle.ab_slots.specs.declared.notice.Notice.{Notice}
+use Rattle.ab_slots.specs.declared.notice.Notice.TheVariants.{Signs, Prepares}
 use Rattle.ab_slots.specs.Deeds.{deeds_of, prepared_in, told_in}
 use Rattle.ab_pbft_shelf.specs.declared.author.Author.{Author}
 use Rattle.ab_pbft_shelf.specs.Shelves.{certified_by}
@@ -49,7 +49,7 @@ use Rattle.ab_pbft_drafts.proofs.Values.{written_executed}
 
 -- ---- deeds in a row
 
-pub posts_all-append : (by : Author) (deeds more : List Deed) (p : Post) → posts_all by (deeds ++ more) p ≡ posts_all by more (posts_all by deeds p)
+pub posts_all-append : (by : Author) (deeds more : List Notice) (p : Post) → posts_all by (deeds ++ more) p ≡ posts_all by more (posts_all by deeds p)
 posts_all-append by [] more p = refl
 posts_all-append by (d ∷ deeds) more p = posts_all-append by deeds more (posts by d p)
 
@@ -63,7 +63,7 @@ oldest-last (y ∷ xs) x = ap (λ l. l ++ y ∷ []) (oldest-last xs x)
 -- ---- to the others
 
 others_draft : (n me : ℕ) (says : ℕ → Msg) → ((r : ℕ) → IsDraft (says r)) → (o : Out) → Contains (to_others n me says) o → IsDraft o.msg
-others_draft zero me says each o has = absurd (none_of o has)
+others_draft zero me says each o has = absurd (Contains-none o has)
 others_draft (suc n) me says each o has =
     elim (Contains-append_cases (to_others n me says) (if n == me then [] else record { to = Replica n; msg = says n } ∷ []) o has) [
       | inl before ↦ others_draft n me says each o before
@@ -71,8 +71,8 @@ others_draft (suc n) me says each o has =
     ]
   where
     at : (own : Bool) → Contains (if own then [] else record { to = Replica n; msg = says n } ∷ []) o → IsDraft o.msg
-    at true last = absurd (none_of o last)
-    at false last = subst (λ (z : Out). IsDraft z.msg) (one_of (record { to = Replica n; msg = says n }) o last) (each n)
+    at true last = absurd (Contains-none o last)
+    at false last = subst (λ (z : Out). IsDraft z.msg) (Contains-one (record { to = Replica n; msg = says n }) o last) (each n)
 
 pub sent_more : (n me : ℕ) (says : ℕ → Msg) (sent : List Out) → ((o : Out) → Contains sent o → IsDraft o.msg) → ((r : ℕ) → IsDraft (says r)) → (o : Out) → Contains (sent ++ to_others n me says) o → IsDraft o.msg
 sent_more n me says sent before each o has =
@@ -106,7 +106,7 @@ abbrev pub own_author : Cluster → ℕ → ℕ → Author
 own_author c i me = record { cluster = c; instance = i; me = me }
 
 -- what it keeps is within bounds, it signs in form, and what it sent is of the grammar
-pub record IsPosted (c : Cluster) (i : ℕ) (s : State Value) (votes : List (Vote (List ℕ))) (changes : List (Kept Value)) (requests : List Request) (p : Post) : Type 0 where
+pub record IsPosted (c : Cluster) (i : ℕ) (s : State Value) (votes : List (SlotVote (List ℕ))) (changes : List (Kept Value)) (requests : List Request) (p : Post) : Type 0 where
   pub held : IsBounded c.f (limit_of c.plan i) s votes changes requests p.shelf
   pub pen : SignsInForm p.pen
   pub sent : (o : Out) → Contains p.sent o → IsDraft o.msg
@@ -123,11 +123,11 @@ module _ (c : Cluster) (i me : ℕ) (placed : IsInstance i) (owned : me < 3 * c.
   of_slot view slot value seen within = ((omega arith, few_replicas c me owned), (placed, (seen, ((omega arith, omega (arith, within, limit_small c i)), length-slot_digest value))))
 
   module _ (changes : List (Kept Value)) (requests : List Request) where
-    abbrev Posted : State Value → List (Vote (List ℕ)) → Post → Type 0
+    abbrev Posted : State Value → List (SlotVote (List ℕ)) → Post → Type 0
     Posted s votes p = IsPosted c i s votes changes requests p
 
     -- it signs the PREPARE of a slot
-    signs_on : (s : State Value) (votes : List (Vote (List ℕ))) (p : Post) (value : Value) → slice_get s.accepted s.signed ≡ Some value → Posted s votes p
+    signs_on : (s : State Value) (votes : List (SlotVote (List ℕ))) (p : Post) (value : Value) → slice_get s.accepted s.signed ≡ Some value → Posted s votes p
         → Posted (record s { signed = suc s.signed }) (keep (record { by = me; slot = s.signed; x = slot_digest value }) votes) (posts by (Signs s.view s.signed (slot_digest value)) p)
     signs_on s votes p value there was =
         let h = was.held in
@@ -152,7 +152,7 @@ module _ (c : Cluster) (i me : ℕ) (placed : IsInstance i) (owned : me < 3 * c.
         }
 
     -- it prepares a slot
-    prepares_on : (s : State Value) (votes : List (Vote (List ℕ))) (p : Post) (value : Value) → slice_get s.accepted s.prepared ≡ Some value → is_enough bytes_eq c.f votes s.prepared (slot_digest value) ≡ true → Posted s votes p
+    prepares_on : (s : State Value) (votes : List (SlotVote (List ℕ))) (p : Post) (value : Value) → slice_get s.accepted s.prepared ≡ Some value → is_enough bytes_eq c.f votes s.prepared (slot_digest value) ≡ true → Posted s votes p
         → Posted (after {V = Value} {X = List ℕ} s (prepares s.view (take (suc s.prepared) s.accepted))) votes (posts_all by (deeds_of (takes_step (prepares s.view (take (suc s.prepared) s.accepted)))) p)
     prepares_on s votes p value there many was =
         let h = was.held in
@@ -166,7 +166,7 @@ module _ (c : Cluster) (i me : ℕ) (placed : IsInstance i) (owned : me < 3 * c.
         let z = certified_by c.f s.view s.prepared value p.shelf.ballots in
         let at_slot = core.accepted s.prepared value there in
         let certificates = certified_set (limit_of c.plan i) s.view s.prepared front value s.certs p.shelf.certified z h.certified (sym len) last at_slot (enough_signed c.f s.prepared (slot_digest value) votes p.shelf.ballots c.in_bounds.few_faulty h.ballots many) in
-        subst (λ (ds : List Deed). Posted (after {V = Value} {X = List ℕ} s (prepares s.view front)) votes (posts_all by ds p)) (sym deeds) (record {
+        subst (λ (ds : List Notice). Posted (after {V = Value} {X = List ℕ} s (prepares s.view front)) votes (posts_all by ds p)) (sym deeds) (record {
           held = record {
             core = record { view = core.view; few = core.few; accepted = core.accepted; certs = certs_on (limit_of c.plan i) s front value core len last at_slot; executed = core.executed };
             asked = h.asked;
@@ -182,7 +182,7 @@ module _ (c : Cluster) (i me : ℕ) (placed : IsInstance i) (owned : me < 3 * c.
         })
 
     -- it executes a slot
-    executes_on : (s : State Value) (votes : List (Vote (List ℕ))) (p : Post) (value : Value) → slice_get s.accepted (length s.executed) ≡ Some value → goes s.executed value ≡ true → Posted s votes p
+    executes_on : (s : State Value) (votes : List (SlotVote (List ℕ))) (p : Post) (value : Value) → slice_get s.accepted (length s.executed) ≡ Some value → goes s.executed value ≡ true → Posted s votes p
         → Posted (record s { executed = s.executed ++ value ∷ [] }) votes p
     executes_on s votes p value there on was =
         let h = was.held in
@@ -202,30 +202,30 @@ module _ (c : Cluster) (i me : ℕ) (placed : IsInstance i) (owned : me < 3 * c.
           sent = was.sent;
         }
 
-    next_on : (s : State Value) (votes commits : List (Vote (List ℕ))) (p : Post) (step : OrderStep) → IsNext slot_digest bytes_eq goes c.f s votes commits step → Posted s votes p
+    next_on : (s : State Value) (votes commits : List (SlotVote (List ℕ))) (p : Post) (step : OrderStep) → IsNext slot_digest bytes_eq goes c.f s votes commits step → Posted s votes p
         → Posted (after s step) (votes_after me step votes) (posts_all by (deeds_of (takes_step step)) p)
     next_on s votes commits p step (by_sign value level there) was = signs_on s votes p value there was
     next_on s votes commits p step (by_prepare value ahead there many) was = prepares_on s votes p value there many was
     next_on s votes commits p step (by_execute value ahead there many on) was = executes_on s votes p value there on was
 
-    onward_on : (rest : List OrderStep) (step : OrderStep) (s : State Value) (votes : List (Vote (List ℕ))) (p : Post)
+    onward_on : (rest : List OrderStep) (step : OrderStep) (s : State Value) (votes : List (SlotVote (List ℕ))) (p : Post)
         → Posted (state_by rest (after s step)) (votes_by me rest (votes_after me step votes)) (told_by by rest (posts_all by (deeds_of (takes_step step)) p))
         → Posted (state_by (rest ++ step ∷ []) s) (votes_by me (rest ++ step ∷ []) votes) (told_by by (rest ++ step ∷ []) p)
     onward_on rest step s votes p was =
         let told : told_by by (rest ++ step ∷ []) p ≡ told_by by rest (posts_all by (deeds_of (takes_step step)) p) =
         ap (λ l. posts_all by (told_in (map takes_step l)) p) (oldest-last rest step) ∙ posts_all-append by (deeds_of (takes_step step)) (told_in (map takes_step (oldest_first rest))) p in
         subst (λ (t : State Value). Posted t (votes_by me (rest ++ step ∷ []) votes) (told_by by (rest ++ step ∷ []) p)) (sym (state_by-last slot_digest me rest step s))
-        (subst (λ (u : List (Vote (List ℕ))). Posted (state_by rest (after s step)) u (told_by by (rest ++ step ∷ []) p)) (sym (votes_by-last slot_digest me rest step votes))
+        (subst (λ (u : List (SlotVote (List ℕ))). Posted (state_by rest (after s step)) u (told_by by (rest ++ step ∷ []) p)) (sym (votes_by-last slot_digest me rest step votes))
         (subst (λ (q : Post). Posted (state_by rest (after s step)) (votes_by me rest (votes_after me step votes)) q) (sym told) was))
 
     -- all that it goes on with
-    pub settled_on : (n : ℕ) (s : State Value) (votes commits : List (Vote (List ℕ))) (p : Post) → Posted s votes p
+    pub settled_on : (n : ℕ) (s : State Value) (votes commits : List (SlotVote (List ℕ))) (p : Post) → Posted s votes p
         → Posted (state_by (settled slot_digest bytes_eq goes c.f me n s votes commits) s) (votes_by me (settled slot_digest bytes_eq goes c.f me n s votes commits) votes) (told_by by (settled slot_digest bytes_eq goes c.f me n s votes commits) p)
     settled_on zero s votes commits p was = was
     settled_on (suc n) s votes commits p was = of_next (next slot_digest bytes_eq goes c.f s votes commits) refl (λ t u d q then_is. settled_on n t u d q then_is)
       where
         of_next : (o : Option OrderStep) → next slot_digest bytes_eq goes c.f s votes commits ≡ o
-            → ((t : State Value) (u d : List (Vote (List ℕ))) (q : Post) → Posted t u q
+            → ((t : State Value) (u d : List (SlotVote (List ℕ))) (q : Post) → Posted t u q
             → Posted (state_by (settled slot_digest bytes_eq goes c.f me n t u d) t) (votes_by me (settled slot_digest bytes_eq goes c.f me n t u d) u) (told_by by (settled slot_digest bytes_eq goes c.f me n t u d) q))
             → Posted (state_by (onward slot_digest bytes_eq goes c.f me (settled slot_digest bytes_eq goes c.f me n) s votes commits o) s) (votes_by me (onward slot_digest bytes_eq goes c.f me (settled slot_digest bytes_eq goes c.f me n) s votes commits o) votes) (told_by by (onward slot_digest bytes_eq goes c.f me (settled slot_digest bytes_eq goes c.f me n) s votes commits o) p)
         of_next None why further = was

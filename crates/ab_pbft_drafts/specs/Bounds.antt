@@ -10,10 +10,10 @@ use Rattle.ab_msg.specs.Fields.{IsView, IsRequest, IsWritten, IsSig}
 use Rattle.ab_msg.specs.Certs.{AreAborts, ArePrepares, IsProof}
 use Rattle.ab_abs.specs.Values.{list_of}
 use Rattle.ab_lock.specs.Steps.{Cert, State, cert_at}
-use Rattle.ab_lock.specs.Votes.{Vote}
+use Rattle.ab_lock.specs.Votes.{SlotVote}
 use Rattle.ab_lock.specs.ViewChanges.{Kept}
-use Rattle.ab_pbft_rules.specs.Rules.{Seat}
-use Rattle.ab_pbft_shelf.specs.declared.kept.Ballot.{Ballot}
+use Rattle.ab_pbft_rules.specs.Rules.{Placement}
+use Rattle.ab_pbft_shelf.specs.declared.kept.SignedVote.{SignedVote}
 use Rattle.ab_pbft_shelf.specs.declared.kept.Certified.{Certified}
 use Rattle.ab_pbft_shelf.specs.declared.kept.Tagged.{Tagged}
 use Rattle.ab_pbft_shelf.specs.Shelves.{Shelf, maker_of, view_of}
@@ -49,13 +49,13 @@ pub record IsCore (k : ℕ) (s : State Value) : Type 0 where
 -- ---- what is kept signed
 
 -- the votes are those of the kept PREPAREs, by replicas of the cluster
-abbrev pub vote_of : Ballot → Vote (List ℕ)
+abbrev pub vote_of : SignedVote → SlotVote (List ℕ)
 vote_of b = record { by = b.by; slot = b.slot; x = b.x }
 
-pub record AreBallots (f : ℕ) (votes : List (Vote (List ℕ))) (ballots : List Ballot) : Type 0 where
+pub record AreBallots (f : ℕ) (votes : List (SlotVote (List ℕ))) (ballots : List SignedVote) : Type 0 where
   pub same : votes ≡ map vote_of ballots
-  pub within : (b : Ballot) → Contains ballots b → b.by < 3 * f + 1
-  pub signed : (b : Ballot) → Contains ballots b → IsSig b.sig
+  pub within : (b : SignedVote) → Contains ballots b → b.by < 3 * f + 1
+  pub signed : (b : SignedVote) → Contains ballots b → IsSig b.sig
 
 -- a slot has signatures where the rules have a certificate
 abbrev pub AreBoth : ℕ → Option (Cert Value) → Option Certified → Type 0
@@ -87,7 +87,7 @@ HasTags t = (tag : ℕ × List ℕ) → Contains t.tags.items tag → length tag
 
 -- ---- all of it
 
-pub record IsBounded (f k : ℕ) (s : State Value) (votes : List (Vote (List ℕ))) (changes : List (Kept Value)) (requests : List Request) (shelf : Shelf) : Type 0 where
+pub record IsBounded (f k : ℕ) (s : State Value) (votes : List (SlotVote (List ℕ))) (changes : List (Kept Value)) (requests : List Request) (shelf : Shelf) : Type 0 where
   pub core : IsCore k s
   pub asked : (m : Request) → Contains requests m → IsRequest 0 15 m
   pub view : shelf.view ≡ s.view
@@ -98,7 +98,7 @@ pub record IsBounded (f k : ℕ) (s : State Value) (votes : List (Vote (List ℕ
   pub tags : (t : Tagged) → Contains shelf.tagged t → HasTags t
 
 -- replica r of instance i in a cluster, which entered with a base
-abbrev pub seat_of : Cluster → ℕ → ℕ → List Request → Seat
+abbrev pub seat_of : Cluster → ℕ → ℕ → List Request → Placement
 seat_of c i r base = record { k = limit_of c.plan i; f = c.f; i = i; me = r; base = base }
 
 pub record IsInForm (c : Cluster) (i r : ℕ) (q : Signing) : Type 0 where

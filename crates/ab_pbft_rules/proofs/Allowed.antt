@@ -13,23 +13,23 @@ use Rattle.ab_lock.specs.Events.{state_by, votes_by, commits_by, settles_by, acc
 use Rattle.ab_lock.proofs.EventLaws.{state_by-state_of}
 use Rattle.ab_lock.proofs.Settling.{executed_within, settled_follows, settled_ends}
 use Rattle.ab_lock.proofs.ViewChangeLemmas.{enter_can, leave_can}
-use Rattle.ab_order.specs.Inputs.{Input}
+use Rattle.ab_order.specs.Inputs.{Reading}
 use Rattle.ab_order.specs.Orderers.{IsReached, from_start, by_input}
 use Rattle.ab_pbft_rules.specs.Traces.{OrderStep}
-use Rattle.ab_pbft_rules.specs.Rules.{Seat, Memory, Pbft, Work, idle, core_of, settle, leave_to, work, pbft}
+use Rattle.ab_pbft_rules.specs.Rules.{Placement, Memory, Pbft, Work, idle, core_of, settle, leave_to, work, pbft}
 use Rattle.ab_pbft_rules.proofs.RuleInduction.{IsKept, work_kept, work_ends}
 
 -- it is where steps that are allowed lead to
-pub record IsAllowed (seat : Seat) (w : Work) : Type 0 where
+pub record IsAllowed (seat : Placement) (w : Work) : Type 0 where
   pub trace : List OrderStep
   pub follows : Follows slot_digest goes seat.k trace
   pub core : core_of w ≡ state_of trace
 
 -- nothing of the rules for votes is left to do
-abbrev pub IsQuiet : Seat → Work → Type 0
+abbrev pub IsQuiet : Placement → Work → Type 0
 IsQuiet seat w = next slot_digest bytes_eq goes seat.f (core_of w) w.at.peer.votes w.at.peer.commits ≡ None
 
-module _ (seat : Seat) where
+module _ (seat : Placement) where
   abbrev fuel : ℕ
   fuel = suc (3 * suc seat.k)
 
@@ -56,7 +56,7 @@ module _ (seat : Seat) where
       (votes_by seat.me (settled slot_digest bytes_eq goes seat.f seat.me fuel s p.votes p.commits) p.votes) (commits_by slot_digest seat.me (settled slot_digest bytes_eq goes seat.f seat.me fuel s p.votes p.commits) p.commits) ≡ None) (sym was.core)
       (settled_ends slot_digest bytes_eq goes seat.k seat.f seat.me was.trace p.votes p.commits was.follows)
 
-  allowed_by : (e : Input) (start : Work) → IsKept seat e start (IsAllowed seat)
+  allowed_by : (e : Reading) (start : Work) → IsKept seat e start (IsAllowed seat)
   allowed_by e start = record {
     settles = settles_on;
     takes = λ w value was still room on why. let t = one_more w _ (accept (core_of w) value) was refl (still, room, on, refl) in record { trace = t.0; follows = t.1; core = t.2 };
@@ -72,13 +72,13 @@ module _ (seat : Seat) where
     keeps_commit = λ by slot x is was. record { trace = was.trace; follows = was.follows; core = was.core };
   }
 
-  event_allowed : (memory : Memory) (e : Input) → IsAllowed seat (idle memory) → IsAllowed seat (work seat e (idle memory))
+  event_allowed : (memory : Memory) (e : Reading) → IsAllowed seat (idle memory) → IsAllowed seat (work seat e (idle memory))
   event_allowed memory e was = work_kept seat e (idle memory) (IsAllowed seat) (allowed_by e (idle memory)) was
 
   left_quiet : (v : ℕ) (w : Work) → IsQuiet seat (leave_to seat v w)
   left_quiet v w = elim (cases_Bool (nat_lt (length (core_of w).executed) 0)) [ inl some ↦ rw some refl | inr none ↦ rw none refl ]
 
-  event_quiet : (memory : Memory) (e : Input) → IsAllowed seat (idle memory) → IsQuiet seat (idle memory) → IsQuiet seat (work seat e (idle memory))
+  event_quiet : (memory : Memory) (e : Reading) → IsAllowed seat (idle memory) → IsQuiet seat (idle memory) → IsQuiet seat (work seat e (idle memory))
   event_quiet memory e was quiet =
       work_ends seat e (idle memory) (IsAllowed seat) (allowed_by e (idle memory)) (IsQuiet seat) settle_quiet left_quiet (λ change quiet'. quiet') was quiet
 

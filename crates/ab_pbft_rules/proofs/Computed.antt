@@ -1,22 +1,18 @@
 -- What a replica comes to by the inputs of the examples.
-use Rattle.std.proofs.Common.{◌≡◌, ℕ, true, false, Option, Some, List, [], ◌∷◌, refl, ap, ◌∙◌}
-use Rattle.std.specs.Str.{bytes_eq}
-use Rattle.std.proofs.lemmas.Slice.Eq.{bytes_eq-Decides}
+use Rattle.std.proofs.Common.{◌≡◌, ℕ, false, Option, Some, List, [], ◌∷◌, refl, ap, ◌∙◌}
+use Rattle.ab_num.proofs.Tests.{bytes_eq-refl}
 use Rattle.ab_hist.specs.declared.request.Request.{Request}
 use Rattle.ab_msg.specs.declared.value.Value.{Value}
 use Rattle.ab_msg.specs.declared.value.Value.TheVariants.{Base, Request as Order}
 use Rattle.ab_msg.specs.Slots.{slot_digest}
 use Rattle.ab_lock.specs.Steps.{Cert, with_cert}
-use Rattle.ab_lock.specs.Votes.{Vote}
+use Rattle.ab_lock.specs.Votes.{SlotVote}
 use Rattle.ab_lock.specs.ViewChanges.{Kept}
-use Rattle.ab_order.specs.Inputs.{Input, request, prepare, commit, timeout}
+use Rattle.ab_order.specs.Inputs.{Reading, request, prepare, commit, timeout}
 use Rattle.ab_pbft_rules.specs.Rules.{Pbft, pbft}
 use Rattle.ab_pbft_rules.specs.Examples.{after_all, begun_with, voted, late}
 
-same_bytes : (d : List ℕ) → bytes_eq d d ≡ true
-same_bytes d = (bytes_eq-Decides d d).1 refl
-
-abbrev by : ℕ → ℕ → List ℕ → Vote (List ℕ)
+abbrev by : ℕ → ℕ → List ℕ → SlotVote (List ℕ)
 by r slot d = record { by = r; slot = slot; x = d }
 
 module _ (m : Request) where
@@ -26,7 +22,7 @@ module _ (m : Request) where
   abbrev order : List ℕ
   order = slot_digest (Order m)
 
-  abbrev at : ℕ → ℕ → List (Option (Cert Value)) → List Value → List (Vote (List ℕ)) → List (Vote (List ℕ)) → Pbft
+  abbrev at : ℕ → ℕ → List (Option (Cert Value)) → List Value → List (SlotVote (List ℕ)) → List (SlotVote (List ℕ)) → Pbft
   at signed prepared certs executed votes commits = record {
     seat = record { k = 1; f = 1; i = 1; me = 0; base = [] };
     memory = record {
@@ -49,48 +45,48 @@ module _ (m : Request) where
   abbrev both_certs : List (Option (Cert Value))
   both_certs = with_cert 0 (Base [] ∷ Order m ∷ []) first_cert
 
-  abbrev next : Pbft → Input → Pbft
+  abbrev next : Pbft → Reading → Pbft
   next p e = pbft.after p e
 
   s1 : next (begun_with 1 0) (request m) ≡ at 1 0 no_cert [] (by 0 0 base ∷ []) []
-  s1 = let a = same_bytes base in rw a refl
+  s1 = let a = bytes_eq-refl base in rw a refl
 
   s2 : next (at 1 0 no_cert [] (by 0 0 base ∷ []) []) (prepare 1 0 0 base) ≡ at 1 0 no_cert [] (by 1 0 base ∷ by 0 0 base ∷ []) []
-  s2 = let a = same_bytes base in rw a refl
+  s2 = let a = bytes_eq-refl base in rw a refl
 
-  abbrev votes3 : List (Vote (List ℕ))
+  abbrev votes3 : List (SlotVote (List ℕ))
   votes3 = by 0 1 order ∷ by 2 0 base ∷ by 1 0 base ∷ by 0 0 base ∷ []
 
-  abbrev commits5 : List (Vote (List ℕ))
+  abbrev commits5 : List (SlotVote (List ℕ))
   commits5 = by 2 0 base ∷ by 1 0 base ∷ by 0 0 base ∷ []
 
   s3 : next (at 1 0 no_cert [] (by 1 0 base ∷ by 0 0 base ∷ []) []) (prepare 2 0 0 base) ≡ at 2 1 first_cert [] votes3 (by 0 0 base ∷ [])
-  s3 = let a = same_bytes base in let b = same_bytes order in rw (a, b, a) refl
+  s3 = let a = bytes_eq-refl base in let b = bytes_eq-refl order in rw (a, b, a) refl
 
   s4 : next (at 2 1 first_cert [] votes3 (by 0 0 base ∷ [])) (commit 1 0 0 base) ≡ at 2 1 first_cert [] votes3 (by 1 0 base ∷ by 0 0 base ∷ [])
-  s4 = let a = same_bytes base in let b = same_bytes order in rw (b, a) refl
+  s4 = let a = bytes_eq-refl base in let b = bytes_eq-refl order in rw (b, a) refl
 
   s5 : next (at 2 1 first_cert [] votes3 (by 1 0 base ∷ by 0 0 base ∷ [])) (commit 2 0 0 base) ≡ at 2 1 first_cert (Base [] ∷ []) votes3 commits5
-  s5 = let a = same_bytes base in let b = same_bytes order in rw (b, a, b) refl
+  s5 = let a = bytes_eq-refl base in let b = bytes_eq-refl order in rw (b, a, b) refl
 
   s6 : next (at 2 1 first_cert (Base [] ∷ []) votes3 commits5) (prepare 1 0 1 order) ≡ at 2 1 first_cert (Base [] ∷ []) (by 1 1 order ∷ votes3) commits5
-  s6 = let b = same_bytes order in rw b refl
+  s6 = let b = bytes_eq-refl order in rw b refl
 
   s7 : next (at 2 1 first_cert (Base [] ∷ []) (by 1 1 order ∷ votes3) commits5) (prepare 2 0 1 order) ≡ at 2 2 both_certs (Base [] ∷ []) (by 2 1 order ∷ by 1 1 order ∷ votes3) (by 0 1 order ∷ commits5)
-  s7 = let a = same_bytes base in let b = same_bytes order in rw (b, b) refl
+  s7 = let a = bytes_eq-refl base in let b = bytes_eq-refl order in rw (b, b) refl
 
   s8 : next (at 2 2 both_certs (Base [] ∷ []) (by 2 1 order ∷ by 1 1 order ∷ votes3) (by 0 1 order ∷ commits5)) (commit 1 0 1 order)
       ≡ at 2 2 both_certs (Base [] ∷ []) (by 2 1 order ∷ by 1 1 order ∷ votes3) (by 1 1 order ∷ by 0 1 order ∷ commits5)
-  s8 = let b = same_bytes order in rw b refl
+  s8 = let b = bytes_eq-refl order in rw b refl
 
   s9 : next (at 2 2 both_certs (Base [] ∷ []) (by 2 1 order ∷ by 1 1 order ∷ votes3) (by 1 1 order ∷ by 0 1 order ∷ commits5)) (commit 2 0 1 order)
       ≡ at 2 2 both_certs (Base [] ∷ Order m ∷ []) (by 2 1 order ∷ by 1 1 order ∷ votes3) (by 2 1 order ∷ by 1 1 order ∷ by 0 1 order ∷ commits5)
-  s9 = let b = same_bytes order in rw b refl
+  s9 = let b = bytes_eq-refl order in rw b refl
 
-  abbrev last_3 : List Input
+  abbrev last_3 : List Reading
   last_3 = prepare 2 0 1 order ∷ commit 1 0 1 order ∷ commit 2 0 1 order ∷ []
 
-  abbrev last_6 : List Input
+  abbrev last_6 : List Reading
   last_6 = commit 1 0 0 base ∷ commit 2 0 0 base ∷ prepare 1 0 1 order ∷ prepare 2 0 1 order ∷ commit 1 0 1 order ∷ commit 2 0 1 order ∷ []
 
   ends : after_all (begun_with 1 0) (voted m) ≡ at 2 2 both_certs (Base [] ∷ Order m ∷ []) (by 2 1 order ∷ by 1 1 order ∷ votes3) (by 2 1 order ∷ by 1 1 order ∷ by 0 1 order ∷ commits5)
@@ -115,7 +111,7 @@ module _ (m : Request) where
   abbrev own : Kept Value
   own = record { view = 1; change = record { by = 0; certs = [] } }
 
-  abbrev alone : List (Vote (List ℕ)) → List (Vote (List ℕ)) → List Request → List (Option (Cert Value)) → List Value → ℕ → Pbft
+  abbrev alone : List (SlotVote (List ℕ)) → List (SlotVote (List ℕ)) → List Request → List (Option (Cert Value)) → List Value → ℕ → Pbft
   alone votes commits requests certs values done = record {
     seat = record { k = 1; f = 0; i = 1; me = 0; base = [] };
     memory = record {
@@ -136,7 +132,7 @@ module _ (m : Request) where
   certs = with_cert 1 (Base [] ∷ Order m ∷ []) (with_cert 1 (Base [] ∷ []) no_cert)
 
   executes_alone : next (alone [] [] [] no_cert [] 0) (request m) ≡ alone (by 0 1 order ∷ by 0 0 base ∷ []) (by 0 1 order ∷ by 0 0 base ∷ []) (m ∷ []) certs (Base [] ∷ Order m ∷ []) 2
-  executes_alone = let a = same_bytes base in let b = same_bytes order in rw (a, b, a, b) refl
+  executes_alone = let a = bytes_eq-refl base in let b = bytes_eq-refl order in rw (a, b, a, b) refl
 
   pub alone_executes : pbft.ordered (after_all (begun_with 0 0) (late m)) ≡ m ∷ []
   alone_executes = ap (λ (p : Pbft). pbft.ordered (next p (request m))) moves ∙ ap (λ (p : Pbft). pbft.ordered p) executes_alone

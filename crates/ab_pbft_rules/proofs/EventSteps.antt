@@ -6,6 +6,7 @@ use Rattle.std.proofs.lemmas.Bool.{cases_Bool}
 use Rattle.std.proofs.lemmas.List.Elements.{Contains-append_cases}
 use Rattle.std.proofs.lemmas.Slice.Eq.{bytes_eq-Decides}
 use Rattle.ab_num.specs.declared.party.Party.TheVariants.{Client}
+use Rattle.ab_num.proofs.Lists.{Contains-head, Contains-tail, Contains-cons_cases, Contains-flat_map, flat_map_cases, Contains-one, Contains-none, Contains-map, Contains-map_cases}
 use Rattle.ab_hist.specs.declared.request.Request.{Request}
 use Rattle.ab_hist.specs.Histories.{IsHistory}
 use Rattle.ab_msg.specs.declared.content.Content.TheVariants as content
@@ -16,9 +17,6 @@ use Rattle.ab_abs.specs.Observations.{IsInitHistory}
 use Rattle.ab_abs.specs.Values.{goes, IsOfSlot}
 use Rattle.ab_abs.specs.Acts.{Setting, Act, observations}
 use Rattle.ab_abs.specs.OrderRules.{WasClaimed}
-use Rattle.ab_abs.proofs.Counting.{Contains-head, Contains-tail}
-use Rattle.ab_abs.proofs.Lists.{Contains-cons_cases, Contains-flat_map, flat_map_cases}
-use Rattle.ab_abs.proofs.Statements.{one_of, none_of}
 use Rattle.ab_lock.specs.Quorums.{quorum}
 use Rattle.ab_lock.specs.Steps.{Change, Cert, accepts, enters, State, cert_at}
 use Rattle.ab_lock.specs.Acts as lock
@@ -26,18 +24,18 @@ use Rattle.ab_lock.specs.Acts.{Prepare, Commit, made, steps_of, AreLawful, Knows
 use Rattle.ab_lock.specs.ViewChanges.{Kept, of_view, lowest, leave, own_change, enter, IsRising}
 use Rattle.ab_lock.specs.Events.{Peer, act_of, peer_by, settles_by, entered_peer, left_peer, accept, accepted_peer, with_vote, with_commit}
 use Rattle.ab_lock.specs.Standing.{PeerStands, AreKeptChanges}
-use Rattle.ab_lock.proofs.Lists.{nth_map, Contains-nth, Contains-take, Contains-map, Contains-map_cases}
+use Rattle.ab_lock.proofs.Lists.{nth_map, Contains-nth, Contains-take}
 use Rattle.ab_lock.proofs.ActLemmas.{steps_own, WasMade-more, Knows-more, quorum_more, changes_more, lawful_follows, lawful_backs}
 use Rattle.ab_lock.proofs.VoteLemmas.{keep_kept, settled_in_view}
 use Rattle.ab_lock.proofs.ViewChangeLemmas.{listed, of_view_in, own_fits, lowest_known}
 use Rattle.ab_lock.proofs.KeptChanges.{keeps_more, keeps_put, put_in, put_rises, rising_once}
 use Rattle.ab_lock.proofs.EventLaws.{kept_more, settle_lawful, accept_lawful, enter_lawful, leave_lawful, own_change_known}
 use Rattle.ab_order.specs.Orders.{WasShown, MayBeOrdered}
-use Rattle.ab_order.specs.Inputs.{Input, request, pre_prepare, prepare, commit, view_change, ChangeInput, change_values, input_values, asked_by, offered_by, IsChange, IsGiven}
+use Rattle.ab_order.specs.Inputs.{Reading, request, pre_prepare, prepare, commit, view_change, ChangeReading, change_values, input_values, asked_by, offered_by, IsChange, IsGiven}
 use Rattle.ab_order.proofs.BackupLaws.{keep_cases}
 use Rattle.ab_pbft_rules.specs.Traces.{OrderStep, OrderAct, content_of, IsSource}
 use Rattle.ab_pbft_rules.specs.Standing.{AreShown, IsMid}
-use Rattle.ab_pbft_rules.specs.Rules.{Seat, Memory, Work, core_of, with_peer, base_of, cert_of, change_of, fits, without, keep_request, keep_change, settle, take_value, leave_to, work}
+use Rattle.ab_pbft_rules.specs.Rules.{Placement, Memory, Work, core_of, with_peer, base_of, cert_of, change_of, fits, without, keep_request, keep_change, settle, take_value, leave_to, work}
 use Rattle.ab_pbft_rules.proofs.RuleInduction.{WhyTaken, own_base, waiting, base_brought, request_brought, WhyEntered, from_kept, from_new_view, MayEnter, IsKept, work_kept}
 use Rattle.ab_pbft_rules.proofs.GoodValues.{good_certs}
 use Rattle.ab_pbft_rules.proofs.ChangeInputs.{input_said, change_known, change_fits, new_view_known}
@@ -85,13 +83,13 @@ module _ (r : ℕ) where
     fits = λ u has. keeps.fits u (without_in kept u has);
   }
 
-module _ (x : Setting) (k r : ℕ) (own : List Act) (Said : lock.Content (List ℕ) → Type 0) where
+module _ (x : Setting) (k r : ℕ) (own : List Act) (Said : lock.LockContent (List ℕ) → Type 0) where
   abbrev Lawful : List OrderAct → Type 0
   Lawful trace = AreLawful slot_digest x.cluster.f (IsSource x own) goes k trace
 
   -- one more act of the trace, after which only where the replica is in the rules has changed
-  pub mid_more : (trace : List OrderAct) (at : Memory) (now : List OrderStep) (claims : List (lock.Content (List ℕ))) (more : List OrderStep) (q : Peer Value (List ℕ)) → IsMid x k r own Said trace at now
-      → ((c : lock.Content (List ℕ)) → Contains claims c → WasClaimed own (content_of x.i c))
+  pub mid_more : (trace : List OrderAct) (at : Memory) (now : List OrderStep) (claims : List (lock.LockContent (List ℕ))) (more : List OrderStep) (q : Peer Value (List ℕ)) → IsMid x k r own Said trace at now
+      → ((c : lock.LockContent (List ℕ)) → Contains claims c → WasClaimed own (content_of x.i c))
       → ((v : ℕ) (vcs : List (Change Value)) (chosen : List Value) (c : Change Value) → Contains more (enters v vcs chosen) → Contains vcs c → AreShown x own c)
       → Lawful (act_of r claims more ∷ trace) → PeerStands slot_digest x.cluster.f (act_of r claims more ∷ trace) r q
       → IsMid x k r own Said (act_of r claims more ∷ trace) (record at { peer = q }) (more ++ now)
@@ -124,12 +122,12 @@ module _ (x : Setting) (k r : ℕ) (own : List Act) (Said : lock.Content (List �
         said = λ c was. WasMade-more slot_digest a trace c (mid.said c was);
       }
 
-  no_claims : (c : lock.Content (List ℕ)) → Contains [] c → WasClaimed own (content_of x.i c)
-  no_claims c has = absurd (none_of c has)
+  no_claims : (c : lock.LockContent (List ℕ)) → Contains [] c → WasClaimed own (content_of x.i c)
+  no_claims c has = absurd (Contains-none c has)
 
   -- a step that enters no view
   no_entry : (step : OrderStep) → ((v : ℕ) (vcs : List (Change Value)) (chosen : List Value) → step ≡ enters v vcs chosen → ⊥) → (v : ℕ) (vcs : List (Change Value)) (chosen : List Value) (c : Change Value) → Contains (step ∷ []) (enters v vcs chosen) → Contains vcs c → AreShown x own c
-  no_entry step other v vcs chosen c has in_vcs = absurd (other v vcs chosen (one_of step (enters v vcs chosen) has))
+  no_entry step other v vcs chosen c has in_vcs = absurd (other v vcs chosen (Contains-one step (enters v vcs chosen) has))
 
   -- certificates are of their slots, and of values that may be ordered
   certs_shown : (trace : List OrderAct) (at : Memory) (now : List OrderStep) → IsMid x k r own Said trace at now → (t : ℕ) (c : Cert Value) → cert_at at.peer.core.certs t ≡ Some c → IsOfSlot t c.value × MayBeOrdered x own c.value
@@ -139,8 +137,8 @@ module _ (x : Setting) (k r : ℕ) (own : List Act) (Said : lock.Content (List �
       (λ n value has. source_ordered x own n value (lawful_backs slot_digest x.cluster.f (IsSource x own) goes k trace mid.lawful r (accepts n value) has))
       (λ v vcs chosen c' n cert has in_vcs there. mid.shown v vcs chosen c' has in_vcs n cert there) t c (ap (λ s. cert_at s.certs t) (sym mid.peer.core) ∙ is)
 
-  module _ (lt : r < 3 * x.cluster.f + 1) (base : List Request) (based : IsInitHistory (observations own) x.i base × IsHistory base) (e : Input) (start : Work) where
-    abbrev seat : Seat
+  module _ (lt : r < 3 * x.cluster.f + 1) (base : List Request) (based : IsInitHistory (observations own) x.i base × IsHistory base) (e : Reading) (start : Work) where
+    abbrev seat : Placement
     seat = record { k = k; f = x.cluster.f; i = x.i; me = r; base = base }
 
     -- what is known of the event in the list of the replica's acts
@@ -155,9 +153,9 @@ module _ (x : Setting) (k r : ℕ) (own : List Act) (Said : lock.Content (List �
     pub record IsThere (w : Work) : Type 0 where
       pub trace : List OrderAct
       pub mid : IsMid x k r own Said trace w.at w.steps
-      pub knows : (c : lock.Content (List ℕ)) → Contains (input_said e) c → Knows slot_digest trace r c
+      pub knows : (c : lock.LockContent (List ℕ)) → Contains (input_said e) c → Knows slot_digest trace r c
 
-    knows_more : (a : OrderAct) (trace : List OrderAct) → ((c : lock.Content (List ℕ)) → Contains (input_said e) c → Knows slot_digest trace r c) → (c : lock.Content (List ℕ)) → Contains (input_said e) c → Knows slot_digest (a ∷ trace) r c
+    knows_more : (a : OrderAct) (trace : List OrderAct) → ((c : lock.LockContent (List ℕ)) → Contains (input_said e) c → Knows slot_digest trace r c) → (c : lock.LockContent (List ℕ)) → Contains (input_said e) c → Knows slot_digest (a ∷ trace) r c
     knows_more a trace knows c has = Knows-more slot_digest a trace r c (knows c has)
 
     settles_on : (w : Work) → IsThere w → IsThere (settle seat w)
@@ -197,7 +195,7 @@ module _ (x : Setting) (k r : ℕ) (own : List Act) (Said : lock.Content (List �
           trace = a ∷ there.trace;
           mid = mid_more there.trace w.at w.steps [] (enter goes k v vcs ∷ []) (entered_peer goes k v vcs w.at.peer) there.mid no_claims
               (λ u us chosen c has in_us.
-              let e = one_of step (enters u us chosen) has in
+              let e = Contains-one step (enters u us chosen) has in
               let same : vcs ≡ us = cc (e) in
               shows c (subst (λ (z : List (Change Value)). Contains z c) (sym same) in_us)) l.0 l.1;
           knows = knows_more a there.trace there.knows;
@@ -259,7 +257,7 @@ module _ (x : Setting) (k r : ℕ) (own : List Act) (Said : lock.Content (List �
           (request_source x own (core_of w).accepted m (ap (λ z. goes (core_of w).accepted z) (sym is) ∙ on) (told.brought by view slot d m e_is))
 
       -- the values of a VIEW-CHANGE that came
-      change_shown : (change : ChangeInput) → IsChange x.cluster.f change → ((value : Value) → Contains (change_values change) value → WasShown own value) → AreShown x own (change_of change)
+      change_shown : (change : ChangeReading) → IsChange x.cluster.f change → ((value : Value) → Contains (change_values change) value → WasShown own value) → AreShown x own (change_of change)
       change_shown change is shown t cert there =
           let w = nth_map cert_of change.slots t cert there in
           subst (λ (z : Cert Value). IsOfSlot t z.value × MayBeOrdered x own z.value) w.2
@@ -273,9 +271,9 @@ module _ (x : Setting) (k r : ℕ) (own : List Act) (Said : lock.Content (List �
           let u = of_view_in w.at.changes v c (Contains-take (quorum x.cluster.f) (of_view w.at.changes v) c has) in
           subst (λ (z : Change Value). AreShown x own z) u.3 (there.mid.changes_shown u.0 u.1)))
       entered_by w v vcs there may (from_new_view by inputs e_is fit is) =
-          let given = subst (λ (i : Input). IsGiven x.cluster.f i) e_is told.given in
-          let shown = subst (λ (i : Input). (value : Value) → Contains (input_values i) value → WasShown own value) e_is told.shown in
-          let knows = subst (λ (i : Input). (c : lock.Content (List ℕ)) → Contains (input_said i) c → Knows slot_digest there.trace r c) e_is there.knows in
+          let given = subst (λ (i : Reading). IsGiven x.cluster.f i) e_is told.given in
+          let shown = subst (λ (i : Reading). (value : Value) → Contains (input_values i) value → WasShown own value) e_is told.shown in
+          let knows = subst (λ (i : Reading). (c : lock.LockContent (List ℕ)) → Contains (input_said i) c → Knows slot_digest there.trace r c) e_is there.knows in
           subst (λ (us : List (Change Value)). IsThere (with_peer w (entered_peer goes k v us w.at.peer) (enter goes k v us ∷ []))) (sym is)
           (enters_on w v (map change_of inputs) there may (new_view_known x.cluster.f there.trace r v inputs given.1 fit knows)
           (λ c has.
@@ -304,12 +302,12 @@ module _ (x : Setting) (k r : ℕ) (own : List Act) (Said : lock.Content (List �
             knows = there.knows;
           }
 
-      keeps_change : (change : ChangeInput) → e ≡ view_change change → fits x.cluster.f change ≡ true → IsThere start → IsThere (keep_change change start)
+      keeps_change : (change : ChangeReading) → e ≡ view_change change → fits x.cluster.f change ≡ true → IsThere start → IsThere (keep_change change start)
       keeps_change change e_is fit there =
           let mid = there.mid in
-          let given = subst (λ (i : Input). IsGiven x.cluster.f i) e_is told.given in
-          let shown = subst (λ (i : Input). (value : Value) → Contains (input_values i) value → WasShown own value) e_is told.shown in
-          let knows = subst (λ (i : Input). (c : lock.Content (List ℕ)) → Contains (input_said i) c → Knows slot_digest there.trace r c) e_is there.knows in
+          let given = subst (λ (i : Reading). IsGiven x.cluster.f i) e_is told.given in
+          let shown = subst (λ (i : Reading). (value : Value) → Contains (input_values i) value → WasShown own value) e_is told.shown in
+          let knows = subst (λ (i : Reading). (c : lock.LockContent (List ℕ)) → Contains (input_said i) c → Knows slot_digest there.trace r c) e_is there.knows in
           let u : Kept Value = record { view = change.view; change = change_of change } in
           record {
             trace = there.trace;
@@ -337,8 +335,8 @@ module _ (x : Setting) (k r : ℕ) (own : List Act) (Said : lock.Content (List �
       keeps_vote : (by slot : ℕ) (d : List ℕ) → e ≡ prepare by (core_of start).view slot d → IsThere start → IsThere (with_peer start (with_vote (record { by = by; slot = slot; x = d }) start.at.peer) [])
       keeps_vote by slot d e_is there =
           let mid = there.mid in
-          let given = subst (λ (i : Input). IsGiven x.cluster.f i) e_is told.given in
-          let knows = there.knows (Prepare by (core_of start).view slot d) (subst (λ (i : Input). Contains (input_said i) (Prepare by (core_of start).view slot d)) (sym e_is) (Contains-head _ [])) in
+          let given = subst (λ (i : Reading). IsGiven x.cluster.f i) e_is told.given in
+          let knows = there.knows (Prepare by (core_of start).view slot d) (subst (λ (i : Reading). Contains (input_said i) (Prepare by (core_of start).view slot d)) (sym e_is) (Contains-head _ [])) in
           record {
             trace = there.trace;
             mid = record {
@@ -364,8 +362,8 @@ module _ (x : Setting) (k r : ℕ) (own : List Act) (Said : lock.Content (List �
       keeps_commit : (by slot : ℕ) (d : List ℕ) → e ≡ commit by (core_of start).view slot d → IsThere start → IsThere (with_peer start (with_commit (record { by = by; slot = slot; x = d }) start.at.peer) [])
       keeps_commit by slot d e_is there =
           let mid = there.mid in
-          let given = subst (λ (i : Input). IsGiven x.cluster.f i) e_is told.given in
-          let knows = there.knows (Commit by (core_of start).view slot d) (subst (λ (i : Input). Contains (input_said i) (Commit by (core_of start).view slot d)) (sym e_is) (Contains-head _ [])) in
+          let given = subst (λ (i : Reading). IsGiven x.cluster.f i) e_is told.given in
+          let knows = there.knows (Commit by (core_of start).view slot d) (subst (λ (i : Reading). Contains (input_said i) (Commit by (core_of start).view slot d)) (sym e_is) (Contains-head _ [])) in
           record {
             trace = there.trace;
             mid = record {

@@ -2,12 +2,10 @@
 use Rattle.std.proofs.Common.{◌≡◌, ℕ, suc, Some, List, [], ◌∷◌, take, slice_get, sym, ap, ◌∙◌, subst, inl, inr}
 use Rattle.std.specs.Prelude.{Contains}
 use Rattle.std.proofs.lemmas.Option.{none-some}
+use Rattle.ab_num.proofs.Lists.{Contains-head, Contains-tail, Contains-cons_cases, Contains-none}
 use Rattle.ab_msg.specs.declared.value.Value.{Value}
 use Rattle.ab_msg.specs.Slots.{slot_digest}
 use Rattle.ab_abs.specs.Values.{goes}
-use Rattle.ab_abs.proofs.Counting.{Contains-head, Contains-tail}
-use Rattle.ab_abs.proofs.Lists.{Contains-cons_cases}
-use Rattle.ab_abs.proofs.Statements.{none_of}
 use Rattle.ab_lock.specs.Steps.{Change, Cert, accepts, signs, prepares, changes, enters, executes, cert_at, state_of, Can, Follows}
 use Rattle.ab_lock.proofs.Lists.{nth_grown, nth_front}
 use Rattle.ab_lock.proofs.ViewChangeLemmas.{cert_prepared}
@@ -44,7 +42,7 @@ module _ (k : ℕ) (Good : ℕ → Value → Type 0) where
   good_accepted (executes v n other ∷ steps) follows by choice t value is = good_accepted steps follows.1 (fewer_accepts _ steps by) (fewer_enters _ steps choice) t value is
 
   pub good_prepared : (steps : List OrderStep) → Follows slot_digest goes k steps → GoodAccepts steps → GoodEnters steps → (v : ℕ) (h : List Value) → Contains steps (prepares v h) → (t : ℕ) (value : Value) → slice_get h t ≡ Some value → Good t value
-  good_prepared [] follows by choice v h has t value is = absurd (none_of _ has)
+  good_prepared [] follows by choice v h has t value is = absurd (Contains-none _ has)
   good_prepared (step ∷ steps) follows by choice v h has t value is =
       elim (Contains-cons_cases step steps (prepares v h) has) [
         | inl e ↦
@@ -55,7 +53,7 @@ module _ (k : ℕ) (Good : ℕ → Value → Type 0) where
       ]
 
   pub good_executed : (steps : List OrderStep) → Follows slot_digest goes k steps → GoodAccepts steps → GoodEnters steps → (v t : ℕ) (value : Value) → Contains steps (executes v t value) → Good t value
-  good_executed [] follows by choice v t value has = absurd (none_of _ has)
+  good_executed [] follows by choice v t value has = absurd (Contains-none _ has)
   good_executed (step ∷ steps) follows by choice v t value has =
       elim (Contains-cons_cases step steps (executes v t value) has) [
         | inl e ↦

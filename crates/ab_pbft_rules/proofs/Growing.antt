@@ -5,18 +5,16 @@ use Rattle.std.specs.Str.{bytes_eq}
 use Rattle.std.proofs.lemmas.List.Elements.{Contains-append_left, Contains-append_right, Contains-append_cases}
 use mathlib.Core.List.{IsPrefix}
 use base.Growing.{prefix_refl, prefix_trans}
+use Rattle.ab_num.proofs.Lists.{Contains-head, Contains-tail, Contains-none, Contains-one, Contains-map_cases}
 use Rattle.ab_msg.specs.declared.value.Value.{Value}
 use Rattle.ab_msg.specs.Slots.{slot_digest}
 use Rattle.ab_abs.specs.Values.{goes}
-use Rattle.ab_abs.proofs.Counting.{Contains-head, Contains-tail}
-use Rattle.ab_abs.proofs.Statements.{none_of, one_of}
 use Rattle.ab_lock.specs.Steps.{accepts, signs, prepares, changes, enters, executes, State, after}
 use Rattle.ab_lock.specs.ViewChanges.{enter, leave}
 use Rattle.ab_lock.specs.Events.{Peer, state_by, settles_by, peer_by, accept, accepted_peer, entered_peer, left_peer, with_vote, with_commit}
-use Rattle.ab_lock.proofs.Lists.{Contains-map_cases}
-use Rattle.ab_order.specs.Inputs.{Input}
+use Rattle.ab_order.specs.Inputs.{Reading}
 use Rattle.ab_pbft_rules.specs.Traces.{OrderStep}
-use Rattle.ab_pbft_rules.specs.Rules.{Seat, Memory, Work, idle, Doing, takes_step, oldest_first, core_of, with_peer, does, work}
+use Rattle.ab_pbft_rules.specs.Rules.{Placement, Memory, Work, idle, Doing, takes_step, oldest_first, core_of, with_peer, does, work}
 use Rattle.ab_pbft_rules.proofs.RuleInduction.{IsSpoken, is_spoken, IsKept, work_kept}
 
 -- what is in a list is in it turned round
@@ -25,7 +23,7 @@ turned_in [] y has = has
 turned_in (x ∷ xs) y has =
     elim (Contains-append_cases (oldest_first xs) (x ∷ []) y has) [
       | inl rest ↦ Contains-tail x y xs (turned_in xs y rest)
-      | inr now ↦ subst (λ z. Contains (x ∷ xs) z) (one_of x y now) (Contains-head x xs)
+      | inr now ↦ subst (λ z. Contains (x ∷ xs) z) (Contains-one x y now) (Contains-head x xs)
     ]
 
 step_grows : (s : State Value) (step : OrderStep) → IsPrefix s.executed (after s step).executed
@@ -40,7 +38,7 @@ steps_grow : (steps : List OrderStep) (s : State Value) → IsPrefix s.executed 
 steps_grow [] s = prefix_refl s.executed
 steps_grow (step ∷ steps) s = prefix_trans s.executed (state_by steps s).executed (after (state_by steps s) step).executed (steps_grow steps s) (step_grows (state_by steps s) step)
 
-module _ (seat : Seat) (old : List Value) where
+module _ (seat : Placement) (old : List Value) where
   -- from what was executed it went on, and the steps that it did are its steps
   pub record IsGrown (w : Work) : Type 0 where
     pub grown : IsPrefix old (core_of w).executed
@@ -63,11 +61,11 @@ module _ (seat : Seat) (old : List Value) where
     grown = was.grown;
     stepped = λ step has. elim (Contains-append_cases w.doings (d ∷ []) (takes_step step) has) [
       | inl before ↦ was.stepped step before
-      | inr now ↦ absurd (subst (λ (z : Doing). IsSpoken z) (one_of d (takes_step step) now) spoken)
+      | inr now ↦ absurd (subst (λ (z : Doing). IsSpoken z) (Contains-one d (takes_step step) now) spoken)
     ];
   }
 
-  grows_by : (e : Input) (start : Work) → IsKept seat e start IsGrown
+  grows_by : (e : Reading) (start : Work) → IsKept seat e start IsGrown
   grows_by e start = record {
     settles = λ w was.
         let steps = settles_by slot_digest bytes_eq goes seat.f seat.me (suc (3 * suc seat.k)) w.at.peer in
@@ -85,7 +83,7 @@ module _ (seat : Seat) (old : List Value) where
   }
 
 -- an event of a replica
-pub event_grows : (seat : Seat) (memory : Memory) (e : Input) → IsGrown seat memory.peer.core.executed (work seat e (idle memory))
+pub event_grows : (seat : Placement) (memory : Memory) (e : Reading) → IsGrown seat memory.peer.core.executed (work seat e (idle memory))
 event_grows seat memory e =
     work_kept seat e (idle memory) (IsGrown seat memory.peer.core.executed) (grows_by seat memory.peer.core.executed e (idle memory))
-    (record { grown = prefix_refl memory.peer.core.executed; stepped = λ step has. absurd (none_of _ has) })
+    (record { grown = prefix_refl memory.peer.core.executed; stepped = λ step has. absurd (Contains-none _ has) })

@@ -5,6 +5,7 @@ use Rattle.std.specs.Str.{bytes_eq}
 use Rattle.std.proofs.lemmas.Option.{none-some, same_Some}
 use Rattle.std.proofs.lemmas.Slice.Eq.{bytes_eq-Decides}
 use Rattle.ab_num.specs.declared.party.Party.TheVariants.{Replica, Client}
+use Rattle.ab_num.proofs.Lists.{Contains-head, Contains-tail, Contains-cons_cases, Contains-flat_map, Contains-none}
 use Rattle.ab_hist.specs.declared.request.Request.{Request}
 use Rattle.ab_hist.specs.Histories.{IsHistory}
 use Rattle.ab_msg.specs.declared.content.Content.{Content}
@@ -17,10 +18,7 @@ use Rattle.ab_msg.specs.declared.value.Value.{Value}
 use Rattle.ab_msg.specs.Slots.{slot_digest}
 use Rattle.ab_abs.specs.Acts.{Setting, Act, MayStart, observations, state_of, start_of, WasMade, own_acts}
 use Rattle.ab_abs.specs.OrderRules.{WasClaimed}
-use Rattle.ab_abs.proofs.Counting.{Contains-head, Contains-tail}
-use Rattle.ab_abs.proofs.Lists.{Contains-cons_cases, Contains-flat_map}
 use Rattle.ab_abs.proofs.Facts.{state_own, init_first}
-use Rattle.ab_abs.proofs.Statements.{none_of}
 use Rattle.ab_lock.specs.Acts as lock
 use Rattle.ab_lock.specs.Acts.{Prepare, Commit, ViewChange, taken, made}
 use Rattle.ab_lock.specs.Events.{act_of}
@@ -28,11 +26,11 @@ use Rattle.ab_lock.proofs.KeptChanges.{rising_once}
 use Rattle.ab_lock.proofs.EventLaws.{settle_lawful, kept_more, none_kept}
 use Rattle.ab_order.specs.Orders.{OrderPremises, IsQuiet, is_ordering}
 use Rattle.ab_order.specs.Orderers.{begun_empty, IsTurn, IsLawfulOrderer}
-use Rattle.ab_order.specs.Inputs.{Input, request, pre_prepare_base, pre_prepare, prepare, commit, view_change, new_view, timeout, other, input_claims, asked_by, handed, IsGiven, Given}
+use Rattle.ab_order.specs.Inputs.{Reading, request, pre_prepare_base, pre_prepare, prepare, commit, view_change, new_view, timeout, other, input_claims, asked_by, handed, IsGiven, Given}
 use Rattle.ab_order.proofs.OwnActs.{own_cases, own_state, tail_within, claimed_within, init_within, ordered_within}
 use Rattle.ab_order.proofs.BackupLaws.{not_both}
 use Rattle.ab_pbft_rules.specs.Traces.{OrderAct, content_of, IsSource, IsTraced, Explained, IsPbftSound}
-use Rattle.ab_pbft_rules.specs.Rules.{Seat, Pbft, Work, core_of, base_of, idle, work, done_by, pbft}
+use Rattle.ab_pbft_rules.specs.Rules.{Placement, Pbft, Work, core_of, base_of, idle, work, done_by, pbft}
 use Rattle.ab_pbft_rules.specs.Standing.{IsMid, PbftStands}
 use Rattle.ab_pbft_rules.proofs.OneOrder.{one_order, vote_orders}
 use Rattle.ab_pbft_rules.proofs.ChangeInputs.{input_said, input_in}
@@ -40,7 +38,7 @@ use Rattle.ab_pbft_rules.proofs.EventSteps.{mid_more, IsTold, IsThere, event_the
 use Rattle.ab_pbft_rules.proofs.StandingLaws.{traced, vote_one, lawful_within, mid_within}
 use Rattle.ab_pbft_rules.proofs.OrderlyOrderer.{base_same, IsMade, by_step, by_offer, by_lead, made_cases, made_is}
 
-asked_claimed : (i : ℕ) (e : Input) (m : Request) → asked_by e ≡ Some m → Contains (input_claims i e) (content.Req (Client m.client) i m)
+asked_claimed : (i : ℕ) (e : Reading) (m : Request) → asked_by e ≡ Some m → Contains (input_claims i e) (content.Req (Client m.client) i m)
 asked_claimed i (request q) m is = let e : q ≡ m = same_Some q m is in subst (λ (z : Request). Contains (input_claims i (request q)) (content.Req (Client z.client) i z)) e (Contains-head _ [])
 asked_claimed i (pre_prepare_base by view x h) m is = absurd (none-some m is)
 asked_claimed i (pre_prepare by view slot x q) m is = absurd (none-some m is)
@@ -52,12 +50,12 @@ asked_claimed i timeout m is = absurd (none-some m is)
 asked_claimed i other m is = absurd (none-some m is)
 
 -- a vote is no PRE-PREPARE and no NEW-VIEW
-no_offer : (i r v n : ℕ) (d : List ℕ) (j : ℕ) (c : lock.Content (List ℕ)) → content.PrePrepare (Replica r) i v n d ≡ content_of j c → ⊥
+no_offer : (i r v n : ℕ) (d : List ℕ) (j : ℕ) (c : lock.LockContent (List ℕ)) → content.PrePrepare (Replica r) i v n d ≡ content_of j c → ⊥
 no_offer i r v n d j (Prepare q w m x) e = cc (e)
 no_offer i r v n d j (Commit q w m x) e = cc (e)
 no_offer i r v n d j (ViewChange q w l) e = cc (e)
 
-no_lead : (i r v j : ℕ) (c : lock.Content (List ℕ)) → content.NewView (Replica r) i v ≡ content_of j c → ⊥
+no_lead : (i r v j : ℕ) (c : lock.LockContent (List ℕ)) → content.NewView (Replica r) i v ≡ content_of j c → ⊥
 no_lead i r v j (Prepare q w m x) e = cc (e)
 no_lead i r v j (Commit q w m x) e = cc (e)
 no_lead i r v j (ViewChange q w l) e = cc (e)
@@ -86,17 +84,17 @@ more_clients acts a me party was b c s has client makes =
 nil_traced : (x : Setting) (k r : ℕ) → IsTraced x k r [] []
 nil_traced x k r = record {
   lawful = tt;
-  mine = λ a has. absurd (none_of a has);
-  claimed = λ a c has claims. absurd (none_of a has);
-  made = λ c was. absurd (none_of was.0 was.1);
-  shown = λ v vcs chosen c t cert has in_vcs there. absurd (none_of _ has);
+  mine = λ a has. absurd (Contains-none a has);
+  claimed = λ a c has claims. absurd (Contains-none a has);
+  made = λ c was. absurd (Contains-none was.0 was.1);
+  shown = λ v vcs chosen c t cert has in_vcs there. absurd (Contains-none _ has);
   none = λ none. refl;
   executes = λ s here. absurd (none-some s here);
 }
 
 -- an act that is no call leaves a trace
 module _ (x : Setting) (k r : ℕ) (own : List Act) (a : Act) (quiet : (s : Content) → Contains a.made s → is_ordering s ≡ false) (rests : state_of (a ∷ own) r ≡ state_of own r) where
-  said_before : (c : lock.Content (List ℕ)) → WasMade (a ∷ own) (content_of x.i c) → WasMade own (content_of x.i c)
+  said_before : (c : lock.LockContent (List ℕ)) → WasMade (a ∷ own) (content_of x.i c) → WasMade own (content_of x.i c)
   said_before c was =
       elim (Contains-cons_cases a own was.0 was.1) [
         | inl e ↦ absurd (not_both (is_ordering (content_of x.i c)) (vote_orders x.i c) (quiet (content_of x.i c) (subst (λ (b : Act). Contains b.made (content_of x.i c)) (sym e) was.2)))
@@ -131,7 +129,7 @@ module _ (x : Setting) (k : ℕ) where
   nil_sound one premises = record {
     later_than_none = one;
     explained = λ r. ([], nil_traced x k r);
-    clients = λ a c s has. absurd (none_of a has);
+    clients = λ a c s has. absurd (Contains-none a has);
     premises = premises;
   }
 
@@ -185,18 +183,18 @@ module _ (x : Setting) (k : ℕ) where
         trace = [];
         mid = record {
           lawful = tt;
-          mine = λ b has. absurd (none_of b has);
-          claimed = λ b c has claims. absurd (none_of b has);
-          shown = λ v vcs chosen c has in_vcs. absurd (none_of _ has);
+          mine = λ b has. absurd (Contains-none b has);
+          claimed = λ b c has claims. absurd (Contains-none b has);
+          shown = λ v vcs chosen c has in_vcs. absurd (Contains-none _ has);
           peer = record { core = refl; votes = none_kept slot_digest x.cluster.f me [] _; commits = none_kept slot_digest x.cluster.f me [] _ };
-          changes = record { once = rising_once {V = Value} [] tt; within = λ u has. absurd (none_of u has); known = λ u has. absurd (none_of u has); fits = λ u has. absurd (none_of u has) };
+          changes = record { once = rising_once {V = Value} [] tt; within = λ u has. absurd (Contains-none u has); known = λ u has. absurd (Contains-none u has); fits = λ u has. absurd (Contains-none u has) };
           rising = tt;
-          changes_shown = λ u has. absurd (none_of u has);
-          requests = λ m has. absurd (none_of m has);
-          made = λ c has. absurd (none_of c has);
+          changes_shown = λ u has. absurd (Contains-none u has);
+          requests = λ m has. absurd (Contains-none m has);
+          made = λ c has. absurd (Contains-none c has);
           said = λ c said.
               elim (Contains-cons_cases a own said.0 said.1) [
-                | inl same ↦ absurd (none_of (content_of x.i c) (subst (λ (z : Act). Contains z.made (content_of x.i c)) (sym same) said.2))
+                | inl same ↦ absurd (Contains-none (content_of x.i c) (subst (λ (z : Act). Contains z.made (content_of x.i c)) (sym same) said.2))
                 | inr older ↦ subst (λ (l : List OrderAct). lock.WasMade slot_digest l c) nothing (e.1.made c (said.0, older, said.2))
               ];
         };
@@ -212,17 +210,17 @@ module _ (x : Setting) (k : ℕ) where
         },
       )
 
-  module _ (acts : List Act) (me : ℕ) (p : Pbft) (e : Input) (a : Act) (given : IsGiven x.cluster.f e) (stands : PbftStands x k p me (own_acts me acts)) (turn : IsTurn handed pbft x (own_acts me acts) me p e a) where
+  module _ (acts : List Act) (me : ℕ) (p : Pbft) (e : Reading) (a : Act) (given : IsGiven x.cluster.f e) (stands : PbftStands x k p me (own_acts me acts)) (turn : IsTurn handed pbft x (own_acts me acts) me p e a) where
     abbrev own : List Act
     own = own_acts me acts
 
-    abbrev before : lock.Content (List ℕ) → Type 0
+    abbrev before : lock.LockContent (List ℕ) → Type 0
     before c = WasMade (own_acts me acts) (content_of x.i c)
 
-    abbrev now : lock.Content (List ℕ) → Type 0
+    abbrev now : lock.LockContent (List ℕ) → Type 0
     now c = WasMade (a ∷ own_acts me acts) (content_of x.i c)
 
-    abbrev seat : Seat
+    abbrev seat : Placement
     seat = record { k = k; f = x.cluster.f; i = x.i; me = me; base = stands.base }
 
     based : IsInitHistory (observations (a ∷ own)) x.i stands.base × IsHistory stands.base
@@ -232,7 +230,7 @@ module _ (x : Setting) (k : ℕ) where
     abbrev takes : OrderAct
     takes = act_of me (input_said e) []
 
-    claims_all : (c : lock.Content (List ℕ)) → Contains (input_said e) c → WasClaimed (a ∷ own) (content_of x.i c)
+    claims_all : (c : lock.LockContent (List ℕ)) → Contains (input_said e) c → WasClaimed (a ∷ own) (content_of x.i c)
     claims_all c has = (a, Contains-head a own, turn.claims (content_of x.i c) (input_in x.i e c has))
 
     taking : IsMid x k me (a ∷ own) before (takes ∷ stands.trace) p.memory []
@@ -241,10 +239,10 @@ module _ (x : Setting) (k : ℕ) where
         let q = p.memory.peer in
         let l = settle_lawful slot_digest goes k x.cluster.f (IsSource x (a ∷ own)) me stands.within bytes_eq bytes_eq-Decides 0 stands.trace (input_said e) q mid.lawful mid.peer.core
         (kept_more slot_digest x.cluster.f me takes stands.trace _ q.votes mid.peer.votes) (kept_more slot_digest x.cluster.f me takes stands.trace _ q.commits mid.peer.commits) in
-        mid_more x k me (a ∷ own) before stands.trace p.memory [] (input_said e) [] q mid claims_all (λ v vcs chosen c has in_vcs. absurd (none_of _ has)) l.0 l.1
+        mid_more x k me (a ∷ own) before stands.trace p.memory [] (input_said e) [] q mid claims_all (λ v vcs chosen c has in_vcs. absurd (Contains-none _ has)) l.0 l.1
 
     work_is : work seat e (idle p.memory) ≡ done_by p e
-    work_is = ap (λ (s : Seat). work s e (idle p.memory)) (sym stands.seated)
+    work_is = ap (λ (s : Placement). work s e (idle p.memory)) (sym stands.seated)
 
     told : IsTold x k me (a ∷ own) before stands.within stands.base based e (idle p.memory)
     told = record {
@@ -255,7 +253,7 @@ module _ (x : Setting) (k : ℕ) where
         a,
         Contains-head a own,
         turn.claims (content.Req (Client m.client) x.i m)
-            (subst (λ (z : Input). Contains (input_claims x.i z) (content.Req (Client m.client) x.i m)) (sym is) (Contains-tail _ _ (content.Req (Client m.client) x.i m ∷ []) (Contains-head _ []))),
+            (subst (λ (z : Reading). Contains (input_claims x.i z) (content.Req (Client m.client) x.i m)) (sym is) (Contains-tail _ _ (content.Req (Client m.client) x.i m ∷ []) (Contains-head _ []))),
       );
       noted = λ h offered none then_is. turn.noted h offered none (ap (λ z. base_of (core_of z).accepted) (sym work_is) ∙ then_is);
     }
@@ -267,18 +265,18 @@ module _ (x : Setting) (k : ℕ) where
         (record { trace = takes ∷ stands.trace; mid = taking; knows = λ c has. taken takes (Contains-head takes stands.trace) refl has }))
 
     -- what the acts say the steps say
-    said_by : (c : lock.Content (List ℕ)) → IsMade p.seat.i p.seat.me (done_by p e).steps (content_of x.i c) → lock.WasMade slot_digest reach.trace c
+    said_by : (c : lock.LockContent (List ℕ)) → IsMade p.seat.i p.seat.me (done_by p e).steps (content_of x.i c) → lock.WasMade slot_digest reach.trace c
     said_by c (by_step vote step is in_steps makes) =
-        let in_i : p.seat.i ≡ x.i = ap (λ (s : Seat). s.i) stands.seated in
-        let by_me : p.seat.me ≡ me = ap (λ (s : Seat). s.me) stands.seated in
+        let in_i : p.seat.i ≡ x.i = ap (λ (s : Placement). s.i) stands.seated in
+        let by_me : p.seat.me ≡ me = ap (λ (s : Placement). s.me) stands.seated in
         let one : vote ≡ c = vote_one x.i vote c (ap (λ i. content_of i vote) (sym in_i) ∙ is) in
         reach.mid.made c
         (Contains-flat_map (made slot_digest me) (done_by p e).steps step c in_steps
-        (subst (λ (z : lock.Content (List ℕ)). Contains (made slot_digest me step) z) one (subst (λ (q : ℕ). Contains (made slot_digest q step) vote) by_me makes)))
+        (subst (λ (z : lock.LockContent (List ℕ)). Contains (made slot_digest me step) z) one (subst (λ (q : ℕ). Contains (made slot_digest q step) vote) by_me makes)))
     said_by c (by_offer v n d is) = absurd (no_offer p.seat.i p.seat.me v n d x.i c is)
     said_by c (by_lead v is) = absurd (no_lead p.seat.i p.seat.me v x.i c is)
 
-    said_now : (c : lock.Content (List ℕ)) → now c → lock.WasMade slot_digest reach.trace c
+    said_now : (c : lock.LockContent (List ℕ)) → now c → lock.WasMade slot_digest reach.trace c
     said_now c was =
         elim (Contains-cons_cases a own was.0 was.1) [
           | inr older ↦ reach.mid.said c (was.0, older, was.2)
@@ -305,7 +303,7 @@ module _ (x : Setting) (k : ℕ) where
         rising = reach.mid.rising;
         changes_shown = reach.mid.changes_shown;
         requests = reach.mid.requests;
-        made = λ c has. absurd (none_of c has);
+        made = λ c has. absurd (Contains-none c has);
         said = said_now;
       };
       begun = λ none. none-some turn.at (sym none ∙ here);
@@ -322,10 +320,10 @@ module _ (x : Setting) (k : ℕ) where
       premises = premises;
     }
 
-  pub states : (p : Pbft) (r : ℕ) (own : List Act) (e : Input) (s : Content) → PbftStands x k p r own → Contains (pbft.makes p e) s → (maker_of s ≡ Replica r) × (instance_of s ≡ x.i)
+  pub states : (p : Pbft) (r : ℕ) (own : List Act) (e : Reading) (s : Content) → PbftStands x k p r own → Contains (pbft.makes p e) s → (maker_of s ≡ Replica r) × (instance_of s ≡ x.i)
   states p r mine e s stands has =
-      let in_i : p.seat.i ≡ x.i = ap (λ (z : Seat). z.i) stands.seated in
-      let by_me : p.seat.me ≡ r = ap (λ (z : Seat). z.me) stands.seated in
+      let in_i : p.seat.i ≡ x.i = ap (λ (z : Placement). z.i) stands.seated in
+      let by_me : p.seat.me ≡ r = ap (λ (z : Placement). z.me) stands.seated in
       let is = made_is p.seat.i p.seat.me (done_by p e).steps s (made_cases p e s has) in
       (is.0 ∙ ap Replica by_me, is.1 ∙ in_i)
 

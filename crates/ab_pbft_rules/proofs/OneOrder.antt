@@ -19,9 +19,6 @@ use Rattle.ab_msg.specs.Slots.{slot_digest}
 use Rattle.ab_abs.specs.Acts.{Setting, State, Act, observations, state_of, log_at, log_of, base_at, base_of, WasMade, IsHonest, own_acts}
 use Rattle.ab_abs.specs.Backing.{IsCorrect}
 use Rattle.ab_abs.specs.OrderRules.{WasClaimed}
-use Rattle.ab_abs.proofs.Counting.{Contains-tail}
-use Rattle.ab_abs.proofs.Lists.{Contains-cons_cases}
-use Rattle.ab_abs.proofs.Statements.{none_of}
 use Rattle.ab_lock.specs.Steps.{Change, Cert, accepts, enters, state_of as core_of, Follows}
 use Rattle.ab_lock.specs.Quorums.{RestsOn, NoCollision, Occurs, in_accepted, in_prepared, in_change, in_executed, Premises}
 use Rattle.ab_lock.specs.Quorums as quorums
@@ -35,6 +32,7 @@ use Rattle.ab_order.specs.Orders.{MayBeOrdered, IsOneOrder, is_ordering}
 use Rattle.ab_order.proofs.BackupLaws.{not_both}
 use Rattle.ab_lock.proofs.Settling.{executed_within}
 use Rattle.std.specs.Str.{bytes_eq}
+use Rattle.ab_num.proofs.Lists.{Contains-tail, Contains-cons_cases, Contains-none}
 use Rattle.ab_pbft_rules.proofs.GoodValues.{good_prepared, good_executed}
 use Rattle.ab_pbft_rules.proofs.ExecutedLists.{same_base, base_begins, list_some, is_empty, list_length, behind_claimed, base_init, list_rises}
 use Rattle.ab_order.proofs.OwnActs.{own_state, in_own, own_within, claimed_within, init_within, ordered_within, IsWithin}
@@ -53,19 +51,19 @@ source_ordered x own zero (Order m) is = absurd is
 source_ordered x own (suc n) (Base h) is = absurd is
 source_ordered x own (suc n) (Order m) is = inl is
 
-maker_is : (i : ℕ) (c : lock.Content (List ℕ)) → maker_of (content_of i c) ≡ Replica (lock.maker_of c)
+maker_is : (i : ℕ) (c : lock.LockContent (List ℕ)) → maker_of (content_of i c) ≡ Replica (lock.maker_of c)
 maker_is i (Prepare r v n d) = refl
 maker_is i (Commit r v n d) = refl
 maker_is i (ViewChange r w entries) = refl
 
-pub vote_orders : (i : ℕ) (c : lock.Content (List ℕ)) → is_ordering (content_of i c) ≡ true
+pub vote_orders : (i : ℕ) (c : lock.LockContent (List ℕ)) → is_ordering (content_of i c) ≡ true
 vote_orders i (Prepare r v n d) = refl
 vote_orders i (Commit r v n d) = refl
 vote_orders i (ViewChange r w entries) = refl
 
 -- a claim of a correct party was made
 claim_made : (x : Setting) (acts : List Act) → IsHonest x acts → (s : Content) → WasClaimed acts s → is_faulty x.faulty (maker_of s) ≡ false → WasMade acts s
-claim_made x [] honest s w correct = absurd (none_of w.0 w.1)
+claim_made x [] honest s w correct = absurd (Contains-none w.0 w.1)
 claim_made x (b ∷ acts) honest s w correct =
     elim (Contains-cons_cases b acts w.0 w.1) [
       | inl e ↦ let m = honest.0 s (subst (λ (c : Act). Contains c.claims s) (sym e) w.2) correct in (m.0, Contains-tail b m.0 acts m.1, m.2)
@@ -83,14 +81,14 @@ module _ (x : Setting) (k : ℕ) (acts : List Act) (sound : IsPbftSound x k acts
   is r = (sound.explained r).1
 
   -- what was made by some replica's steps was made by its maker's
-  abbrev pub Made : lock.Content (List ℕ) → Type 0
+  abbrev pub Made : lock.LockContent (List ℕ) → Type 0
   Made c = (q : ℕ) × lock.WasMade slot_digest (trace q) c
 
-  pub by_replica : (a : Act) (p : Party) (c : lock.Content (List ℕ)) → a.party ≡ p → Contains acts a → Contains a.made (content_of x.i c) → Made c
+  pub by_replica : (a : Act) (p : Party) (c : lock.LockContent (List ℕ)) → a.party ≡ p → Contains acts a → Contains a.made (content_of x.i c) → Made c
   by_replica a (Replica q) c party has makes = (q, (is q).made c (a, in_own acts q a has party, makes))
   by_replica a (Client q) c party has makes = absurd (not_both (is_ordering (content_of x.i c)) (vote_orders x.i c) (sound.clients a q (content_of x.i c) has party makes))
 
-  known_made : (r : ℕ) (c : lock.Content (List ℕ)) → is_faulty x.faulty (Replica (lock.maker_of c)) ≡ false → Knows slot_digest (trace r) r c → Made c
+  known_made : (r : ℕ) (c : lock.LockContent (List ℕ)) → is_faulty x.faulty (Replica (lock.maker_of c)) ≡ false → Knows slot_digest (trace r) r c → Made c
   known_made r c good (taken a has mine claims) =
       let w = claimed_within (own_acts r acts) acts (content_of x.i c) (own_within acts r) ((is r).claimed a c has claims) in
       let m = claim_made x acts sound.premises.plain.honest (content_of x.i c) w (ap (λ p. is_faulty x.faulty p) (maker_is x.i c) ∙ good) in
@@ -98,7 +96,7 @@ module _ (x : Setting) (k : ℕ) (acts : List Act) (sound : IsPbftSound x k acts
   known_made r c good (its_own was) = (r, was)
 
   -- and stands in its trace
-  pub stepped : (c : lock.Content (List ℕ)) → Made c → (step : OrderStep) × Contains (traces (lock.maker_of c)) step × Contains (made slot_digest (lock.maker_of c) step) c
+  pub stepped : (c : lock.LockContent (List ℕ)) → Made c → (step : OrderStep) × Contains (traces (lock.maker_of c)) step × Contains (made slot_digest (lock.maker_of c) step) c
   stepped c made_it =
       let was = made_it.1 in
       let mine : was.act.by ≡ made_it.0 = (is made_it.0).mine was.act was.is_in in

@@ -2,10 +2,11 @@
 use Rattle.std.proofs.Common.{◌≡◌, ℕ, suc, ◌≤◌, true, Some, None, List, [], ◌∷◌, ◌++◌, ◌⊎◌, refl, sym, ap, ◌∙◌, subst, inl, inr}
 use Rattle.std.specs.Prelude.{Contains, unwrap_or, length, ◌+◌}
 use Rattle.std.specs.Str.{bytes_eq}
-use Rattle.std.proofs.lemmas.Bool.{cases_Bool}
+use Rattle.std.proofs.lemmas.Bool.{cases_Bool, and_parts}
 use Rattle.std.proofs.lemmas.Option.{none-some, same_Some}
 use mathlib.Core.List.{IsPrefix}
 use Rattle.ab_num.specs.declared.party.Party.TheVariants.{Replica}
+use Rattle.ab_num.proofs.Lists.{flat_map_cases, Contains-one, Contains-map_cases}
 use Rattle.ab_hist.specs.declared.request.Request.{Request}
 use Rattle.ab_msg.specs.declared.content.Content.{Content}
 use Rattle.ab_msg.specs.declared.content.Content.TheVariants as content
@@ -14,19 +15,16 @@ use Rattle.ab_abs.specs.Values.{orders, list_of, base_in}
 use Rattle.ab_msg.specs.declared.value.Value.{Value}
 use Rattle.ab_msg.specs.declared.value.Value.TheVariants.{Base, Request as Order}
 use Rattle.ab_msg.specs.Slots.{slot_digest}
-use Rattle.ab_abs.proofs.Lists.{flat_map_cases}
-use Rattle.ab_abs.proofs.Statements.{one_of}
 use Rattle.ab_lock.specs.Acts as lock
 use Rattle.ab_lock.specs.Acts.{Prepare, Commit, ViewChange, made}
-use Rattle.ab_lock.proofs.Lists.{Contains-map_cases}
 use Rattle.ab_pbft_rules.proofs.SlotValues.{log_prefix}
 use Rattle.ab_order.specs.Orders.{is_ordering}
 use Rattle.ab_order.specs.Orderers.{IsOrderly}
-use Rattle.ab_order.specs.Inputs.{Input, request, pre_prepare_base, pre_prepare, prepare, commit, view_change, new_view, timeout, other, offered_by, handed}
+use Rattle.ab_order.specs.Inputs.{Reading, request, pre_prepare_base, pre_prepare, prepare, commit, view_change, new_view, timeout, other, offered_by, handed}
 use Rattle.ab_pbft_rules.specs.Traces.{OrderStep, content_of}
 use Rattle.ab_pbft_rules.specs.Rules.{Pbft, core_of, base_of, may_take, take_value, settle, Doing, sayings, pbft, offers, idle, takes_step, leads, done_by, is_empty, may_take_base}
 use Rattle.ab_pbft_rules.proofs.OneOrder.{vote_orders}
-use Rattle.ab_pbft_rules.proofs.RuleInduction.{settle_accepted, and_both, empty_is}
+use Rattle.ab_pbft_rules.proofs.RuleInduction.{settle_accepted, empty_is}
 use Rattle.ab_pbft_rules.proofs.Growing.{event_grows}
 use Rattle.ab_pbft_rules.proofs.Allowed.{reached_within}
 use Rattle.ab_pbft_rules.proofs.ExecutedLists.{list_length}
@@ -58,18 +56,18 @@ list_within k h b le is =
     let same : base_in h ≡ b = sym (base_same h) ∙ ap (λ o. unwrap_or o []) is in
     subst (λ (l : List Request). length (list_of h) ≤ length l + k) same (list_length k h le)
 
-vote_is : (i : ℕ) (c : lock.Content (List ℕ)) → (maker_of (content_of i c) ≡ Replica (lock.maker_of c)) × (instance_of (content_of i c) ≡ i)
+vote_is : (i : ℕ) (c : lock.LockContent (List ℕ)) → (maker_of (content_of i c) ≡ Replica (lock.maker_of c)) × (instance_of (content_of i c) ≡ i)
 vote_is i (Prepare r v n d) = (refl, refl)
 vote_is i (Commit r v n d) = (refl, refl)
 vote_is i (ViewChange r v l) = (refl, refl)
 
 -- why a statement is made: a step of the event says it, or it is a primary's
 pub data IsMade (i r : ℕ) (steps : List OrderStep) (s : Content) : Type 0 where
-  by_step : (c : lock.Content (List ℕ)) (step : OrderStep) → content_of i c ≡ s → Contains steps step → Contains (made slot_digest r step) c → IsMade i r steps s
+  by_step : (c : lock.LockContent (List ℕ)) (step : OrderStep) → content_of i c ≡ s → Contains steps step → Contains (made slot_digest r step) c → IsMade i r steps s
   by_offer : (v n : ℕ) (d : List ℕ) → content.PrePrepare (Replica r) i v n d ≡ s → IsMade i r steps s
   by_lead : (v : ℕ) → content.NewView (Replica r) i v ≡ s → IsMade i r steps s
 
-pub made_cases : (p : Pbft) (e : Input) (s : Content) → Contains (pbft.makes p e) s → IsMade p.seat.i p.seat.me (done_by p e).steps s
+pub made_cases : (p : Pbft) (e : Reading) (s : Content) → Contains (pbft.makes p e) s → IsMade p.seat.i p.seat.me (done_by p e).steps s
 made_cases p e s has =
     let d = flat_map_cases (sayings p.seat.i p.seat.me) (done_by p e).doings s has in
     of_doing d.0 d.1 d.2
@@ -78,8 +76,8 @@ made_cases p e s has =
     of_doing (takes_step step) is says =
         let c = Contains-map_cases (content_of p.seat.i) (made slot_digest p.seat.me step) s says in
         by_step c.0 step c.2 ((event_grows p.seat p.memory e).stepped step is) c.1
-    of_doing (offers v n value) is says = by_offer v n (slot_digest value) (one_of _ s says)
-    of_doing (leads v) is says = by_lead v (one_of _ s says)
+    of_doing (offers v n value) is says = by_offer v n (slot_digest value) (Contains-one _ s says)
+    of_doing (leads v) is says = by_lead v (Contains-one _ s says)
 
 -- each is its replica's, of its instance, and of an order
 pub made_is : (i r : ℕ) (steps : List OrderStep) (s : Content) → IsMade i r steps s → (maker_of s ≡ Replica r) × (instance_of s ≡ i) × (is_ordering s ≡ true)
@@ -90,14 +88,14 @@ made_is i r steps s (by_offer v n d is) = (ap maker_of (sym is), ap instance_of 
 made_is i r steps s (by_lead v is) = (ap maker_of (sym is), ap instance_of (sym is), ap is_ordering (sym is))
 
 -- slot 0 stays, or has the history that is offered
-opens_with : (p : Pbft) (e : Input) (h : List Request) → offered_by e ≡ Some h → (pbft.first (pbft.after p e) ≡ pbft.first p) ⊎ (pbft.first (pbft.after p e) ≡ Some h)
+opens_with : (p : Pbft) (e : Reading) (h : List Request) → offered_by e ≡ Some h → (pbft.first (pbft.after p e) ≡ pbft.first p) ⊎ (pbft.first (pbft.after p e) ≡ Some h)
 opens_with p (request m) h is = absurd (none-some h is)
 opens_with p (pre_prepare_base by view x l) h is =
     elim (cases_Bool (may_take_base p.seat (idle p.memory) by view x l)) [
       | inr not_now ↦ inl (rw not_now refl)
       | inl now ↦
-          let rest = (and_both (may_take p.seat (idle p.memory) by view) _ now).1 in
-          let none = empty_is p.memory.peer.core.accepted (and_both (is_empty p.memory.peer.core.accepted) (bytes_eq x (slot_digest (Base l))) rest).0 in
+          let rest = (and_parts (may_take p.seat (idle p.memory) by view) _ now).1 in
+          let none = empty_is p.memory.peer.core.accepted (and_parts (is_empty p.memory.peer.core.accepted) (bytes_eq x (slot_digest (Base l))) rest).0 in
           let then_is : (core_of (settle p.seat (take_value (Base l) (idle p.memory)))).accepted ≡ Base l ∷ [] = settle_accepted p.seat (take_value (Base l) (idle p.memory)) ∙ ap (λ z. z ++ (Base l ∷ [])) none in
           inr (rw now (ap base_of then_is ∙ is))
     ]
@@ -109,7 +107,7 @@ opens_with p (new_view by view changes) h is = absurd (none-some h is)
 opens_with p timeout h is = absurd (none-some h is)
 opens_with p other h is = absurd (none-some h is)
 
-grows : (p : Pbft) (e : Input) → IsPrefix p.memory.peer.core.executed (pbft.after p e).memory.peer.core.executed
+grows : (p : Pbft) (e : Reading) → IsPrefix p.memory.peer.core.executed (pbft.after p e).memory.peer.core.executed
 grows p e = (event_grows p.seat p.memory e).grown
 
 pub pbft_orderly : IsOrderly handed pbft

@@ -1,52 +1,23 @@
 -- What each rule of PBFT keeps, an event keeps: the one place that goes through all rules.
-use Rattle.std.proofs.Common.{◌≡◌, ℕ, zero, suc, ◌+◌, ◌*◌, ◌<◌, ◌≤◌, ◌==◌, Bool, true, false, not, Some, None, Option, List, [], ◌∷◌, ◌++◌, ◌⊎◌, length, map, refl, ap, ◌∙◌, subst, inl, inr, arith}
+use Rattle.std.proofs.Common.{◌≡◌, ℕ, zero, suc, ◌+◌, ◌*◌, ◌<◌, ◌≤◌, ◌==◌, true, false, not, Some, None, Option, List, [], ◌∷◌, ◌++◌, ◌⊎◌, length, map, refl, ap, ◌∙◌, subst, inl, inr, arith}
 use Rattle.std.specs.Prelude.{Contains, ◌&&◌, ◌||◌, nat_lt, nat_le, if◌then◌else◌, count_by}
 use Rattle.std.specs.Str.{bytes_eq}
-use Rattle.std.proofs.lemmas.Bool.{cases_Bool}
-use Rattle.std.proofs.lemmas.Bool.Decides.{nat_tests, Decides-eqb}
+use Rattle.std.proofs.lemmas.Bool.{cases_Bool, and_parts, or_cases, or_parts, not-true, leb-true, leb-false, ltb-true, eqb-true}
 use Rattle.std.proofs.lemmas.Option.{none-some, same_Some}
+use Rattle.ab_num.proofs.Lists.{Contains-head, Contains-tail}
 use Rattle.ab_hist.specs.declared.request.Request.{Request}
 use Rattle.ab_msg.specs.declared.value.Value.{Value}
 use Rattle.ab_msg.specs.declared.value.Value.TheVariants.{Base, Request as Order}
 use Rattle.ab_msg.specs.Slots.{slot_digest}
 use Rattle.ab_abs.specs.Values.{goes}
-use Rattle.ab_abs.proofs.Counting.{Contains-head, Contains-tail}
 use Rattle.ab_lock.specs.Quorums.{quorum}
 use Rattle.ab_lock.specs.Steps.{Change, accepts, signs, prepares, changes, enters, executes, State, after}
 use Rattle.ab_lock.specs.ViewChanges.{Kept, of_view, lowest, enter}
 use Rattle.ab_lock.specs.Events.{state_by, settles_by, entered_peer, with_vote, with_commit}
 use Rattle.ab_lock.proofs.VoteLemmas.{IsInView, settled_in_view}
-use Rattle.ab_order.specs.Inputs.{Input, request, pre_prepare_base, pre_prepare, prepare, commit, view_change, new_view, timeout, other, ChangeInput}
+use Rattle.ab_order.specs.Inputs.{Reading, request, pre_prepare_base, pre_prepare, prepare, commit, view_change, new_view, timeout, other, ChangeReading}
 use Rattle.ab_pbft_rules.specs.Traces.{OrderStep}
-use Rattle.ab_pbft_rules.specs.Rules.{offers, Seat, Doing, takes_step, leads, Work, core_of, with_peer, does, is_empty, first_fit, change_of, fits, may_enter, smaller, least_above, keep_request, keep_change, is_done, settle, take_value, offer, offer_base, offer_next, offer_requests, is_primary_of, may_propose, propose, may_lead, lead, leave_to, follow_to, follow, may_take, has_room, base_value, is_current, next_view, may_take_base, may_take_request, may_follow, work}
-
-pub and_both : (a b : Bool) → a && b ≡ true → (a ≡ true) × (b ≡ true)
-and_both true b is = (refl, is)
-and_both false b is = absurd (cc (is))
-
-or_either : (a b : Bool) → a || b ≡ true → (a ≡ true) ⊎ (b ≡ true)
-or_either true b is = inl refl
-or_either false b is = inr is
-
-or_neither : (a b : Bool) → a || b ≡ false → (a ≡ false) × (b ≡ false)
-or_neither true b is = absurd (cc (is))
-or_neither false b is = (refl, is)
-
-pub not_true : (b : Bool) → not b ≡ true → b ≡ false
-not_true true is = absurd (cc (is))
-not_true false is = refl
-
-le_of : (a b : ℕ) → nat_le a b ≡ true → a ≤ b
-le_of a b h = grind (arith, nat_tests)
-
-not_le_of : (a b : ℕ) → nat_le a b ≡ false → b < a
-not_le_of a b h = grind (arith, nat_tests)
-
-pub lt_of : (a b : ℕ) → nat_lt a b ≡ true → a < b
-lt_of a b h = grind (arith, nat_tests)
-
-pub eq_of : (a b : ℕ) → (a == b) ≡ true → a ≡ b
-eq_of a b is = (Decides-eqb a b).0 is
+use Rattle.ab_pbft_rules.specs.Rules.{offers, Placement, Doing, takes_step, leads, Work, core_of, with_peer, does, is_empty, first_fit, change_of, fits, may_enter, smaller, least_above, keep_request, keep_change, is_done, settle, take_value, offer, offer_base, offer_next, offer_requests, is_primary_of, may_propose, propose, may_lead, lead, leave_to, follow_to, follow, may_take, has_room, base_value, is_current, next_view, may_take_base, may_take_request, may_follow, work}
 
 pub empty_is : {A : Type 0} (xs : List A) → is_empty xs ≡ true → xs ≡ []
 empty_is [] is = refl
@@ -75,7 +46,7 @@ least_is_above [] v y is = absurd (none-some y is)
 least_is_above (u ∷ kept) v y is =
     elim (cases_Bool (nat_lt v u.view)) [
       | inr low ↦ least_is_above kept v y (rw low at is)
-      | inl high ↦ smaller_above v u.view y (least_above v kept) (lt_of v u.view high) (λ z e. least_is_above kept v z e) (rw high at is)
+      | inl high ↦ smaller_above v u.view y (least_above v kept) (ltb-true v u.view high) (λ z e. least_is_above kept v z e) (rw high at is)
     ]
 
 smaller_of : (u y : ℕ) (o : Option ℕ) → smaller u o ≡ Some y → (u ≡ y) ⊎ (o ≡ Some y)
@@ -117,7 +88,7 @@ in_view_accepted (step ∷ steps) s each = of_step step (each step (Contains-hea
     of_step (enters w vcs chosen) here = absurd here
     of_step (executes v n value) here = refl
 
-pub settle_accepted : (seat : Seat) (w : Work) → (core_of (settle seat w)).accepted ≡ (core_of w).accepted
+pub settle_accepted : (seat : Placement) (w : Work) → (core_of (settle seat w)).accepted ≡ (core_of w).accepted
 settle_accepted seat w =
     let p = w.at.peer in
     in_view_accepted (settles_by slot_digest bytes_eq goes seat.f seat.me (suc (3 * suc seat.k)) w.at.peer) (core_of w)
@@ -126,7 +97,7 @@ settle_accepted seat w =
 abbrev pub MayEnter : State Value → ℕ → Type 0
 MayEnter s v = (s.view < v) ⊎ ((s.view ≡ v) × (s.changing ≡ true))
 
-module _ (seat : Seat) (e : Input) (start : Work) where
+module _ (seat : Placement) (e : Reading) (start : Work) where
   -- why a value is accepted: it is the replica's own base, a request that waits, or what a PRE-PREPARE brings
   pub data WhyTaken (w : Work) (value : Value) : Type 0 where
     own_base : (core_of w).accepted ≡ [] → value ≡ Base seat.base → WhyTaken w value
@@ -138,7 +109,7 @@ module _ (seat : Seat) (e : Input) (start : Work) where
   -- why a view is entered: from the VIEW-CHANGEs that are kept, or those of a NEW-VIEW
   pub data WhyEntered (w : Work) (v : ℕ) (vcs : List (Change Value)) : Type 0 where
     from_kept : vcs ≡ lowest seat.f w.at.changes v → quorum seat.f ≤ length (of_view w.at.changes v) → WhyEntered w v vcs
-    from_new_view : (by : ℕ) (inputs : List ChangeInput) → e ≡ new_view by v inputs → may_enter seat.f v inputs ≡ true → vcs ≡ map change_of inputs → WhyEntered w v vcs
+    from_new_view : (by : ℕ) (inputs : List ChangeReading) → e ≡ new_view by v inputs → may_enter seat.f v inputs ≡ true → vcs ≡ map change_of inputs → WhyEntered w v vcs
 
   -- why the primary offers a value, which it then takes, or leads a view
   pub data WhySaid (w : Work) : Doing → Type 0 where
@@ -162,7 +133,7 @@ module _ (seat : Seat) (e : Input) (start : Work) where
     pub enters : (w : Work) (v : ℕ) (vcs : List (Change Value)) → P w → MayEnter (core_of w) v → WhyEntered w v vcs → P (with_peer w (entered_peer goes seat.k v vcs w.at.peer) (enter goes seat.k v vcs ∷ []))
     pub leaves : (w : Work) (v : ℕ) → P w → (core_of w).view < v → WhyLeft w v → P (leave_to seat v w)
     pub keeps_request : (m : Request) → e ≡ request m → P start → P (keep_request m start)
-    pub keeps_change : (change : ChangeInput) → e ≡ view_change change → fits seat.f change ≡ true → P start → P (keep_change change start)
+    pub keeps_change : (change : ChangeReading) → e ≡ view_change change → fits seat.f change ≡ true → P start → P (keep_change change start)
     pub keeps_vote : (by slot : ℕ) (x : List ℕ) → e ≡ prepare by (core_of start).view slot x → P start → P (with_peer start (with_vote (record { by = by; slot = slot; x = x }) start.at.peer) [])
     pub keeps_commit : (by slot : ℕ) (x : List ℕ) → e ≡ commit by (core_of start).view slot x → P start → P (with_peer start (with_commit (record { by = by; slot = slot; x = x }) start.at.peer) [])
 
@@ -184,14 +155,14 @@ module _ (seat : Seat) (e : Input) (start : Work) where
         of_fit None is room rest = was
         of_fit (Some m) is room rest =
             let fits = first_fit_is (core_of w).accepted w.at.requests m is in
-            rest (offer seat (Order m) w) (offer_kept w (Order m) was still (le_of (length (core_of w).accepted) seat.k room) fits.1 (waiting m fits.0 refl) (λ d. waiting m fits.0 refl)) still
+            rest (offer seat (Order m) w) (offer_kept w (Order m) was still (leb-true (length (core_of w).accepted) seat.k room) fits.1 (waiting m fits.0 refl) (λ d. waiting m fits.0 refl)) still
 
     offers_base : (w : Work) → P w → (core_of w).changing ≡ false → P (offer_base seat w) × ((core_of (offer_base seat w)).changing ≡ false)
     offers_base w was still =
         elim (cases_Bool (is_empty (core_of w).accepted && not (is_empty w.at.requests))) [
           | inr full ↦ rw full (was, still)
           | inl opens ↦
-              let none = empty_is (core_of w).accepted (and_both (is_empty (core_of w).accepted) (not (is_empty w.at.requests)) opens).0 in
+              let none = empty_is (core_of w).accepted (and_parts (is_empty (core_of w).accepted) (not (is_empty w.at.requests)) opens).0 in
               rw opens (offer_kept w (base_value seat) was still (omega (arith, ap length none)) (ap (λ l. goes l (base_value seat)) none) (own_base none refl) (λ d. own_base none refl), still)
         ]
 
@@ -200,8 +171,8 @@ module _ (seat : Seat) (e : Input) (start : Work) where
         elim (cases_Bool (may_propose seat w)) [
           | inr waits ↦ rw waits was
           | inl may ↦
-              let rest = and_both (is_primary_of seat (core_of w).view seat.me) (not (core_of w).changing && not (is_done seat w)) may in
-              let still = not_true (core_of w).changing (and_both (not (core_of w).changing) (not (is_done seat w)) rest.1).0 in
+              let rest = and_parts (is_primary_of seat (core_of w).view seat.me) (not (core_of w).changing && not (is_done seat w)) may in
+              let still = not-true (core_of w).changing (and_parts (not (core_of w).changing) (not (is_done seat w)) rest.1).0 in
               let opened = offers_base w was still in
               rw may (offers_requests (suc seat.k) (offer_base seat w) opened.0 opened.1)
         ]
@@ -213,9 +184,9 @@ module _ (seat : Seat) (e : Input) (start : Work) where
         → P (with_peer (does (leads (core_of w).view) w) (entered_peer goes seat.k (core_of w).view (lowest seat.f w.at.changes (core_of w).view) w.at.peer) (enter goes seat.k (core_of w).view (lowest seat.f w.at.changes (core_of w).view) ∷ []))
     may_lead_kept w may was =
         let v = (core_of w).view in
-        let rest = and_both (is_primary_of seat v seat.me) ((core_of w).changing && nat_le (quorum seat.f) (length (of_view w.at.changes v))) may in
-        let both = and_both (core_of w).changing (nat_le (quorum seat.f) (length (of_view w.at.changes v))) rest.1 in
-        let many = le_of (quorum seat.f) (length (of_view w.at.changes v)) both.1 in
+        let rest = and_parts (is_primary_of seat v seat.me) ((core_of w).changing && nat_le (quorum seat.f) (length (of_view w.at.changes v))) may in
+        let both = and_parts (core_of w).changing (nat_le (quorum seat.f) (length (of_view w.at.changes v))) rest.1 in
+        let many = leb-true (quorum seat.f) (length (of_view w.at.changes v)) both.1 in
         kept.enters (does (leads (core_of w).view) w) v (lowest seat.f w.at.changes v) (kept.speaks w (leads v) was (led many)) (inr (refl, both.0)) (from_kept refl many)
 
     pub leads_on : (w : Work) → P w → P (lead seat w)
@@ -235,14 +206,14 @@ module _ (seat : Seat) (e : Input) (start : Work) where
     -- a PRE-PREPARE is taken where the replica isn't changing
     still_of : (by view : ℕ) → may_take seat start by view ≡ true → (core_of start).changing ≡ false
     still_of by view may =
-        let a = and_both (is_primary_of seat view by) ((view == (core_of start).view) && (not (core_of start).changing && not (is_done seat start))) may in
-        let b = and_both (view == (core_of start).view) (not (core_of start).changing && not (is_done seat start)) a.1 in
-        not_true (core_of start).changing (and_both (not (core_of start).changing) (not (is_done seat start)) b.1).0
+        let a = and_parts (is_primary_of seat view by) ((view == (core_of start).view) && (not (core_of start).changing && not (is_done seat start))) may in
+        let b = and_parts (view == (core_of start).view) (not (core_of start).changing && not (is_done seat start)) a.1 in
+        not-true (core_of start).changing (and_parts (not (core_of start).changing) (not (is_done seat start)) b.1).0
 
     takes_base : (by view : ℕ) (x : List ℕ) (h : List Request) → e ≡ pre_prepare_base by view x h → P start → may_take_base seat start by view x h ≡ true → P (take_value (Base h) start)
     takes_base by view x h is was now =
-        let a = and_both (may_take seat start by view) (is_empty (core_of start).accepted && bytes_eq x (slot_digest (Base h))) now in
-        let none = empty_is (core_of start).accepted (and_both (is_empty (core_of start).accepted) (bytes_eq x (slot_digest (Base h))) a.1).0 in
+        let a = and_parts (may_take seat start by view) (is_empty (core_of start).accepted && bytes_eq x (slot_digest (Base h))) now in
+        let none = empty_is (core_of start).accepted (and_parts (is_empty (core_of start).accepted) (bytes_eq x (slot_digest (Base h))) a.1).0 in
         let same : work seat (pre_prepare_base by view x h) start ≡ settle seat (take_value (Base h) start) = rw now refl in
         let accepted : (core_of (settle seat (take_value (Base h) start))).accepted ≡ Base h ∷ [] = settle_accepted seat (take_value (Base h) start) ∙ ap (λ l. l ++ (Base h ∷ [])) none in
         let then_is : (core_of (work seat e start)).accepted ≡ Base h ∷ [] = ap (λ z. (core_of (work seat z start)).accepted) is ∙ (ap (λ z. (core_of z).accepted) same ∙ accepted) in
@@ -250,30 +221,30 @@ module _ (seat : Seat) (e : Input) (start : Work) where
 
     takes_request : (by view slot : ℕ) (x : List ℕ) (m : Request) → e ≡ pre_prepare by view slot x m → P start → may_take_request seat start by view slot x m ≡ true → P (take_value (Order m) start)
     takes_request by view slot x m is was now =
-        let a = and_both (may_take seat start by view) ((slot == length (core_of start).accepted) && (nat_le slot seat.k && (bytes_eq x (slot_digest (Order m)) && goes (core_of start).accepted (Order m)))) now in
-        let b = and_both (slot == length (core_of start).accepted) (nat_le slot seat.k && (bytes_eq x (slot_digest (Order m)) && goes (core_of start).accepted (Order m))) a.1 in
-        let c = and_both (nat_le slot seat.k) (bytes_eq x (slot_digest (Order m)) && goes (core_of start).accepted (Order m)) b.1 in
-        let on = (and_both (bytes_eq x (slot_digest (Order m))) (goes (core_of start).accepted (Order m)) c.1).1 in
-        let room : length (core_of start).accepted ≤ seat.k = omega (arith, eq_of slot (length (core_of start).accepted) b.0, le_of slot seat.k c.0) in
+        let a = and_parts (may_take seat start by view) ((slot == length (core_of start).accepted) && (nat_le slot seat.k && (bytes_eq x (slot_digest (Order m)) && goes (core_of start).accepted (Order m)))) now in
+        let b = and_parts (slot == length (core_of start).accepted) (nat_le slot seat.k && (bytes_eq x (slot_digest (Order m)) && goes (core_of start).accepted (Order m))) a.1 in
+        let c = and_parts (nat_le slot seat.k) (bytes_eq x (slot_digest (Order m)) && goes (core_of start).accepted (Order m)) b.1 in
+        let on = (and_parts (bytes_eq x (slot_digest (Order m))) (goes (core_of start).accepted (Order m)) c.1).1 in
+        let room : length (core_of start).accepted ≤ seat.k = omega (arith, eqb-true slot (length (core_of start).accepted) b.0, leb-true slot seat.k c.0) in
         kept.takes start (Order m) was (still_of by view a.0) room on (request_brought by view slot x m is refl)
 
-    enters_by : (by view : ℕ) (inputs : List ChangeInput) → e ≡ new_view by view inputs → P start → may_follow seat start by view inputs ≡ true
+    enters_by : (by view : ℕ) (inputs : List ChangeReading) → e ≡ new_view by view inputs → P start → may_follow seat start by view inputs ≡ true
         → P (with_peer start (entered_peer goes seat.k view (map change_of inputs) start.at.peer) (enter goes seat.k view (map change_of inputs) ∷ []))
     enters_by by view inputs is was now =
-        let a = and_both (is_primary_of seat view by) ((nat_lt (core_of start).view view || ((core_of start).view == view) && (core_of start).changing) && may_enter seat.f view inputs) now in
-        let b = and_both (nat_lt (core_of start).view view || ((core_of start).view == view) && (core_of start).changing) (may_enter seat.f view inputs) a.1 in
+        let a = and_parts (is_primary_of seat view by) ((nat_lt (core_of start).view view || ((core_of start).view == view) && (core_of start).changing) && may_enter seat.f view inputs) now in
+        let b = and_parts (nat_lt (core_of start).view view || ((core_of start).view == view) && (core_of start).changing) (may_enter seat.f view inputs) a.1 in
         let may : MayEnter (core_of start) view =
-        elim (or_either (nat_lt (core_of start).view view) (((core_of start).view == view) && (core_of start).changing) b.0) [
-          | inl above ↦ inl (lt_of (core_of start).view view above)
-          | inr equal ↦ let c = and_both ((core_of start).view == view) (core_of start).changing equal in inr (eq_of (core_of start).view view c.0, c.1)
+        elim (or_cases (nat_lt (core_of start).view view) (((core_of start).view == view) && (core_of start).changing) b.0) [
+          | inl above ↦ inl (ltb-true (core_of start).view view above)
+          | inr equal ↦ let c = and_parts ((core_of start).view == view) (core_of start).changing equal in inr (eqb-true (core_of start).view view c.0, c.1)
         ] in
         kept.enters start view (map change_of inputs) was may (from_new_view by inputs is b.1 refl)
 
     -- the timer ran out
     ran_out : (is_done seat start || nat_le 4294967295 (core_of start).view) ≡ false → WhyLeft start (next_view seat start)
-    ran_out on = timed_out refl (not_le_of 4294967295 (core_of start).view (or_neither (is_done seat start) (nat_le 4294967295 (core_of start).view) on).1)
+    ran_out on = timed_out refl (leb-false 4294967295 (core_of start).view (or_parts (is_done seat start) (nat_le 4294967295 (core_of start).view) on).1)
 
-    of_input : (i : Input) → e ≡ i → P start → P (work seat i start)
+    of_input : (i : Reading) → e ≡ i → P start → P (work seat i start)
     of_input (request m) is was = proposes (keep_request m start) (kept.keeps_request m is was)
     of_input (pre_prepare_base by view x h) is was =
         elim (cases_Bool (may_take_base seat start by view x h)) [
@@ -288,12 +259,12 @@ module _ (seat : Seat) (e : Input) (start : Work) where
     of_input (prepare by view slot x) is was =
         elim (cases_Bool (is_current seat start view)) [
           | inr differs ↦ rw differs was
-          | inl same ↦ rw same (kept.settles _ (kept.keeps_vote by slot x (is ∙ ap (λ v. prepare by v slot x) (eq_of view (core_of start).view same)) was))
+          | inl same ↦ rw same (kept.settles _ (kept.keeps_vote by slot x (is ∙ ap (λ v. prepare by v slot x) (eqb-true view (core_of start).view same)) was))
         ]
     of_input (commit by view slot x) is was =
         elim (cases_Bool (is_current seat start view)) [
           | inr differs ↦ rw differs was
-          | inl same ↦ rw same (kept.settles _ (kept.keeps_commit by slot x (is ∙ ap (λ v. commit by v slot x) (eq_of view (core_of start).view same)) was))
+          | inl same ↦ rw same (kept.settles _ (kept.keeps_commit by slot x (is ∙ ap (λ v. commit by v slot x) (eqb-true view (core_of start).view same)) was))
         ]
     of_input (view_change change) is was =
         elim (cases_Bool (fits seat.f change)) [
@@ -316,7 +287,7 @@ module _ (seat : Seat) (e : Input) (start : Work) where
     work_kept was = of_input e refl was
 
     -- what holds of each replica that went on by itself, or left its view, holds of all after an event, if it did before
-    module _ (Q : Work → Type 0) (settled : (w : Work) → P w → Q (settle seat w)) (left : (v : ℕ) (w : Work) → Q (leave_to seat v w)) (kept_change : (change : ChangeInput) → Q start → Q (keep_change change start)) where
+    module _ (Q : Work → Type 0) (settled : (w : Work) → P w → Q (settle seat w)) (left : (v : ℕ) (w : Work) → Q (leave_to seat v w)) (kept_change : (change : ChangeReading) → Q start → Q (keep_change change start)) where
       proposes_end : (w : Work) → P w → Q (propose seat w)
       proposes_end w was = settled (if may_propose seat w then offer_requests seat (suc seat.k) (offer_base seat w) else w) (proposed w was)
 
@@ -338,7 +309,7 @@ module _ (seat : Seat) (e : Input) (start : Work) where
           of_least None = ends
           of_least (Some v) = left v w
 
-      ends_of : (i : Input) → e ≡ i → P start → Q start → Q (work seat i start)
+      ends_of : (i : Reading) → e ≡ i → P start → Q start → Q (work seat i start)
       ends_of (request m) is was ends = proposes_end (keep_request m start) (kept.keeps_request m is was)
       ends_of (pre_prepare_base by view x h) is was ends =
           elim (cases_Bool (may_take_base seat start by view x h)) [
@@ -353,12 +324,12 @@ module _ (seat : Seat) (e : Input) (start : Work) where
       ends_of (prepare by view slot x) is was ends =
           elim (cases_Bool (is_current seat start view)) [
             | inr differs ↦ rw differs ends
-            | inl same ↦ rw same (settled (with_peer start (with_vote (record { by = by; slot = slot; x = x }) start.at.peer) []) (kept.keeps_vote by slot x (is ∙ ap (λ v. prepare by v slot x) (eq_of view (core_of start).view same)) was))
+            | inl same ↦ rw same (settled (with_peer start (with_vote (record { by = by; slot = slot; x = x }) start.at.peer) []) (kept.keeps_vote by slot x (is ∙ ap (λ v. prepare by v slot x) (eqb-true view (core_of start).view same)) was))
           ]
       ends_of (commit by view slot x) is was ends =
           elim (cases_Bool (is_current seat start view)) [
             | inr differs ↦ rw differs ends
-            | inl same ↦ rw same (settled (with_peer start (with_commit (record { by = by; slot = slot; x = x }) start.at.peer) []) (kept.keeps_commit by slot x (is ∙ ap (λ v. commit by v slot x) (eq_of view (core_of start).view same)) was))
+            | inl same ↦ rw same (settled (with_peer start (with_commit (record { by = by; slot = slot; x = x }) start.at.peer) []) (kept.keeps_commit by slot x (is ∙ ap (λ v. commit by v slot x) (eqb-true view (core_of start).view same)) was))
           ]
       ends_of (view_change change) is was ends =
           elim (cases_Bool (fits seat.f change)) [

@@ -6,7 +6,7 @@ use Rattle.ab_abs.specs.Values.{list_of, base_in, goes}
 use Rattle.ab_msg.specs.declared.value.Value.{Value}
 use Rattle.ab_msg.specs.Slots.{slot_digest}
 use Rattle.ab_abs.specs.Acts.{Setting, Act}
-use Rattle.ab_lock.specs.Steps.{Entry, Change, accepts, signs, prepares, changes, enters, executes}
+use Rattle.ab_lock.specs.Steps.{SlotEntry, Change, accepts, signs, prepares, changes, enters, executes}
 use Rattle.ab_lock.specs.Acts as lock
 use Rattle.ab_lock.specs.Acts.{Prepare, Commit, ViewChange, Backs, AreLawful}
 use Rattle.ab_order.proofs.OwnActs.{IsWithin, claimed_within, ordered_within}
@@ -30,7 +30,7 @@ traced x k p r own is = record {
 }
 
 -- two votes that are one statement are one
-entries_one : (a b : List (Entry (List ℕ))) → map pair_of a ≡ map pair_of b → a ≡ b
+entries_one : (a b : List (SlotEntry (List ℕ))) → map pair_of a ≡ map pair_of b → a ≡ b
 entries_one [] [] e = refl
 entries_one [] (o ∷ b) e = absurd (omega (arith, ap length e))
 entries_one (o ∷ a) [] e = absurd (omega (arith, ap length e))
@@ -42,7 +42,7 @@ entries_one (o ∷ a) (u ∷ b) e =
     let same : o ≡ u = λ i. record { at = at i; x = x i } in
     ap (λ z. z ∷ a) same ∙ ap (λ l. u ∷ l) (entries_one a b rest)
 
-pub vote_one : (i : ℕ) (c d : lock.Content (List ℕ)) → content_of i c ≡ content_of i d → c ≡ d
+pub vote_one : (i : ℕ) (c d : lock.LockContent (List ℕ)) → content_of i c ≡ content_of i d → c ≡ d
 vote_one i (Prepare r v n x) (Prepare q w m y) e = cc (e)
 vote_one i (Prepare r v n x) (Commit q w m y) e = absurd (cc (e))
 vote_one i (Prepare r v n x) (ViewChange q w b) e = absurd (cc (e))
@@ -74,7 +74,7 @@ module _ (x : Setting) (k r : ℕ) (few many : List Act) (within : IsWithin few 
   shown_within c shows t cert there = let s = shows t cert there in (s.0, ordered_within x few many cert.value within s.1)
 
   -- what stands among few acts stands among more
-  pub mid_within : (Said Says : lock.Content (List ℕ) → Type 0) (trace : List OrderAct) (at : Memory) (now : List OrderStep) → ((c : lock.Content (List ℕ)) → Says c → lock.WasMade slot_digest trace c)
+  pub mid_within : (Said Says : lock.LockContent (List ℕ) → Type 0) (trace : List OrderAct) (at : Memory) (now : List OrderStep) → ((c : lock.LockContent (List ℕ)) → Says c → lock.WasMade slot_digest trace c)
       → IsMid x k r few Said trace at now → IsMid x k r many Says trace at now
   mid_within Said Says trace at now says mid = record {
     lawful = lawful_within trace mid.lawful;

@@ -11,11 +11,11 @@ use Rattle.ab_msg.specs.declared.value.Value.TheVariants.{Base, Request as Order
 use Rattle.ab_msg.specs.Slots.{slot_digest}
 use Rattle.ab_abs.specs.Values.{list_of, goes}
 use Rattle.ab_lock.specs.Quorums.{quorum}
-use Rattle.ab_lock.specs.Steps.{Cert, Entry, Change, State, begun}
+use Rattle.ab_lock.specs.Steps.{Cert, SlotEntry, Change, State, begun}
 use Rattle.ab_lock.specs.Acts.{made}
 use Rattle.ab_lock.specs.ViewChanges.{Kept, put, of_view, lowest, leave, own_change, enter}
 use Rattle.ab_lock.specs.Events.{Peer, peer_by, settles_by, with_vote, with_commit, entered_peer, left_peer, accept, accepted_peer}
-use Rattle.ab_order.specs.Inputs.{Input, request, pre_prepare_base, pre_prepare, prepare, commit, view_change, new_view, timeout, other, ProvedSlot, ChangeInput}
+use Rattle.ab_order.specs.Inputs.{Reading, request, pre_prepare_base, pre_prepare, prepare, commit, view_change, new_view, timeout, other, ProvedSlot, ChangeReading}
 use Rattle.ab_order.specs.Orderers.{Ordering}
 use Rattle.ab_order.specs.Backups.{keep}
 use Rattle.ab_pbft_rules.specs.Traces.{OrderStep, content_of}
@@ -24,10 +24,10 @@ use Rattle.ab_pbft_rules.specs.Traces.{OrderStep, content_of}
 abbrev pub cert_of : ProvedSlot → Cert Value
 cert_of s = record { at = s.at; value = s.value }
 
-abbrev pub entry_of : ProvedSlot → Entry (List ℕ)
+abbrev pub entry_of : ProvedSlot → SlotEntry (List ℕ)
 entry_of s = record { at = s.at; x = s.x }
 
-abbrev pub change_of : ChangeInput → Change Value
+abbrev pub change_of : ChangeReading → Change Value
 change_of change = record { by = change.by; certs = map cert_of change.slots }
 
 -- no number stands twice
@@ -39,16 +39,16 @@ all_apart (r ∷ rs) = not (list_any (nat_eq r) rs) && all_apart rs
 abbrev pub slot_fits : ℕ → ℕ → ProvedSlot → Bool
 slot_fits f view s = nat_lt s.at view && (nat_eq (length s.by) (quorum f) && (all_apart s.by && bytes_eq s.x (slot_digest s.value)))
 
-abbrev pub fits : ℕ → ChangeInput → Bool
+abbrev pub fits : ℕ → ChangeReading → Bool
 fits f change = list_all (slot_fits f change.view) change.slots
 
 -- 2f + 1 VIEW-CHANGEs for view w by distinct replicas, each of which fits
-abbrev pub may_enter : ℕ → ℕ → List ChangeInput → Bool
+abbrev pub may_enter : ℕ → ℕ → List ChangeReading → Bool
 may_enter f w changes =
     nat_eq (length changes) (quorum f) && (all_apart (map (λ c. c.by) changes) && list_all (λ c. nat_eq c.view w && fits f c) changes)
 
 -- replica me in instance i, of which it orders k requests, with the base that it entered with
-pub record Seat : Type 0 where
+pub record Placement : Type 0 where
   pub k : ℕ
   pub f : ℕ
   pub i : ℕ
@@ -62,7 +62,7 @@ pub record Memory : Type 0 where
   pub requests : List Request
 
 pub record Pbft : Type 0 where
-  pub seat : Seat
+  pub seat : Placement
   pub memory : Memory
 
 -- something that a replica does in an event: a step, the PRE-PREPARE of a value for a slot of a view, or a NEW-VIEW
@@ -107,7 +107,7 @@ is_empty (a ∷ rest) = false
 abbrev pub keep_request : Request → Work → Work
 keep_request m w = record w { at = record w.at { requests = keep m w.at.requests } }
 
-abbrev pub keep_change : ChangeInput → Work → Work
+abbrev pub keep_change : ChangeReading → Work → Work
 keep_change change w = record w { at = record w.at { changes = put (record { view = change.view; change = change_of change }) w.at.changes } }
 
 -- without the kept VIEW-CHANGE of replica r
@@ -124,7 +124,7 @@ abbrev pub least_above : ℕ → List (Kept Value) → Option ℕ
 least_above v [] = None
 least_above v (u ∷ kept) = if nat_lt v u.view then smaller u.view (least_above v kept) else least_above v kept
 
-module _ (seat : Seat) where
+module _ (seat : Placement) where
   -- slots 0 to k are executed
   abbrev pub is_done : Work → Bool
   is_done w = nat_le (suc seat.k) (length (core_of w).executed)
@@ -211,7 +211,7 @@ module _ (seat : Seat) where
       may_take w by view && ((slot == length (core_of w).accepted) && (nat_le slot seat.k && (bytes_eq x (slot_digest (Order m)) && goes (core_of w).accepted (Order m))))
 
   -- a NEW-VIEW is one by its primary, of a later view or of the view that it is changing to
-  abbrev pub may_follow : Work → ℕ → ℕ → List ChangeInput → Bool
+  abbrev pub may_follow : Work → ℕ → ℕ → List ChangeReading → Bool
   may_follow w by view changes =
       is_primary_of view by && ((nat_lt (core_of w).view view || ((core_of w).view == view) && (core_of w).changing) && may_enter seat.f view changes)
 
@@ -222,7 +222,7 @@ module _ (seat : Seat) where
   abbrev pub next_view : Work → ℕ
   next_view w = suc (core_of w).view
 
-  abbrev pub work : Input → Work → Work
+  abbrev pub work : Reading → Work → Work
   work (request m) w = propose (keep_request m w)
   work (pre_prepare_base by view x h) w = if may_take_base w by view x h then settle (take_value (Base h) w) else w
   work (pre_prepare by view slot x m) w = if may_take_request w by view slot x m then settle (take_value (Order m) w) else w
@@ -237,7 +237,7 @@ module _ (seat : Seat) where
 abbrev pub idle : Memory → Work
 idle memory = record { at = memory; steps = []; doings = [] }
 
-abbrev pub done_by : Pbft → Input → Work
+abbrev pub done_by : Pbft → Reading → Work
 done_by p e = work p.seat e (idle p.memory)
 
 -- what replica me of instance i says in what it does, in its order
@@ -255,7 +255,7 @@ base_of (Base h ∷ values) = Some h
 base_of (Order m ∷ values) = None
 
 -- PBFT as an orderer
-abbrev pub pbft : Ordering Pbft Input
+abbrev pub pbft : Ordering Pbft Reading
 pbft = record {
   begin = λ k f i me base. record { seat = record { k = k; f = f; i = i; me = me; base = base }; memory = record { peer = record { core = begun; votes = []; commits = [] }; changes = []; requests = [] } };
   after = λ p e. record { seat = p.seat; memory = (done_by p e).at };

@@ -25,18 +25,18 @@ AreShown x own c = (t : ℕ) (cert : Cert Value) → slice_get c.certs t ≡ Som
 
 -- replica r did some steps of an event, and keeps this: these steps, and those of its earlier acts, are the trace. Said: what it said in
 -- earlier acts
-pub record IsMid (x : Setting) (k r : ℕ) (own : List Act) (Said : lock.Content (List ℕ) → Type 0) (trace : List OrderAct) (at : Memory) (now : List OrderStep) : Type 0 where
+pub record IsMid (x : Setting) (k r : ℕ) (own : List Act) (Said : lock.LockContent (List ℕ) → Type 0) (trace : List OrderAct) (at : Memory) (now : List OrderStep) : Type 0 where
   pub lawful : AreLawful slot_digest x.cluster.f (IsSource x own) goes k trace
   pub mine : (a : OrderAct) → Contains trace a → a.by ≡ r
-  pub claimed : (a : OrderAct) (c : lock.Content (List ℕ)) → Contains trace a → Contains a.claims c → WasClaimed own (content_of x.i c)
+  pub claimed : (a : OrderAct) (c : lock.LockContent (List ℕ)) → Contains trace a → Contains a.claims c → WasClaimed own (content_of x.i c)
   pub shown : (v : ℕ) (vcs : List (Change Value)) (chosen : List Value) (c : Change Value) → Contains (steps_of trace r) (enters v vcs chosen) → Contains vcs c → AreShown x own c
   pub peer : PeerStands slot_digest x.cluster.f trace r at.peer
   pub changes : AreKeptChanges slot_digest x.cluster.f trace r at.changes
   pub rising : IsRising at.changes
   pub changes_shown : (u : Kept Value) → Contains at.changes u → AreShown x own u.change
   pub requests : (m : Request) → Contains at.requests m → WasClaimed own (content.Req (Client m.client) x.i m)
-  pub made : (c : lock.Content (List ℕ)) → Contains (flat_map (made slot_digest r) now) c → WasMade slot_digest trace c
-  pub said : (c : lock.Content (List ℕ)) → Said c → WasMade slot_digest trace c
+  pub made : (c : lock.LockContent (List ℕ)) → Contains (flat_map (made slot_digest r) now) c → WasMade slot_digest trace c
+  pub said : (c : lock.LockContent (List ℕ)) → Said c → WasMade slot_digest trace c
 
 -- p is replica r, where its own acts left it
 pub record PbftStands (x : Setting) (k : ℕ) (p : Pbft) (r : ℕ) (own : List Act) : Type 0 where

@@ -13,7 +13,7 @@ use Rattle.ab_msg.specs.Slots.{slot_digest}
 use Rattle.ab_abs.specs.Acts.{Setting, State, Act, observations, own_acts, state_of, WasMade}
 use Rattle.ab_abs.specs.OrderRules.{WasClaimed}
 use Rattle.ab_lock.specs.Steps as steps
-use Rattle.ab_lock.specs.Steps.{Entry, Change, Cert, Step, enters}
+use Rattle.ab_lock.specs.Steps.{SlotEntry, Change, Cert, Step, enters}
 use Rattle.ab_lock.specs.Acts as lock
 use Rattle.ab_lock.specs.Acts.{Prepare, Commit, ViewChange}
 use Rattle.ab_order.specs.Orders.{MayBeOrdered, OrderPremises, is_ordering}
@@ -23,13 +23,13 @@ abbrev pub OrderStep : Type 0
 OrderStep = Step Value (List ℕ)
 
 abbrev pub OrderAct : Type 0
-OrderAct = lock.Act Value (List ℕ)
+OrderAct = lock.LockAct Value (List ℕ)
 
-abbrev pub pair_of : Entry (List ℕ) → ℕ × List ℕ
+abbrev pub pair_of : SlotEntry (List ℕ) → ℕ × List ℕ
 pair_of e = (e.at, e.x)
 
 -- what is said in instance i
-abbrev pub content_of : ℕ → lock.Content (List ℕ) → Content
+abbrev pub content_of : ℕ → lock.LockContent (List ℕ) → Content
 content_of i (Prepare r v n d) = content.Prepare (Replica r) i v n d
 content_of i (Commit r v n d) = content.Commit (Replica r) i v n d
 content_of i (ViewChange r w entries) = content.ViewChange (Replica r) i w (map pair_of entries)
@@ -47,8 +47,8 @@ pub record IsTraced (x : Setting) (k r : ℕ) (own : List Act) (trace : List Ord
   pub lawful : lock.AreLawful slot_digest x.cluster.f (IsSource x own) goes k trace
   pub mine : (a : OrderAct) → Contains trace a → a.by ≡ r
   -- what the steps take was claimed, and what the acts say of an order the steps make
-  pub claimed : (a : OrderAct) (c : lock.Content (List ℕ)) → Contains trace a → Contains a.claims c → WasClaimed own (content_of x.i c)
-  pub made : (c : lock.Content (List ℕ)) → WasMade own (content_of x.i c) → lock.WasMade slot_digest trace c
+  pub claimed : (a : OrderAct) (c : lock.LockContent (List ℕ)) → Contains trace a → Contains a.claims c → WasClaimed own (content_of x.i c)
+  pub made : (c : lock.LockContent (List ℕ)) → WasMade own (content_of x.i c) → lock.WasMade slot_digest trace c
   -- the values beside the VIEW-CHANGEs by which a view is entered are of their slots, and among those that may be ordered
   pub shown : (w : ℕ) (vcs : List (Change Value)) (chosen : List Value) (c : Change Value) (t : ℕ) (cert : Cert Value) → Contains (lock.steps_of trace r) (enters w vcs chosen) → Contains vcs c
       → slice_get c.certs t ≡ Some cert → IsOfSlot t cert.value × MayBeOrdered x own cert.value

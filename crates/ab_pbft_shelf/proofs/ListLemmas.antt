@@ -8,7 +8,7 @@ use Rattle.std.proofs.lemmas.List.{get_or_default, set-get_or}
 use Rattle.ab_msg.specs.declared.change.Proof.{Proof}
 use Rattle.ab_wire.specs.Inside.{tag_in}
 use Rattle.ab_pbft_shelf.specs.declared.kept.Tagged.{Tagged}
-use Rattle.ab_pbft_shelf.specs.declared.kept.Ballot.{Ballot}
+use Rattle.ab_pbft_shelf.specs.declared.kept.SignedVote.{SignedVote}
 use Rattle.ab_pbft_shelf.specs.Posts.{no_tag}
 use Rattle.ab_pbft_shelf.specs.Shelves.{is_for, signer_in, maker_of, view_of, later, put_proof, put_tags, tags_of}
 
@@ -104,11 +104,11 @@ module _ (p : Proof) (maker : ℕ) (xs ys : List Proof) (i : ℕ) (same : ys ≡
 
 -- ---- what is found
 
-abbrev pub signed_as : ℕ → Option Ballot → List (ℕ × List ℕ)
+abbrev pub signed_as : ℕ → Option SignedVote → List (ℕ × List ℕ)
 signed_as by None = []
 signed_as by (Some b) = (by, b.sig) ∷ []
 
-pub signer_in-find : (by slot : ℕ) (x : List ℕ) (ballots : List Ballot) → signer_in by slot x ballots ≡ signed_as by (find (is_for by slot x) ballots)
+pub signer_in-find : (by slot : ℕ) (x : List ℕ) (ballots : List SignedVote) → signer_in by slot x ballots ≡ signed_as by (find (is_for by slot x) ballots)
 signer_in-find by slot x [] = refl
 signer_in-find by slot x (b ∷ ballots) = elim (cases_Bool (is_for by slot x b)) [ inl here ↦ rw here refl | inr other ↦ rw other (signer_in-find by slot x ballots) ]
 

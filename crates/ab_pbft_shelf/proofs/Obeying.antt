@@ -4,9 +4,9 @@ use Rattle.std.proofs.lemmas.List.{append-nil}
 use Rattle.std.specs.Prelude.{Contains, flat_map, map, slice_get, pred, if◌then◌else◌}
 use Rattle.std.proofs.lemmas.Bool.{cases_Bool, eqb-true}
 use Rattle.std.proofs.lemmas.Grind.{flat_map-append}
-use Rattle.ab_lock.proofs.Lists.{Contains-map}
 use Rattle.std.proofs.lemmas.List.Elements.{Contains-append_left, Contains-append_right, Contains-append_cases}
 use Rattle.ab_num.specs.declared.party.Party.TheVariants.{Replica}
+use Rattle.ab_num.proofs.Lists.{Contains-map, Contains-head, Contains-one, Contains-none}
 use Rattle.ab_msg.specs.declared.content.Content.{Content}
 use Rattle.ab_msg.specs.declared.content.Content.TheVariants.{PrePrepare, Prepare, Commit, ViewChange, NewView}
 use Rattle.ab_msg.specs.declared.value.Value.{Value}
@@ -17,15 +17,13 @@ use Rattle.ab_msg.specs.declared.message.Out.{Out}
 use Rattle.ab_msg.specs.Claims.{fresh, signed_in}
 use Rattle.ab_msg.specs.Pens.{Pen, moved}
 use Rattle.ab_msg.specs.Slots.{slot_digest}
-use Rattle.ab_abs.proofs.Counting.{Contains-head}
-use Rattle.ab_abs.proofs.Statements.{one_of, none_of}
 use Rattle.ab_lock.specs.Acts.{commit_of}
 use Rattle.ab_lock.specs.Steps.{accepts, signs, prepares, changes, enters, executes}
 use Rattle.ab_order.specs.Protos.{Obeys}
 use Rattle.ab_pbft_rules.specs.Traces.{content_of}
 use Rattle.ab_pbft_rules.specs.Rules.{Doing, takes_step, offers, leads, done_by, sayings, said_in, pbft}
-use Rattle.ab_slots.specs.declared.deed.Deed.{Deed}
-use Rattle.ab_slots.specs.declared.deed.Deed.TheVariants.{Signs, Prepares, Changes, Enters, Offers, Leads}
+use Rattle.ab_slots.specs.declared.notice.Notice.{Notice}
+use Rattle.ab_slots.specs.declared.notice.Notice.TheVariants.{Signs, Prepares, Changes, Enters, Offers, Leads}
 use Rattle.ab_slots.specs.Deeds.{deeds_of, prepared_in, told_in}
 use Rattle.ab_pbft_shelf.specs.declared.author.Author.{Author}
 use Rattle.ab_pbft_shelf.specs.Posts.{Post, to_others, own_change_of, offer_message, commit_message, lead_message, posts, posts_all, signed_by, signed_in_all}
@@ -35,7 +33,7 @@ use Rattle.ab_pbft_shelf.proofs.PenLemmas.{pen_by}
 -- ---- to the others
 
 others_from : (n me : ℕ) (says : ℕ → Msg) (o : Out) → Contains (to_others n me says) o → (r : ℕ) × (o.msg ≡ says r)
-others_from zero me says o has = absurd (none_of o has)
+others_from zero me says o has = absurd (Contains-none o has)
 others_from (suc n) me says o has =
     elim (Contains-append_cases (to_others n me says) (if n == me then [] else record { to = Replica n; msg = says n } ∷ []) o has) [
       | inl before ↦ others_from n me says o before
@@ -43,8 +41,8 @@ others_from (suc n) me says o has =
     ]
   where
     at : (b : Bool) → Contains (if b then [] else record { to = Replica n; msg = says n } ∷ []) o → (r : ℕ) × (o.msg ≡ says r)
-    at true last = absurd (none_of o last)
-    at false last = (n, ap (λ (z : Out). z.msg) (sym (one_of (record { to = Replica n; msg = says n }) o last)))
+    at true last = absurd (Contains-none o last)
+    at false last = (n, ap (λ (z : Out). z.msg) (sym (Contains-one (record { to = Replica n; msg = says n }) o last)))
 
 apart : (a b : ℕ) → a ≡ b → (suc a == b) ≡ false
 apart a b is = elim (cases_Bool (suc a == b)) [ inl e ↦ absurd (omega (arith, is, eqb-true (suc a) b e)) | inr e ↦ e ]
@@ -76,7 +74,7 @@ module _ (by : Author) where
   abbrev f : ℕ
   f = by.cluster.f
 
-  abbrev says_by : Deed → List Content
+  abbrev says_by : Notice → List Content
   says_by (Signs view slot x) = Prepare (Replica by.me) by.instance view slot x ∷ []
   says_by (Prepares view slot value) = Commit (Replica by.me) by.instance view slot (slot_digest value) ∷ []
   says_by (Changes view entries) = ViewChange (Replica by.me) by.instance view entries ∷ []
@@ -84,7 +82,7 @@ module _ (by : Author) where
   says_by (Offers view slot value) = PrePrepare (Replica by.me) by.instance view slot (slot_digest value) ∷ []
   says_by (Leads view) = NewView (Replica by.me) by.instance view ∷ []
 
-  abbrev said_by : List Deed → List Content
+  abbrev said_by : List Notice → List Content
   said_by deeds = flat_map says_by deeds
 
   prepared_says : (v n : ℕ) (value : Option Value) → said_by (prepared_in v n value) ≡ map (content_of by.instance) (commit_of slot_digest by.me v n value)
@@ -113,14 +111,14 @@ module _ (by : Author) where
   abbrev signature : Post → Content → Signed
   signature p s = record { maker = by.me; content = s; sig = p.pen.sig s p.pen.used }
 
-  record Tells (d : Deed) (p : Post) : Type 0 where
+  record Tells (d : Notice) (p : Post) : Type 0 where
     outs : List Out
     sent : (posts by d p).sent ≡ p.sent ++ outs
     states : (o : Out) → Contains outs o → (g r : ℕ) → fresh g (Replica r) o.msg ≡ says_by d
     signs : (o : Out) → Contains outs o → signed_in o.msg ≡ map (signature p) (signed_by by d)
     some : 1 ≤ f → (s : Content) → Contains (says_by d) s → (o : Out) × Contains outs o
 
-  telling : (d : Deed) (p : Post) (says : ℕ → Msg) → (posts by d p).sent ≡ p.sent ++ to_others (3 * f + 1) by.me says → ((q g r : ℕ) → fresh g (Replica r) (says q) ≡ says_by d)
+  telling : (d : Notice) (p : Post) (says : ℕ → Msg) → (posts by d p).sent ≡ p.sent ++ to_others (3 * f + 1) by.me says → ((q g r : ℕ) → fresh g (Replica r) (says q) ≡ says_by d)
       → ((q : ℕ) → signed_in (says q) ≡ map (signature p) (signed_by by d)) → Tells d p
   telling d p says sends states signatures = record {
     outs = to_others (3 * f + 1) by.me says;
@@ -130,16 +128,16 @@ module _ (by : Author) where
     some = λ faulty s has. let w = others_some (3 * f + 1) by.me says (omega (arith, faulty)) in (w.0, w.1);
   }
 
-  silent : (d : Deed) (p : Post) → (posts by d p).sent ≡ p.sent → says_by d ≡ [] → Tells d p
+  silent : (d : Notice) (p : Post) → (posts by d p).sent ≡ p.sent → says_by d ≡ [] → Tells d p
   silent d p sends says = record {
     outs = [];
     sent = sends ∙ sym (append-nil p.sent);
-    states = λ o has. absurd (none_of o has);
-    signs = λ o has. absurd (none_of o has);
-    some = λ faulty s has. absurd (none_of s (subst (λ (l : List Content). Contains l s) says has));
+    states = λ o has. absurd (Contains-none o has);
+    signs = λ o has. absurd (Contains-none o has);
+    some = λ faulty s has. absurd (Contains-none s (subst (λ (l : List Content). Contains l s) says has));
   }
 
-  tells_of : (d : Deed) (p : Post) → Tells d p
+  tells_of : (d : Notice) (p : Post) → Tells d p
   tells_of (Signs view slot x) p =
       let s = Prepare (Replica by.me) by.instance view slot x in
       telling (Signs view slot x) p (λ r. msg.Prepare (signature p s)) refl (λ q g r. refl) (λ q. refl)
@@ -149,25 +147,25 @@ module _ (by : Author) where
   tells_of (Offers view slot value) p = telling (Offers view slot value) p (offer_message by p.shelf view slot value) refl (λ q g r. refl) (λ q. refl)
   tells_of (Leads view) p = telling (Leads view) p (λ r. lead_message by p.shelf view) refl (λ q g r. refl) (λ q. refl)
 
-  abbrev told : Deed → Post → List Out
+  abbrev told : Notice → Post → List Out
   told d p = (tells_of d p).outs
 
-  sent_cases : (d : Deed) (p : Post) (o : Out) → Contains (posts by d p).sent o → Contains p.sent o ⊎ Contains (told d p) o
+  sent_cases : (d : Notice) (p : Post) (o : Out) → Contains (posts by d p).sent o → Contains p.sent o ⊎ Contains (told d p) o
   sent_cases d p o has = Contains-append_cases p.sent (told d p) o (subst (λ (l : List Out). Contains l o) (tells_of d p).sent has)
 
-  sent_now : (d : Deed) (p : Post) (o : Out) → Contains (told d p) o → Contains (posts by d p).sent o
+  sent_now : (d : Notice) (p : Post) (o : Out) → Contains (told d p) o → Contains (posts by d p).sent o
   sent_now d p o has = subst (λ (l : List Out). Contains l o) (sym (tells_of d p).sent) (Contains-append_right p.sent (told d p) o has)
 
   -- what was sent stays sent
-  still : (deeds : List Deed) (p : Post) (o : Out) → Contains p.sent o → Contains (posts_all by deeds p).sent o
+  still : (deeds : List Notice) (p : Post) (o : Out) → Contains p.sent o → Contains (posts_all by deeds p).sent o
   still [] p o has = has
   still (d ∷ deeds) p o has = still deeds (posts by d p) o (subst (λ (l : List Out). Contains l o) (sym (tells_of d p).sent) (Contains-append_left p.sent (told d p) o has))
 
   -- ---- statements
 
-  all_stated : (deeds : List Deed) (p : Post) (s : Content) → 1 ≤ f → Contains (said_by deeds) s
+  all_stated : (deeds : List Notice) (p : Post) (s : Content) → 1 ≤ f → Contains (said_by deeds) s
       → (o : Out) × Contains (posts_all by deeds p).sent o × ((g r : ℕ) → Contains (fresh g (Replica r) o.msg) s)
-  all_stated [] p s faulty has = absurd (none_of s has)
+  all_stated [] p s faulty has = absurd (Contains-none s has)
   all_stated (d ∷ deeds) p s faulty has =
       elim (Contains-append_cases (says_by d) (said_by deeds) s has) [
         | inl now ↦
@@ -176,7 +174,7 @@ module _ (by : Author) where
         | inr later ↦ all_stated deeds (posts by d p) s faulty later
       ]
 
-  all_only : (deeds : List Deed) (p : Post) (o : Out) (s : Content) (g r : ℕ) → Contains (posts_all by deeds p).sent o → Contains (fresh g (Replica r) o.msg) s → Contains p.sent o ⊎ Contains (said_by deeds) s
+  all_only : (deeds : List Notice) (p : Post) (o : Out) (s : Content) (g r : ℕ) → Contains (posts_all by deeds p).sent o → Contains (fresh g (Replica r) o.msg) s → Contains p.sent o ⊎ Contains (said_by deeds) s
   all_only [] p o s g r has is = inl has
   all_only (d ∷ deeds) p o s g r has is =
       elim (all_only deeds (posts by d p) o s g r has is) [
@@ -201,24 +199,24 @@ module _ (by : Author) where
 
   placed_first : (p : Post) (s : Content) (rest : List Content) (w : Signed) → Contains (signature p s ∷ []) w → IsPlaced p.pen (s ∷ rest) w
   placed_first p s rest w has =
-      subst (λ (z : Signed). IsPlaced p.pen (s ∷ rest) z) (one_of (signature p s) w has) (zero, refl, ap (λ n. p.pen.sig s n) (let e : p.pen.used ≡ p.pen.used + 0 = omega arith in e))
+      subst (λ (z : Signed). IsPlaced p.pen (s ∷ rest) z) (Contains-one (signature p s) w has) (zero, refl, ap (λ n. p.pen.sig s n) (let e : p.pen.used ≡ p.pen.used + 0 = omega arith in e))
 
-  placed_by : (d : Deed) (p : Post) (rest : List Content) (w : Signed) → Contains (map (signature p) (signed_by by d)) w → IsPlaced p.pen (signed_by by d ++ rest) w
+  placed_by : (d : Notice) (p : Post) (rest : List Content) (w : Signed) → Contains (map (signature p) (signed_by by d)) w → IsPlaced p.pen (signed_by by d ++ rest) w
   placed_by (Signs view slot x) p rest w has = placed_first p (Prepare (Replica by.me) by.instance view slot x) rest w has
-  placed_by (Prepares view slot value) p rest w has = absurd (none_of w has)
+  placed_by (Prepares view slot value) p rest w has = absurd (Contains-none w has)
   placed_by (Changes view entries) p rest w has = placed_first p (ViewChange (Replica by.me) by.instance view entries) rest w has
-  placed_by (Enters view) p rest w has = absurd (none_of w has)
-  placed_by (Offers view slot value) p rest w has = absurd (none_of w has)
-  placed_by (Leads view) p rest w has = absurd (none_of w has)
+  placed_by (Enters view) p rest w has = absurd (Contains-none w has)
+  placed_by (Offers view slot value) p rest w has = absurd (Contains-none w has)
+  placed_by (Leads view) p rest w has = absurd (Contains-none w has)
 
   -- one that is placed in the rest is placed in the whole
-  placed_later : (d : Deed) (p : Post) (rest : List Content) (w : Signed) → IsPlaced (posts by d p).pen rest w → IsPlaced p.pen (signed_by by d ++ rest) w
+  placed_later : (d : Notice) (p : Post) (rest : List Content) (w : Signed) → IsPlaced (posts by d p).pen rest w → IsPlaced p.pen (signed_by by d ++ rest) w
   placed_later d p rest w is =
       let now = signed_by by d in
       let after : IsPlaced (moved p.pen (length now)) rest w = subst (λ (pen : Pen). IsPlaced pen rest w) (pen_by by d p) is in
       (length now + after.0, behind now rest after.0 ∙ after.1, after.2 ∙ ap (λ n. p.pen.sig w.content n) (let e : p.pen.used + length now + after.0 ≡ p.pen.used + (length now + after.0) = omega arith in e))
 
-  all_signed : (deeds : List Deed) (p : Post) (o : Out) (w : Signed) → Contains (posts_all by deeds p).sent o → Contains (signed_in o.msg) w → Contains p.sent o ⊎ IsPlaced p.pen (signed_in_all by deeds) w
+  all_signed : (deeds : List Notice) (p : Post) (o : Out) (w : Signed) → Contains (posts_all by deeds p).sent o → Contains (signed_in o.msg) w → Contains p.sent o ⊎ IsPlaced p.pen (signed_in_all by deeds) w
   all_signed [] p o w has in_it = inl has
   all_signed (d ∷ deeds) p o w has in_it =
       elim (all_signed deeds (posts by d p) o w has in_it) [
@@ -229,17 +227,17 @@ module _ (by : Author) where
         | inr later ↦ inr (placed_later d p (signed_in_all by deeds) w later)
       ]
 
-  signed_says : (d : Deed) (s : Content) → Contains (signed_by by d) s → Contains (says_by d) s
+  signed_says : (d : Notice) (s : Content) → Contains (signed_by by d) s → Contains (says_by d) s
   signed_says (Signs view slot x) s has = has
-  signed_says (Prepares view slot value) s has = absurd (none_of s has)
+  signed_says (Prepares view slot value) s has = absurd (Contains-none s has)
   signed_says (Changes view entries) s has = has
-  signed_says (Enters view) s has = absurd (none_of s has)
-  signed_says (Offers view slot value) s has = absurd (none_of s has)
-  signed_says (Leads view) s has = absurd (none_of s has)
+  signed_says (Enters view) s has = absurd (Contains-none s has)
+  signed_says (Offers view slot value) s has = absurd (Contains-none s has)
+  signed_says (Leads view) s has = absurd (Contains-none s has)
 
-  all_sent : (deeds : List Deed) (p : Post) (s : Content) → 1 ≤ f → Contains (signed_in_all by deeds) s
+  all_sent : (deeds : List Notice) (p : Post) (s : Content) → 1 ≤ f → Contains (signed_in_all by deeds) s
       → (o : Out) × (w : Signed) × Contains (posts_all by deeds p).sent o × Contains (signed_in o.msg) w × (w.content ≡ s)
-  all_sent [] p s faulty has = absurd (none_of s has)
+  all_sent [] p s faulty has = absurd (Contains-none s has)
   all_sent (d ∷ deeds) p s faulty has =
       elim (Contains-append_cases (signed_by by d) (signed_in_all by deeds) s has) [
         | inl now ↦
@@ -267,12 +265,12 @@ signing_obeys = record {
       (subst (λ (l : List Content). Contains l s) (sym (told_says (author_of q) (done_by q.order (input_of q call)).doings)) has);
   only = λ pen q call o s g r has is.
       elim (all_only (author_of q) (deeds_by q call) (first_post pen q call) o s g r has is) [
-        | inl none ↦ absurd (none_of o none)
+        | inl none ↦ absurd (Contains-none o none)
         | inr its ↦ subst (λ (l : List Content). Contains l s) (told_says (author_of q) (done_by q.order (input_of q call)).doings) its
       ];
   signed = λ pen q call o w has in_it.
       elim (all_signed (author_of q) (deeds_by q call) (first_post pen q call) o w has in_it) [
-        | inl none ↦ absurd (none_of o none)
+        | inl none ↦ absurd (Contains-none o none)
         | inr is ↦ (is.0, is.1, is.2)
       ];
   sent = λ pen q call s has. all_sent (author_of q) (deeds_by q call) (first_post pen q call) s q.cluster.in_bounds.some_faulty has;

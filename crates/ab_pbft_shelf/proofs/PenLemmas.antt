@@ -1,8 +1,8 @@
 -- The pen moves once a signature.
 use Rattle.std.proofs.Common.{◌≡◌, ℕ, ◌+◌, List, [], ◌∷◌, refl, ap, ◌∙◌, arith, length, length-append}
 use Rattle.ab_msg.specs.Pens.{Pen, moved}
-use Rattle.ab_slots.specs.declared.deed.Deed.{Deed}
-use Rattle.ab_slots.specs.declared.deed.Deed.TheVariants.{Signs, Prepares, Changes, Enters, Offers, Leads}
+use Rattle.ab_slots.specs.declared.notice.Notice.{Notice}
+use Rattle.ab_slots.specs.declared.notice.Notice.TheVariants.{Signs, Prepares, Changes, Enters, Offers, Leads}
 use Rattle.ab_pbft_shelf.specs.declared.author.Author.{Author}
 use Rattle.ab_pbft_shelf.specs.Posts.{Post, posts, posts_all, signed_by, signed_in_all, signings}
 
@@ -16,7 +16,7 @@ moved_both : (pen : Pen) (a b n : ℕ) → n ≡ a + b → moved (moved pen a) b
 moved_both pen a b n is = used_as pen ((pen.used + a) + b) (pen.used + n) (omega (arith, is))
 
 module _ (by : Author) where
-  pub pen_by : (d : Deed) (p : Post) → (posts by d p).pen ≡ moved p.pen (length (signed_by by d))
+  pub pen_by : (d : Notice) (p : Post) → (posts by d p).pen ≡ moved p.pen (length (signed_by by d))
   pen_by (Signs view slot x) p = refl
   pen_by (Prepares view slot value) p = moved_none p.pen
   pen_by (Changes view entries) p = refl
@@ -24,7 +24,7 @@ module _ (by : Author) where
   pen_by (Offers view slot value) p = moved_none p.pen
   pen_by (Leads view) p = moved_none p.pen
 
-  pub pen_all : (deeds : List Deed) (p : Post) → (posts_all by deeds p).pen ≡ moved p.pen (signings by deeds)
+  pub pen_all : (deeds : List Notice) (p : Post) → (posts_all by deeds p).pen ≡ moved p.pen (signings by deeds)
   pen_all [] p = moved_none p.pen
   pen_all (d ∷ deeds) p =
       let more = pen_all deeds (posts by d p) in

@@ -5,23 +5,23 @@ use Rattle.std.proofs.lemmas.Grind.{flat_map-append}
 use Rattle.std.proofs.lemmas.List.{append-nil, length-append, take_more}
 use Rattle.std.proofs.lemmas.List.Folds.{length-flat_map-take}
 use Rattle.std.proofs.lemmas.List.Sums.{sum_by-cons}
-use Rattle.ab_slots.specs.declared.deed.Deed.{Deed}
-use Rattle.ab_slots.specs.declared.deed.Deed.TheVariants.{Signs, Prepares, Changes, Enters, Offers, Leads}
+use Rattle.ab_slots.specs.declared.notice.Notice.{Notice}
+use Rattle.ab_slots.specs.declared.notice.Notice.TheVariants.{Signs, Prepares, Changes, Enters, Offers, Leads}
 use Rattle.ab_pbft_shelf.specs.declared.author.Author.{Author}
 use Rattle.ab_pbft_shelf.specs.Posts.{Post, is_signed, posts, posts_all, signed_by, signed_in_all, signings}
 
 module _ (by : Author) where
-  posts_both : (xs ys : List Deed) (p : Post) → posts_all by (xs ++ ys) p ≡ posts_all by ys (posts_all by xs p)
+  posts_both : (xs ys : List Notice) (p : Post) → posts_all by (xs ++ ys) p ≡ posts_all by ys (posts_all by xs p)
   posts_both [] ys p = refl
   posts_both (d ∷ xs) ys p = posts_both xs ys (posts by d p)
 
-  signings_both : (xs ys : List Deed) → signings by (xs ++ ys) ≡ signings by xs + signings by ys
+  signings_both : (xs ys : List Notice) → signings by (xs ++ ys) ≡ signings by xs + signings by ys
   signings_both xs ys = ap length (flat_map-append (signed_by by) xs ys) ∙ length-append (signed_in_all by xs) (signed_in_all by ys)
 
-  signings_one : (d : Deed) → signings by (d ∷ []) ≡ length (signed_by by d)
+  signings_one : (d : Notice) → signings by (d ∷ []) ≡ length (signed_by by d)
   signings_one d = ap length (append-nil (signed_by by d))
 
-  signed_as : (d : Deed) → length (signed_by by d) ≡ cond (is_signed d) 1 0
+  signed_as : (d : Notice) → length (signed_by by d) ≡ cond (is_signed d) 1 0
   signed_as (Signs view slot x) = refl
   signed_as (Prepares view slot value) = refl
   signed_as (Changes view entries) = refl
@@ -30,13 +30,13 @@ module _ (by : Author) where
   signed_as (Leads view) = refl
 
   -- so many of them are signed
-  pub signings_as : (deeds : List Deed) → signings by deeds ≡ count_by is_signed deeds
+  pub signings_as : (deeds : List Notice) → signings by deeds ≡ count_by is_signed deeds
   signings_as [] = refl
   signings_as (d ∷ deeds) =
       let both : length (signed_by by d) + signings by deeds ≡ cond (is_signed d) 1 0 + count_by is_signed deeds = λ j. signed_as d j + signings_as deeds j in
       length-append (signed_by by d) (signed_in_all by deeds) ∙ (both ∙ sym (sum_by-cons (λ x. cond (is_signed x) 1 0) d deeds))
 
-  module _ (deeds : List Deed) (i : ℕ) (d : Deed) (lt : i < length deeds) (there : d ≡ get_or deeds i d) where
+  module _ (deeds : List Notice) (i : ℕ) (d : Notice) (lt : i < length deeds) (there : d ≡ get_or deeds i d) where
     taken : take (i + 1) deeds ≡ take i deeds ++ d ∷ []
     taken = take_more deeds i d lt ∙ ap (λ z. take i deeds ++ z ∷ []) (sym there)
 

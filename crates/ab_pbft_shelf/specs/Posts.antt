@@ -14,9 +14,9 @@ use Rattle.ab_msg.specs.declared.change.Proof.{Proof}
 use Rattle.ab_msg.specs.Pens.{Pen, moved}
 use Rattle.ab_msg.specs.Slots.{slot_digest}
 use Rattle.ab_wire.specs.Inside.{tag_in}
-use Rattle.ab_slots.specs.declared.deed.Deed.{Deed}
-use Rattle.ab_slots.specs.declared.deed.Deed.TheVariants.{Signs, Prepares, Changes, Enters, Offers, Leads}
-use Rattle.ab_pbft_shelf.specs.declared.kept.Ballot.{Ballot}
+use Rattle.ab_slots.specs.declared.notice.Notice.{Notice}
+use Rattle.ab_slots.specs.declared.notice.Notice.TheVariants.{Signs, Prepares, Changes, Enters, Offers, Leads}
+use Rattle.ab_pbft_shelf.specs.declared.kept.SignedVote.{SignedVote}
 use Rattle.ab_pbft_shelf.specs.declared.kept.Tagged.{Tagged}
 use Rattle.ab_pbft_shelf.specs.declared.author.Author.{Author}
 use Rattle.ab_pbft_shelf.specs.Shelves.{Shelf, with_ballot, with_certified, certified_front, own_proof, left_for, entered, proofs_for, tags_of}
@@ -57,7 +57,7 @@ own_change_of by s pen view entries =
     own_proof by.me content (certified_front s.certified) (pen.sig content pen.used)
 
 -- whether a deed is signed, whoever does it
-abbrev pub is_signed : Deed → Bool
+abbrev pub is_signed : Notice → Bool
 is_signed (Signs view slot x) = true
 is_signed (Changes view entries) = true
 is_signed _ = false
@@ -78,7 +78,7 @@ module _ (by : Author) where
   abbrev pub sig_of : Post → Content → List ℕ
   sig_of p s = p.pen.sig s p.pen.used
 
-  abbrev pub ballot_by : ℕ → List ℕ → List ℕ → Ballot
+  abbrev pub ballot_by : ℕ → List ℕ → List ℕ → SignedVote
   ballot_by slot x sig = record { by = by.me; slot = slot; x = x; sig = sig }
 
   abbrev pub posts_prepare : ℕ → ℕ → List ℕ → Post → Post
@@ -95,7 +95,7 @@ module _ (by : Author) where
       let proof = own_change_of by p.shelf p.pen view entries in
       tells (λ r. msg.ViewChange proof) (record { pen = moved p.pen 1; shelf = left_for by.me view proof p.shelf; sent = p.sent })
 
-  abbrev pub posts : Deed → Post → Post
+  abbrev pub posts : Notice → Post → Post
   posts (Signs view slot x) p = posts_prepare view slot x p
   posts (Prepares view slot value) p = posts_commit view slot value p
   posts (Changes view entries) p = posts_change view entries p
@@ -103,12 +103,12 @@ module _ (by : Author) where
   posts (Offers view slot value) p = tells (offer_message by p.shelf view slot value) p
   posts (Leads view) p = tells (λ r. lead_message by p.shelf view) p
 
-  abbrev pub posts_all : List Deed → Post → Post
+  abbrev pub posts_all : List Notice → Post → Post
   posts_all [] p = p
   posts_all (d ∷ deeds) p = posts_all deeds (posts d p)
 
   -- what it signs in what it does
-  abbrev pub signed_by : Deed → List Content
+  abbrev pub signed_by : Notice → List Content
   signed_by (Signs view slot x) = Prepare (Replica by.me) by.instance view slot x ∷ []
   signed_by (Prepares view slot value) = []
   signed_by (Changes view entries) = ViewChange (Replica by.me) by.instance view entries ∷ []
@@ -116,9 +116,9 @@ module _ (by : Author) where
   signed_by (Offers view slot value) = []
   signed_by (Leads view) = []
 
-  abbrev pub signed_in_all : List Deed → List Content
+  abbrev pub signed_in_all : List Notice → List Content
   signed_in_all deeds = flat_map signed_by deeds
 
   -- how often it signs
-  abbrev pub signings : List Deed → ℕ
+  abbrev pub signings : List Notice → ℕ
   signings deeds = length (signed_in_all deeds)

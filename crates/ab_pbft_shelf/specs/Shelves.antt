@@ -10,7 +10,7 @@ use Rattle.ab_msg.specs.declared.signed.Signed.{Signed}
 use Rattle.ab_msg.specs.declared.change.Proof.{Proof}
 use Rattle.ab_msg.specs.Slots.{slot_digest}
 use Rattle.ab_lock.specs.Quorums.{quorum}
-use Rattle.ab_pbft_shelf.specs.declared.kept.Ballot.{Ballot}
+use Rattle.ab_pbft_shelf.specs.declared.kept.SignedVote.{SignedVote}
 use Rattle.ab_pbft_shelf.specs.declared.kept.Certified.{Certified}
 use Rattle.ab_pbft_shelf.specs.declared.kept.Tagged.{Tagged}
 
@@ -20,7 +20,7 @@ use Rattle.ab_pbft_shelf.specs.declared.kept.Tagged.{Tagged}
 pub record Shelf : Type 0 where
   pub entry : List Signed
   pub view : ℕ
-  pub ballots : List Ballot
+  pub ballots : List SignedVote
   pub certified : List (Option Certified)
   pub proofs : List Proof
   pub tagged : List Tagged
@@ -32,39 +32,39 @@ empty_shelf k entry = record { entry = entry; view = 0; ballots = []; certified 
 -- ---- PREPAREs
 
 -- each replica's first for a slot is kept
-abbrev pub is_of : ℕ → ℕ → Ballot → Bool
+abbrev pub is_of : ℕ → ℕ → SignedVote → Bool
 is_of by slot b = (b.by == by) && (b.slot == slot)
 
-abbrev pub has_ballot : List Ballot → ℕ → ℕ → Bool
+abbrev pub has_ballot : List SignedVote → ℕ → ℕ → Bool
 has_ballot ballots by slot = list_any (is_of by slot) ballots
 
-abbrev pub put_ballot : Ballot → List Ballot → List Ballot
+abbrev pub put_ballot : SignedVote → List SignedVote → List SignedVote
 put_ballot b ballots = if has_ballot ballots b.by b.slot then ballots else b ∷ ballots
 
-abbrev pub with_ballot : Ballot → Shelf → Shelf
+abbrev pub with_ballot : SignedVote → Shelf → Shelf
 with_ballot b s = record s { ballots = put_ballot b s.ballots }
 
 -- a PREPARE of the present view
-abbrev pub with_ballot_of : ℕ → Ballot → Shelf → Shelf
+abbrev pub with_ballot_of : ℕ → SignedVote → Shelf → Shelf
 with_ballot_of view b s = if view == s.view then with_ballot b s else s
 
 -- ---- certificates
 
 -- a replica's PREPARE for a slot with this digest
-abbrev pub is_for : ℕ → ℕ → List ℕ → Ballot → Bool
+abbrev pub is_for : ℕ → ℕ → List ℕ → SignedVote → Bool
 is_for by slot x b = is_of by slot b && bytes_eq b.x x
 
-abbrev pub signer_in : ℕ → ℕ → List ℕ → List Ballot → List (ℕ × List ℕ)
+abbrev pub signer_in : ℕ → ℕ → List ℕ → List SignedVote → List (ℕ × List ℕ)
 signer_in by slot x [] = []
 signer_in by slot x (b ∷ ballots) = if is_for by slot x b then (by, b.sig) ∷ [] else signer_in by slot x ballots
 
 -- those of the first n replicas
-abbrev pub signers_below : ℕ → ℕ → List ℕ → List Ballot → List (ℕ × List ℕ)
+abbrev pub signers_below : ℕ → ℕ → List ℕ → List SignedVote → List (ℕ × List ℕ)
 signers_below zero slot x ballots = []
 signers_below (suc n) slot x ballots = signers_below n slot x ballots ++ signer_in n slot x ballots
 
 -- the PREPAREs of the lowest 2f + 1 replicas
-abbrev pub certified_by : ℕ → ℕ → ℕ → Value → List Ballot → Certified
+abbrev pub certified_by : ℕ → ℕ → ℕ → Value → List SignedVote → Certified
 certified_by f view slot value ballots =
     record { at = view; value = value; prepares = take (quorum f) (signers_below (3 * f + 1) slot (slot_digest value) ballots) }
 

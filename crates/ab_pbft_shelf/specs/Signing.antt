@@ -5,12 +5,12 @@ use Rattle.ab_num.specs.Places.{limit_of}
 use Rattle.ab_msg.specs.declared.message.Msg.TheVariants as msg
 use Rattle.ab_msg.specs.Pens.{Pen}
 use Rattle.ab_abs.specs.Messages.{Call, took}
-use Rattle.ab_order.specs.Inputs.{Input, request, prepare, view_change}
+use Rattle.ab_order.specs.Inputs.{Reading, request, prepare, view_change}
 use Rattle.ab_order.specs.Readings.{read}
 use Rattle.ab_order.specs.Protos.{OrderProto}
 use Rattle.ab_pbft_rules.specs.Rules.{Pbft, done_by, fits, pbft}
-use Rattle.ab_slots.specs.declared.deed.Deed.{Deed}
-use Rattle.ab_slots.specs.declared.deed.Deed.TheVariants.{Changes}
+use Rattle.ab_slots.specs.declared.notice.Notice.{Notice}
+use Rattle.ab_slots.specs.declared.notice.Notice.TheVariants.{Changes}
 use Rattle.ab_slots.specs.Deeds.{told_in}
 use Rattle.ab_pbft_shelf.specs.declared.author.Author.{Author}
 use Rattle.ab_pbft_shelf.specs.Shelves.{Shelf, empty_shelf, with_ballot_of, with_proof, with_tags}
@@ -27,26 +27,26 @@ pub record Signing : Type 0 where
 abbrev pub author_of : Signing → Author
 author_of q = record { cluster = q.cluster; instance = q.order.seat.i; me = q.order.seat.me }
 
-abbrev pub input_of : Signing → Call → Input
+abbrev pub input_of : Signing → Call → Reading
 input_of q call = read q.cluster q.order.seat.i call
 
 -- what comes is put on the shelf: a request's tags, a PREPARE of the present view, and a VIEW-CHANGE that fits
-abbrev pub puts : ℕ → Call → Input → Shelf → Shelf
+abbrev pub puts : ℕ → Call → Reading → Shelf → Shelf
 puts f (took (msg.Req content tags)) (request m) s = with_tags (record { client = m.client; tags = tags }) s
 puts f (took (msg.Prepare signed)) (prepare by view slot x) s = with_ballot_of view (record { by = by; slot = slot; x = x; sig = signed.sig }) s
 puts f (took (msg.ViewChange proof)) (view_change change) s = if fits f change then with_proof proof s else s
 puts f _ _ s = s
 
 -- what others hear of
-abbrev pub deeds_by : Signing → Call → List Deed
+abbrev pub deeds_by : Signing → Call → List Notice
 deeds_by q call = told_in (done_by q.order (input_of q call)).doings
 
 -- how often it leaves a view in what it does
-abbrev pub is_leaving : Deed → Bool
+abbrev pub is_leaving : Notice → Bool
 is_leaving (Changes view entries) = true
 is_leaving _ = false
 
-abbrev pub leavings : List Deed → ℕ
+abbrev pub leavings : List Notice → ℕ
 leavings deeds = count_by is_leaving deeds
 
 -- once what came is on the shelf

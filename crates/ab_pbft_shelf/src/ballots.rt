@@ -6,13 +6,13 @@ ghost use Rattle.std.specs.Option.{option_map};
 ghost use Rattle.ab_lock.specs.Quorums.{quorum};
 ghost use Rattle.ab_pbft_shelf.specs.Shelves.{is_of, is_for, has_ballot, put_ballot, signer_in, signers_below, certified_by};
 
-use crate::kept::{Ballot, Certified};
+use crate::kept::{Certified, SignedVote};
 use ab_msg::{Copied, Sig, SlotPrepares, Value};
 use ab_num::{Cluster, OutOfMemory};
 use ab_slots::slot_digest;
 use std::alloc::Global;
 
-impl Ballot {
+impl SignedVote {
     /// Whether it is of this replica and slot.
     fn is_of(&self, by: u8, slot: u8) -> bool
         ensures { result ≡ is_of by slot self.now }
@@ -29,14 +29,14 @@ impl Ballot {
 }
 
 /// Whether one of them is of this replica and slot.
-pub(crate) fn has_ballot(ballots: &[Ballot], by: u8, slot: u8) -> bool
+pub(crate) fn has_ballot(ballots: &[SignedVote], by: u8, slot: u8) -> bool
     ensures { result ≡ has_ballot ballots.now by slot }
 {
     ballots.iter().any(|b| b.is_of(by, slot))
 }
 
 /// Keeps it as the newest, if it is the first of its replica for its slot.
-pub(crate) fn put_ballot(ballots: &mut Vec<Ballot>, b: Ballot) -> Result<(), OutOfMemory>
+pub(crate) fn put_ballot(ballots: &mut Vec<SignedVote>, b: SignedVote) -> Result<(), OutOfMemory>
     ensures { OnOk result (ballots.new.items ≡ put_ballot b ballots.old.items) }
 {
     if has_ballot(ballots.as_slice(), b.by, b.slot) {
@@ -47,14 +47,19 @@ pub(crate) fn put_ballot(ballots: &mut Vec<Ballot>, b: Ballot) -> Result<(), Out
 }
 
 /// The PREPARE of a replica for a slot with this digest.
-fn ballot_for<'a>(ballots: &'a [Ballot], by: u8, slot: u8, x: &[u8; 32]) -> Option<&'a Ballot>
+fn ballot_for<'a>(
+    ballots: &'a [SignedVote],
+    by: u8,
+    slot: u8,
+    x: &[u8; 32],
+) -> Option<&'a SignedVote>
     ensures { option_map (λ b. b.now) result ≡ find (is_for by slot x.now) ballots.now }
 {
     ballots.iter().find(|b| b.is_for(by, slot, x))
 }
 
 /// Its signature.
-fn signature_for<'a>(ballots: &'a [Ballot], by: u8, slot: u8, x: &[u8; 32]) -> Option<&'a Sig>
+fn signature_for<'a>(ballots: &'a [SignedVote], by: u8, slot: u8, x: &[u8; 32]) -> Option<&'a Sig>
     ensures { MatchOption result (signer_in by slot x.now ballots.now ≡ []) (λ s. signer_in by slot x.now ballots.now ≡ (by, s.now) ∷ []) }
 {
     match ballot_for(ballots, by, slot, x) {
@@ -67,7 +72,7 @@ fn signature_for<'a>(ballots: &'a [Ballot], by: u8, slot: u8, x: &[u8; 32]) -> O
 fn first_signers(
     alloc: Global,
     c: &Cluster,
-    ballots: &[Ballot],
+    ballots: &[SignedVote],
     slot: u8,
     x: &[u8; 32],
 ) -> Result<Vec<(u8, Sig)>, OutOfMemory>
@@ -93,7 +98,7 @@ pub(crate) fn certified_by(
     view: u32,
     slot: u8,
     value: &Value,
-    ballots: &[Ballot],
+    ballots: &[SignedVote],
 ) -> Result<Certified, OutOfMemory>
     ensures { IfOk result (λ s. s ≡ certified_by c.now.f view slot value.now ballots.now) }
 {

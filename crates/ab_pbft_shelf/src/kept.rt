@@ -8,16 +8,16 @@ use arrayvec::ArrayVec;
 use std::alloc::Global;
 
 /// The signed PREPARE of a replica for a slot of the present view, with the digest of the slot's value.
-pub struct Ballot {
+pub struct SignedVote {
     pub by: u8,
     pub slot: u8,
     pub x: [u8; 32],
     pub sig: Sig,
 }
 
-impl Drop for Ballot {
+impl Drop for SignedVote {
     fn drop(self) {
-        let Ballot {
+        let SignedVote {
             by: _,
             slot: _,
             x: _,
@@ -50,10 +50,10 @@ pub struct Tagged {
     pub tags: Tags,
 }
 
-impl Copied for Ballot {
-    fn copy(&self, alloc: Global) -> Result<Ballot, OutOfMemory> {
+impl Copied for SignedVote {
+    fn copy(&self, alloc: Global) -> Result<SignedVote, OutOfMemory> {
         let sig = self.sig.copy(alloc)?;
-        Ok(Ballot {
+        Ok(SignedVote {
             by: self.by,
             slot: self.slot,
             x: self.x,

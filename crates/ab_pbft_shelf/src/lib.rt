@@ -11,6 +11,6 @@ mod sending;
 mod shelf;
 
 pub use author::Author;
-pub use kept::{Ballot, Certified, Tagged};
+pub use kept::{Certified, SignedVote, Tagged};
 pub use laws::replicas_obey;
 pub use shelf::Shelf;

@@ -10,7 +10,7 @@ ghost use Rattle.ab_pbft_shelf.specs.Posts.{posts, posts_all, posts_prepare, pos
 
 use crate::author::Author;
 use crate::changes::{own_proof, proofs_for};
-use crate::kept::Ballot;
+use crate::kept::SignedVote;
 use crate::sending::{tell_all, tell_offer};
 use crate::shelf::Shelf;
 use ab_abs::StepFault;
@@ -18,7 +18,7 @@ use ab_msg::{
     Content, Copied, Msg, NO_TAG, Notary, Out, Proof, Sig, SignFault, Signed, Value, ViewEntries,
 };
 use ab_num::{OutOfMemory, Party};
-use ab_slots::{Deed, slot_digest};
+use ab_slots::{Notice, slot_digest};
 use std::alloc::Global;
 
 /// The next signature, for this content.
@@ -100,17 +100,17 @@ fn lead_of(alloc: Global, by: &Author, shelf: &Shelf, view: u32) -> Result<Msg, 
 }
 
 /// Whether it is signed.
-fn is_signed(deed: &Deed) -> bool
+fn is_signed(deed: &Notice) -> bool
     ensures { result ≡ is_signed deed.now }
 {
     match deed {
-        Deed::Signs { .. } | Deed::Changes { .. } => true,
+        Notice::Signs { .. } | Notice::Changes { .. } => true,
         _ => false,
     }
 }
 
 /// How often these are signed, whoever does them.
-fn signings(deeds: &[Deed]) -> usize
+fn signings(deeds: &[Notice]) -> usize
     ensures { (by : Signer) → result ≡ signings by deeds.now }
 {
     deeds.iter().filter(|d| is_signed(d)).count()
@@ -146,7 +146,7 @@ impl Shelf {
         ensures { OnOk result (self.new ≡ with_ballot (record { by = prepare.now.maker; slot = slot; x = x.now; sig = prepare.now.sig }) self.old) }
     {
         let sig = prepare.sig.copy(alloc)?;
-        self.keep_own_ballot(Ballot {
+        self.keep_own_ballot(SignedVote {
             by: prepare.maker,
             slot,
             x: *x,
@@ -298,7 +298,7 @@ impl Shelf {
         &mut self,
         alloc: Global,
         by: &Author,
-        deed: &Deed,
+        deed: &Notice,
         n: &mut N,
         outs: &mut Vec<Out>,
     ) -> Result<(), StepFault>
@@ -307,21 +307,23 @@ impl Shelf {
         ensures spent { IsErrOf result StepFault.Spent → N.remains n.old < length (signed_by by.now deed.now) }
     {
         match deed {
-            Deed::Signs { view, slot, x } => {
+            Notice::Signs { view, slot, x } => {
                 self.post_prepare(alloc, by, *view, *slot, x, n, outs)
             }
-            Deed::Prepares { view, slot, value } => {
+            Notice::Prepares { view, slot, value } => {
                 Ok(self.post_commit(alloc, by, *view, *slot, value, outs)?)
             }
-            Deed::Changes { view, entries } => self.post_change(alloc, by, *view, entries, n, outs),
-            Deed::Enters { view } => {
+            Notice::Changes { view, entries } => self.post_change(
+                alloc, by, *view, entries, n, outs,
+            ),
+            Notice::Enters { view } => {
                 self.enter(*view);
                 Ok(())
             }
-            Deed::Offers { view, slot, value } => {
+            Notice::Offers { view, slot, value } => {
                 Ok(tell_offer(alloc, by, self, *view, *slot, value, outs)?)
             }
-            Deed::Leads { view } => Ok(self.post_lead(alloc, by, *view, outs)?),
+            Notice::Leads { view } => Ok(self.post_lead(alloc, by, *view, outs)?),
         }
     }
 
@@ -330,7 +332,7 @@ impl Shelf {
         &mut self,
         alloc: Global,
         by: &Author,
-        deeds: &[Deed],
+        deeds: &[Notice],
         n: &mut N,
         outs: &mut Vec<Out>,
     ) -> Result<(), StepFault>
@@ -349,7 +351,7 @@ impl Shelf {
         &mut self,
         alloc: Global,
         by: &Author,
-        deeds: &[Deed],
+        deeds: &[Notice],
         n: &mut N,
         outs: &mut Vec<Out>,
     ) -> Result<(), StepFault>

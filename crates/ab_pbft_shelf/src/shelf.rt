@@ -6,7 +6,7 @@ ghost use Rattle.ab_pbft_shelf.specs.Shelves.{empty_shelf, with_ballot, with_bal
 
 use crate::ballots::{certified_by, put_ballot};
 use crate::changes::{drop_maker, put_proof};
-use crate::kept::{Ballot, Certified, Tagged, copy_slots};
+use crate::kept::{Certified, SignedVote, Tagged, copy_slots};
 use ab_msg::{AbortCert, Proof, Tags, Value, copy_each};
 use ab_num::{Cluster, OutOfMemory};
 use std::alloc::Global;
@@ -18,7 +18,7 @@ use std::marker::Model;
 pub struct Shelf {
     pub(crate) entry: AbortCert,
     pub(crate) view: u32,
-    pub(crate) ballots: Vec<Ballot>,
+    pub(crate) ballots: Vec<SignedVote>,
     pub(crate) certified: Vec<Option<Certified>>,
     pub(crate) proofs: Vec<Proof>,
     pub(crate) tagged: Vec<Tagged>,
@@ -127,7 +127,7 @@ impl Shelf {
     }
 
     /// Keeps a PREPARE of a view, if that is the present one and the PREPARE the first of its replica for its slot.
-    pub fn keep_ballot(&mut self, view: u32, ballot: Ballot) -> Result<(), OutOfMemory>
+    pub fn keep_ballot(&mut self, view: u32, ballot: SignedVote) -> Result<(), OutOfMemory>
         ensures { OnOk result (self.new ≡ with_ballot_of view ballot self.old) }
     {
         if view == self.view {
@@ -145,7 +145,7 @@ impl Shelf {
     }
 
     /// Keeps its own PREPARE of the present view.
-    pub(crate) fn keep_own_ballot(&mut self, ballot: Ballot) -> Result<(), OutOfMemory>
+    pub(crate) fn keep_own_ballot(&mut self, ballot: SignedVote) -> Result<(), OutOfMemory>
         ensures { OnOk result (self.new ≡ with_ballot ballot self.old) }
     {
         put_ballot(&mut self.ballots, ballot)

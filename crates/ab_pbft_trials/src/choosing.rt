@@ -5,7 +5,7 @@ use ab_hist::{History, Request};
 use ab_msg::Value;
 use ab_num::{Cluster, Plan};
 use ab_slots::{
-    Change, ChangeInput, ProvedSlot, Slots, chosen, into_changes, may_enter, slot_digest,
+    Change, ChangeReading, ProvedSlot, Slots, chosen, into_changes, may_enter, slot_digest,
 };
 use arrayvec::ArrayVec;
 use std::alloc::Global;
@@ -90,12 +90,18 @@ fn proved(alloc: Global, at: u32, stated: u8, signers: &[u8]) -> Option<ProvedSl
 }
 
 /// The VIEW-CHANGE of a replica for a view, each of whose slots has PREPAREs by these replicas.
-fn change(alloc: Global, by: u8, view: u32, stated: Stated, signers: &[u8]) -> Option<ChangeInput> {
+fn change(
+    alloc: Global,
+    by: u8,
+    view: u32,
+    stated: Stated,
+    signers: &[u8],
+) -> Option<ChangeReading> {
     let mut slots = Vec::new(alloc);
     for (at, letter) in stated {
         slots.push(proved(alloc, *at, *letter, signers)?).ok()?;
     }
-    Some(ChangeInput::new(by, view, slots))
+    Some(ChangeReading::new(by, view, slots))
 }
 
 /// So many VIEW-CHANGEs for a view, by replica 0 and those after it.
@@ -105,7 +111,7 @@ fn changes(
     three: &Three,
     signers: &[u8],
     count: usize,
-) -> Option<Vec<ChangeInput>> {
+) -> Option<Vec<ChangeReading>> {
     let mut all = Vec::new(alloc);
     let mut by: u8 = 0;
     for stated in three.iter().take(count) {

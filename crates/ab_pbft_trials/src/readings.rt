@@ -7,7 +7,7 @@ use ab_msg::{
 };
 use ab_num::{Cluster, OutOfMemory, Party, Plan};
 use ab_pbft_work::read;
-use ab_slots::Input;
+use ab_slots::Reading;
 use arrayvec::ArrayVec;
 use std::alloc::Global;
 use std::mem::drop;
@@ -86,7 +86,7 @@ fn cert(alloc: Global, names: [u8; 3]) -> Result<Offer, OutOfMemory> {
 }
 
 /// What a message tells. A call lets the message go: in place each of its forms would be taken apart.
-fn told(rt: &impl Abort, alloc: Global, c: &Cluster, i: u32, m: Msg) -> Input {
+fn told(rt: &impl Abort, alloc: Global, c: &Cluster, i: u32, m: Msg) -> Reading {
     let input = read(alloc, c, i, &m);
     drop(m);
     input.expect(rt, "memory")
@@ -97,7 +97,7 @@ fn base_len(rt: &impl Abort, alloc: Global, c: &Cluster, names: [u8; 3]) -> usiz
     let offer = cert(alloc, names).expect(rt, "memory");
     let input = told(rt, alloc, c, 2, pre_prepare(2, 0, offer));
     let len = match &input {
-        Input::PrePrepareBase { base, .. } => base.len(),
+        Reading::PrePrepareBase { base, .. } => base.len(),
         _ => 0,
     };
     drop(input);
@@ -166,7 +166,7 @@ fn new_view(alloc: Global, change: Proof) -> Result<Msg, OutOfMemory> {
 /// Whether a message tells nothing.
 fn is_other(rt: &impl Abort, alloc: Global, c: &Cluster, i: u32, m: Msg) -> bool {
     let input = told(rt, alloc, c, i, m);
-    let other = matches!(&input, Input::Other);
+    let other = matches!(&input, Reading::Other);
     drop(input);
     other
 }
@@ -178,7 +178,7 @@ fn what_is_of_others_tells_nothing(rt: HostRuntime) {
     let ours = told(&rt, alloc, &c, 1, prepare(&rt, alloc, Party::Replica(3), 1));
     let is_ours = matches!(
         &ours,
-        Input::Prepare {
+        Reading::Prepare {
             by: 3,
             view: 0,
             slot: 1,
@@ -198,7 +198,7 @@ fn a_base_stands_in_slot_0(rt: HostRuntime) {
     let c = Cluster::new(1, 1, Plan::Backup).expect(&rt, "a cluster");
     let first = told(&rt, alloc, &c, 1, pre_prepare(1, 0, no_cert(alloc)));
     let empty = match &first {
-        Input::PrePrepareBase { by: 0, base, .. } => base.entries().is_empty(),
+        Reading::PrePrepareBase { by: 0, base, .. } => base.entries().is_empty(),
         _ => false,
     };
     drop(first);
@@ -207,7 +207,7 @@ fn a_base_stands_in_slot_0(rt: HostRuntime) {
     assert!(rt; is_other(&rt, alloc, &c, 2, pre_prepare(2, 0, no_cert(alloc))));
     assert!(rt; is_other(&rt, alloc, &c, 1, pre_prepare(1, 0, offered(0))));
     let order = told(&rt, alloc, &c, 1, pre_prepare(1, 5, offered(0)));
-    let is_fifth = matches!(&order, Input::PrePrepare { slot: 5, .. });
+    let is_fifth = matches!(&order, Reading::PrePrepare { slot: 5, .. });
     drop(order);
     assert!(rt; is_fifth);
 }
@@ -240,7 +240,7 @@ fn lists_of_a_view_change_go_together(rt: HostRuntime) {
     let base = Value::Base(History::new(alloc));
     let whole = told(&rt, alloc, &c, 1, changing(&rt, alloc, base, 3, 1));
     let by = match &whole {
-        Input::ViewChange(change) => change.by(),
+        Reading::ViewChange(change) => change.by(),
         _ => 9,
     };
     drop(whole);
@@ -268,7 +268,7 @@ fn a_new_view_rests_on_view_changes(rt: HostRuntime) {
     let base = Value::Base(History::new(alloc));
     let entered = told(&rt, alloc, &c, 1, leading(&rt, alloc, base));
     let count = match &entered {
-        Input::NewView { by: 1, changes, .. } => changes.len(),
+        Reading::NewView { by: 1, changes, .. } => changes.len(),
         _ => 0,
     };
     drop(entered);

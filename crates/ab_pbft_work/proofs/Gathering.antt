@@ -1,6 +1,7 @@
 -- Lists of which an entry may be missing, as a loop gathers them.
 use Rattle.std.proofs.Common.{◌≡◌, ℕ, ◌+◌, ◌<◌, ◌≤◌, Option, None, Some, List, [], ◌∷◌, ◌++◌, refl, sym, ap, ◌∙◌, drop, length, get_or, append_assoc, append-nil}
-use Rattle.std.proofs.lemmas.List.{at_drop_more, at_drop_all}
+use Rattle.std.proofs.lemmas.List.{at_drop_all}
+use Rattle.ab_num.proofs.Lists.{drop_read}
 
 -- what is gathered, and the rest behind it
 abbrev pub before : {B : Type 0} → List B → Option (List B) → Option (List B)
@@ -16,9 +17,6 @@ pub before-next : {B : Type 0} (made : List B) (x : B) (o : Option (List B)) →
 before-next made x None = refl
 before-next made x (Some rest) = ap Some (sym (append_assoc made (x ∷ []) rest))
 
-pub next_is : {A : Type 0} (xs : List A) (i : ℕ) (x : A) → i < length xs → x ≡ get_or xs i x → drop i xs ≡ x ∷ drop (i + 1) xs
-next_is xs i x within is = at_drop_more (λ t. t) xs i x within ∙ ap (λ y. y ∷ drop (i + 1) xs) (sym is)
-
 -- all is gathered by whole, each entry by each
 pub record Gathers {A B : Type 0} (each : A → Option B) (whole : List A → Option (List B)) : Type 0 where
   pub nil : whole [] ≡ Some []
@@ -26,7 +24,7 @@ pub record Gathers {A B : Type 0} (each : A → Option B) (whole : List A → Op
 
 module _ {A B : Type 0} (each : A → Option B) (whole : List A → Option (List B)) (laws : Gathers each whole) (xs : List A) (i : ℕ) (made : List B) (so : before made (whole (drop i xs)) ≡ whole xs) where
   here : (x : A) → i < length xs → x ≡ get_or xs i x → before made (with_next (each x) (whole (drop (i + 1) xs))) ≡ whole xs
-  here x within is = ap (before made) (sym (laws.cons x (drop (i + 1) xs))) ∙ ap (λ l. before made (whole l)) (sym (next_is xs i x within is)) ∙ so
+  here x within is = ap (before made) (sym (laws.cons x (drop (i + 1) xs))) ∙ ap (λ l. before made (whole l)) (sym (drop_read xs i x within is)) ∙ so
 
   pub goes_on : (x : A) (y : B) → i < length xs → x ≡ get_or xs i x → Some y ≡ each x → before (made ++ y ∷ []) (whole (drop (i + 1) xs)) ≡ whole xs
   goes_on x y within is gives =

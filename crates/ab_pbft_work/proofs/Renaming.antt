@@ -3,6 +3,7 @@ use Rattle.std.proofs.Common.{◌≡◌, ℕ, ◌+◌, ◌*◌, ◌<◌, Bool, t
 use Rattle.std.specs.Prelude.{◌&&◌, ◌==◌, nat_lt, if◌then◌else◌}
 use Rattle.std.proofs.lemmas.Bool.{ltb-true}
 use Rattle.std.proofs.lemmas.List.Elements.{All-cons, All-nil}
+use Rattle.std.proofs.Math.Bool.{and-false}
 use Rattle.ab_num.specs.declared.cluster.Cluster.{Cluster}
 use Rattle.ab_num.specs.declared.party.Party.{Party}
 use Rattle.ab_num.specs.declared.party.Party.TheVariants.{Replica, Client}
@@ -102,15 +103,11 @@ module _ (c : Cluster) (j : ℕ) where
 
   -- ---- what is no ABORT of the cluster has no history
 
-  and_false : (b : Bool) → (b && false) ≡ false
-  and_false true = refl
-  and_false false = refl
-
   outside_by : (r i : ℕ) (h : List Request) (b : Bool) → nat_lt r (3 * c.f + 1) ≡ b → (if b then Some r else None) ≡ None → aborted_in c j (Abort (Replica r) i h) ≡ None
   outside_by r i h true below is = absurd (cc (is))
   outside_by r i h false below is =
       ap (λ b. if (i == j) && b then Some (let v : Held = record { by = r; log = h } in v) else None) below
-      ∙ ap (λ b. if b then Some (let v : Held = record { by = r; log = h } in v) else None) (and_false (i == j))
+      ∙ ap (λ b. if b then Some (let v : Held = record { by = r; log = h } in v) else None) (and-false (i == j))
 
   outside : (content : Content) → aborter_in (3 * c.f + 1) content ≡ None → aborted_in c j content ≡ None
   outside (Abort (Replica r) i h) is = outside_by r i h (nat_lt r (3 * c.f + 1)) refl is

@@ -10,8 +10,8 @@ use Rattle.ab_lock.specs.Steps.{State, Cert, Change, cert_at}
 use Rattle.ab_order.specs.Inputs.{timeout}
 use Rattle.ab_lock.specs.ViewChanges.{certs_from, lowest}
 use Rattle.ab_pbft_rules.specs.Rules as rules
-use Rattle.ab_pbft_rules.specs.Rules.{Seat, Memory, Work, idle, does, is_empty, least_above}
-use Rattle.ab_pbft_work.specs.declared.turn.Turn.{Turn}
+use Rattle.ab_pbft_rules.specs.Rules.{Placement, Memory, Work, idle, does, is_empty, least_above}
+use Rattle.ab_pbft_work.specs.declared.progress.Progress.{Progress}
 use Rattle.ab_pbft_work.specs.Turns.{memory_of, Shows, Does, OfferedFit, Offered, next_fit, leaves, can_leave}
 use Rattle.ab_pbft_work.proofs.TurnLemmas.{when_does, unless_does}
 
@@ -46,7 +46,7 @@ same_short slot n e lt = grind (arith, nat_tests)
 
 -- ---- view changes
 
-module _ (seat : Seat) (old new : Turn) where
+module _ (seat : Placement) (old new : Progress) where
   abbrev was : Memory
   was = memory_of old.memory
 
@@ -79,12 +79,12 @@ module _ (seat : Seat) (old new : Turn) where
       of false o n = shows
       of true (Some v) n = absurd (cc n)
 
-  pub leave_to_does : (mid : Turn) (v : ℕ) (certs : List (Cert Value)) → certs ≡ certs_from (cert_at was.peer.core.certs) (suc seat.k) 0 → Does old mid (leaves seat v)
+  pub leave_to_does : (mid : Progress) (v : ℕ) (certs : List (Cert Value)) → certs ≡ certs_from (cert_at was.peer.core.certs) (suc seat.k) 0 → Does old mid (leaves seat v)
       → ((s : State Value) → certs ≡ certs_from (cert_at s.certs) (suc seat.k) 0 → Does mid new (rules.keep_own seat v s)) → Does old new (rules.leave_to seat v)
   leave_to_does mid v certs is left kept w shows =
       kept w.at.peer.core (is ∙ ap (λ (m : Memory). certs_from (cert_at m.peer.core.certs) (suc seat.k) 0) shows.at) (leaves seat v w) (left w shows)
 
-  pub lead_does : (mid : Turn) (changes : List (Change Value)) → rules.may_lead seat (idle was) ≡ true → changes ≡ lowest seat.f was.changes was.peer.core.view
+  pub lead_does : (mid : Progress) (changes : List (Change Value)) → rules.may_lead seat (idle was) ≡ true → changes ≡ lowest seat.f was.changes was.peer.core.view
       → Does old mid (does (rules.leads was.peer.core.view)) → Does mid new (rules.enter_view seat was.peer.core.view changes) → Does old new (rules.lead seat)
   lead_does mid changes may is tells enters =
       when_does old new (λ m. rules.may_lead seat (idle m)) (λ w. rules.enter_view seat w.at.peer.core.view (lowest seat.f w.at.changes w.at.peer.core.view) (does (rules.leads w.at.peer.core.view) w)) may
@@ -93,7 +93,7 @@ module _ (seat : Seat) (old new : Turn) where
       let here = subst (λ l. Shows new (rules.enter_view seat was.peer.core.view l (does (rules.leads was.peer.core.view) w))) is there in
       subst (λ (m : Memory). Shows new (rules.enter_view seat m.peer.core.view (lowest seat.f m.changes m.peer.core.view) (does (rules.leads m.peer.core.view) w))) shows.at here)
 
-  pub time_out_does : (mid : Turn) → can_leave seat was ≡ true → Does old mid (rules.leave_to seat (suc was.peer.core.view)) → Does mid new (rules.lead seat) → Does old new (rules.work seat timeout)
+  pub time_out_does : (mid : Progress) → can_leave seat was ≡ true → Does old mid (rules.leave_to seat (suc was.peer.core.view)) → Does mid new (rules.lead seat) → Does old new (rules.work seat timeout)
   time_out_does mid may left leads w shows =
       let t : (rules.is_done seat (idle w.at) || nat_le 4294967295 w.at.peer.core.view) ≡ false = off (rules.is_done seat (idle w.at) || nat_le 4294967295 w.at.peer.core.view) (ap (can_leave seat) (sym shows.at) ∙ may) in
       let there = leads (rules.leave_to seat (suc was.peer.core.view) w) (left w shows) in
@@ -104,7 +104,7 @@ module _ (seat : Seat) (old new : Turn) where
       off true h = absurd (cc h)
       off false h = refl
 
-pub time_out_not : (seat : Seat) (old : Turn) → can_leave seat (memory_of old.memory) ≡ false → Does old old (rules.work seat timeout)
+pub time_out_not : (seat : Placement) (old : Progress) → can_leave seat (memory_of old.memory) ≡ false → Does old old (rules.work seat timeout)
 time_out_not seat old not_now w shows =
     let t : (rules.is_done seat (idle w.at) || nat_le 4294967295 w.at.peer.core.view) ≡ true = on (rules.is_done seat (idle w.at) || nat_le 4294967295 w.at.peer.core.view) (ap (can_leave seat) (sym shows.at) ∙ not_now) in
     rw t shows
@@ -115,17 +115,17 @@ time_out_not seat old not_now w shows =
 
 -- ---- offers
 
-module _ (seat : Seat) (old new : Turn) where
+module _ (seat : Placement) (old new : Progress) where
   pub fit_none : ((w : Work) → Shows old w → next_fit seat w ≡ None) → (w : Work) → Shows old w → Offered seat false old w
   fit_none none w shows = subst (λ o. OfferedFit seat false old w o) (sym (none w shows)) (refl, shows)
 
   pub fit_some : (m : Request) → ((w : Work) → Shows old w → next_fit seat w ≡ Some m) → Does old new (rules.offer seat (Order m)) → (w : Work) → Shows old w → Offered seat true new w
   fit_some m some offers w shows = subst (λ o. OfferedFit seat true new w o) (sym (some w shows)) (refl, offers w shows)
 
-abbrev fit_of : Seat → Memory → Option Request
+abbrev fit_of : Placement → Memory → Option Request
 fit_of seat m = if nat_le (length m.peer.core.accepted) seat.k then rules.first_fit m.peer.core.accepted m.requests else None
 
-module _ (seat : Seat) (old : Turn) where
+module _ (seat : Placement) (old : Progress) where
   abbrev old_accepted : List Value
   old_accepted = (memory_of old.memory).peer.core.accepted
 
@@ -146,11 +146,11 @@ module _ (seat : Seat) (old : Turn) where
 
 -- ---- many offers
 
-abbrev by_fits : (Work → Work) → Seat → Work → Option Request → Work
+abbrev by_fits : (Work → Work) → Placement → Work → Option Request → Work
 by_fits rest seat w None = w
 by_fits rest seat w (Some m) = rest (rules.offer seat (Order m) w)
 
-offers_step : (seat : Seat) (n : ℕ) (w : Work) → rules.offer_requests seat (suc n) w ≡ by_fits (rules.offer_requests seat n) seat w (next_fit seat w)
+offers_step : (seat : Placement) (n : ℕ) (w : Work) → rules.offer_requests seat (suc n) w ≡ by_fits (rules.offer_requests seat n) seat w (next_fit seat w)
 offers_step seat n w = of (rules.has_room seat w) (rules.first_fit w.at.peer.core.accepted w.at.requests)
   where
     of : (room : Bool) (o : Option Request) → (if room then rules.offer_next seat (rules.offer_requests seat n) w o else w) ≡ by_fits (rules.offer_requests seat n) seat w (if room then o else None)
@@ -158,36 +158,36 @@ offers_step seat n w = of (rules.has_room seat w) (rules.first_fit w.at.peer.cor
     of true None = refl
     of true (Some m) = refl
 
-abbrev pub OffersOn : Seat → ℕ → ℕ → Turn → Turn → Type 0
+abbrev pub OffersOn : Placement → ℕ → ℕ → Progress → Progress → Type 0
 OffersOn seat most n old new = (w : Work) → Shows old w → (u : Work) × Shows new u × (rules.offer_requests seat most w ≡ rules.offer_requests seat (most - n) u)
 
-module _ (seat : Seat) where
-  pub offers_begin : (most : ℕ) (old : Turn) → OffersOn seat most 0 old old
+module _ (seat : Placement) where
+  pub offers_begin : (most : ℕ) (old : Progress) → OffersOn seat most 0 old old
   offers_begin most old w shows = let e : most ≡ most - 0 = omega arith in (w, shows, ap (λ n. rules.offer_requests seat n w) e)
 
-  moved : (new : Turn) (u : Work) (o : Option Request) → OfferedFit seat true new u o → (n : ℕ) → (v : Work) × Shows new v × (by_fits (rules.offer_requests seat n) seat u o ≡ rules.offer_requests seat n v)
+  moved : (new : Progress) (u : Work) (o : Option Request) → OfferedFit seat true new u o → (n : ℕ) → (v : Work) × Shows new v × (by_fits (rules.offer_requests seat n) seat u o ≡ rules.offer_requests seat n v)
   moved new u None went n = let e : true ≡ false = went.0 in absurd (cc e)
   moved new u (Some m) went n = (rules.offer seat (Order m) u, went.1, refl)
 
-  stayed : (new : Turn) (u : Work) (o : Option Request) → OfferedFit seat false new u o → (n : ℕ) → Shows new u × (by_fits (rules.offer_requests seat n) seat u o ≡ u)
+  stayed : (new : Progress) (u : Work) (o : Option Request) → OfferedFit seat false new u o → (n : ℕ) → Shows new u × (by_fits (rules.offer_requests seat n) seat u o ≡ u)
   stayed new u None went n = (went.1, refl)
   stayed new u (Some m) went n = let e : false ≡ true = went.0 in absurd (cc e)
 
-  pub offers_more : (most n : ℕ) (old mid new : Turn) → n < most → OffersOn seat most n old mid → ((w : Work) → Shows mid w → Offered seat true new w) → OffersOn seat most (n + 1) old new
+  pub offers_more : (most n : ℕ) (old mid new : Progress) → n < most → OffersOn seat most n old mid → ((w : Work) → Shows mid w → Offered seat true new w) → OffersOn seat most (n + 1) old new
   offers_more most n old mid new lt so_far went w shows =
       let at = so_far w shows in
       let next = moved new at.0 (next_fit seat at.0) (went at.0 at.1) (most - (n + 1)) in
       let e : most - n ≡ suc (most - (n + 1)) = omega arith in
       (next.0, next.1, at.2 ∙ (ap (λ k. rules.offer_requests seat k at.0) e ∙ (offers_step seat (most - (n + 1)) at.0 ∙ next.2)))
 
-  pub offers_stop : (most n : ℕ) (old mid new : Turn) → n < most → OffersOn seat most n old mid → ((w : Work) → Shows mid w → Offered seat false new w) → Does old new (rules.offer_requests seat most)
+  pub offers_stop : (most n : ℕ) (old mid new : Progress) → n < most → OffersOn seat most n old mid → ((w : Work) → Shows mid w → Offered seat false new w) → Does old new (rules.offer_requests seat most)
   offers_stop most n old mid new lt so_far went w shows =
       let at = so_far w shows in
       let end = stayed new at.0 (next_fit seat at.0) (went at.0 at.1) (most - (n + 1)) in
       let e : most - n ≡ suc (most - (n + 1)) = omega arith in
       subst (λ u. Shows new u) (sym (at.2 ∙ (ap (λ k. rules.offer_requests seat k at.0) e ∙ (offers_step seat (most - (n + 1)) at.0 ∙ end.1)))) end.0
 
-  pub offers_end : (most n : ℕ) (old new : Turn) → most ≤ n → OffersOn seat most n old new → Does old new (rules.offer_requests seat most)
+  pub offers_end : (most n : ℕ) (old new : Progress) → most ≤ n → OffersOn seat most n old new → Does old new (rules.offer_requests seat most)
   offers_end most n old new le so_far w shows =
       let at = so_far w shows in
       let e : most - n ≡ 0 = omega arith in

@@ -6,10 +6,10 @@ use Rattle.ab_msg.specs.declared.value.Value.{Value}
 use Rattle.ab_msg.specs.Slots.{slot_digest}
 use Rattle.ab_abs.specs.Values.{goes}
 use Rattle.ab_lock.specs.Steps.{State, after}
-use Rattle.ab_lock.specs.Votes.{Vote, votes_after, commits_after, onward, settled}
+use Rattle.ab_lock.specs.Votes.{SlotVote, votes_after, commits_after, onward, settled}
 use Rattle.ab_lock.specs.Events.{peer_by, state_by, votes_by, commits_by}
 use Rattle.ab_pbft_rules.specs.Traces.{OrderStep}
-use Rattle.ab_pbft_rules.specs.Rules.{Seat, Work, takes_step, with_peer, oldest_first, settle}
+use Rattle.ab_pbft_rules.specs.Rules.{Placement, Work, takes_step, with_peer, oldest_first, settle}
 use Rattle.ab_pbft_work.specs.Turns.{takes, next_in, by_steps, goes_by}
 
 oldest_pushed : (more : List OrderStep) (step : OrderStep) → oldest_first (more ++ step ∷ []) ≡ step ∷ oldest_first more
@@ -20,11 +20,11 @@ state_pushed : (more : List OrderStep) (step : OrderStep) (s : State Value) → 
 state_pushed [] step s = refl
 state_pushed (t ∷ more) step s = ap (λ (u : State Value). after u t) (state_pushed more step s)
 
-votes_pushed : (me : ℕ) (more : List OrderStep) (step : OrderStep) (votes : List (Vote (List ℕ))) → votes_by me (more ++ step ∷ []) votes ≡ votes_by me more (votes_after me step votes)
+votes_pushed : (me : ℕ) (more : List OrderStep) (step : OrderStep) (votes : List (SlotVote (List ℕ))) → votes_by me (more ++ step ∷ []) votes ≡ votes_by me more (votes_after me step votes)
 votes_pushed me [] step votes = refl
 votes_pushed me (t ∷ more) step votes = ap (λ l. votes_after me t l) (votes_pushed me more step votes)
 
-commits_pushed : (me : ℕ) (more : List OrderStep) (step : OrderStep) (commits : List (Vote (List ℕ))) → commits_by slot_digest me (more ++ step ∷ []) commits ≡ commits_by slot_digest me more (commits_after slot_digest me step commits)
+commits_pushed : (me : ℕ) (more : List OrderStep) (step : OrderStep) (commits : List (SlotVote (List ℕ))) → commits_by slot_digest me (more ++ step ∷ []) commits ≡ commits_by slot_digest me more (commits_after slot_digest me step commits)
 commits_pushed me [] step commits = refl
 commits_pushed me (t ∷ more) step commits = ap (λ l. commits_after slot_digest me t l) (commits_pushed me more step commits)
 
@@ -48,7 +48,7 @@ with_pushed me more step w =
     told : w.doings ++ map takes_step (oldest_first (more ++ step ∷ [])) ≡ (w.doings ++ takes_step step ∷ []) ++ map takes_step (oldest_first more)
     told = ap (λ l. w.doings ++ map takes_step l) (oldest_pushed more step) ∙ sym (append_assoc w.doings (takes_step step ∷ []) (map takes_step (oldest_first more)))
 
-module _ (seat : Seat) where
+module _ (seat : Placement) where
   abbrev steps_of : ℕ → Work → List OrderStep
   steps_of n w = settled slot_digest bytes_eq goes seat.f seat.me n w.at.peer.core w.at.peer.votes w.at.peer.commits
 

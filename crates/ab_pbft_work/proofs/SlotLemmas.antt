@@ -3,7 +3,7 @@ use Rattle.std.proofs.Common.{◌≡◌, ℕ, suc, ◌+◌, ◌*◌, ◌≤◌, 
 use Rattle.std.specs.Prelude.{◌&&◌, nat_lt, if◌then◌else◌}
 use Rattle.std.specs.List.{list_all}
 use Rattle.ab_msg.specs.declared.value.Value.{Value}
-use Rattle.ab_order.specs.Inputs.{ProvedSlot, ChangeInput}
+use Rattle.ab_order.specs.Inputs.{ProvedSlot, ChangeReading}
 use Rattle.ab_order.specs.Readings.{is_of_slot, with_slot, proved_slot, slots_of, change_of, with_change, changes_of}
 use Rattle.ab_pbft_work.specs.Slots.{slot_of}
 use Rattle.ab_pbft_work.proofs.Gathering.{before, with_next, before-next, Gathers}
@@ -85,7 +85,7 @@ module _ (f : ℕ) (entries : List (ℕ × List ℕ)) (values : List Value) (sig
 
 -- ---- VIEW-CHANGEs
 
-change_next : (o : Option ChangeInput) (rest : Option (List ChangeInput)) → with_change o rest ≡ with_next o rest
+change_next : (o : Option ChangeReading) (rest : Option (List ChangeReading)) → with_change o rest ≡ with_next o rest
 change_next None rest = refl
 change_next (Some change) None = refl
 change_next (Some change) (Some rest) = refl

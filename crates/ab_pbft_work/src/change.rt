@@ -8,7 +8,7 @@ ghost use Rattle.ab_pbft_work.specs.Slots.{slot_of};
 
 use ab_msg::{Content, Copied, Proof, Sig, SlotPrepares, Value};
 use ab_num::{Cluster, OutOfMemory, Party};
-use ab_slots::{ChangeInput, ProvedSlot};
+use ab_slots::{ChangeReading, ProvedSlot};
 use std::alloc::Global;
 
 /// Whether a content of instance `j` by replica `r` is one of the cluster in instance `i`.
@@ -92,7 +92,7 @@ pub(crate) fn change_of(
     c: &Cluster,
     i: u32,
     proof: &Proof,
-) -> Result<Option<ChangeInput>, OutOfMemory>
+) -> Result<Option<ChangeReading>, OutOfMemory>
     ensures { IfOk result (λ o. o ≡ change_of c.now.f i proof.now) }
 {
     let Content::ViewChange {
@@ -110,7 +110,7 @@ pub(crate) fn change_of(
     let values = proof.values.as_slice();
     let prepares = proof.prepares.as_slice();
     match slots_of(alloc, c, entries.as_slice(), values, prepares)? {
-        Some(slots) => Ok(Some(ChangeInput::new(*by, *view, slots))),
+        Some(slots) => Ok(Some(ChangeReading::new(*by, *view, slots))),
         None => Ok(None),
     }
 }
@@ -121,7 +121,7 @@ pub(crate) fn changes_of(
     c: &Cluster,
     i: u32,
     proofs: &[Proof],
-) -> Result<Option<Vec<ChangeInput>>, OutOfMemory>
+) -> Result<Option<Vec<ChangeReading>>, OutOfMemory>
     ensures { IfOk result (λ o. option_map (λ v. v.items) o ≡ changes_of c.now.f i proofs.now) }
 {
     let mut changes = Vec::with_capacity(alloc, proofs.len())?;

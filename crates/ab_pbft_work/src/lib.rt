@@ -4,11 +4,11 @@
 mod certificate;
 mod change;
 mod memory;
+mod placement;
+mod progress;
 mod reading;
-mod seat;
-mod turn;
 
 pub use memory::Memory;
+pub use placement::Placement;
+pub use progress::Progress;
 pub use reading::read;
-pub use seat::Seat;
-pub use turn::Turn;

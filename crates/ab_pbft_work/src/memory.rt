@@ -16,7 +16,7 @@ use ab_msg::copy_each;
 use ab_num::OutOfMemory;
 use ab_slots::certs::copy_certs;
 use ab_slots::kept::Kept;
-use ab_slots::vote::{Vote, is_enough};
+use ab_slots::slot_vote::{SlotVote, is_enough};
 use ab_slots::waiting::lacks_some;
 use ab_slots::{Cert, Slots, slot_digest};
 use std::alloc::Global;
@@ -32,8 +32,8 @@ pub struct Memory {
     pub(crate) prepared: usize,
     pub(crate) certs: Vec<Option<Cert>>,
     pub(crate) executed: Slots,
-    pub(crate) votes: Vec<Vote>,
-    pub(crate) commits: Vec<Vote>,
+    pub(crate) votes: Vec<SlotVote>,
+    pub(crate) commits: Vec<SlotVote>,
     pub(crate) changes: Vec<Kept>,
     pub(crate) requests: Vec<Request>,
 }

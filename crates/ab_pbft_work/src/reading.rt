@@ -9,11 +9,11 @@ use crate::change::{change_of, changes_of, is_ours};
 use ab_hist::Request;
 use ab_msg::{AbortCert, Content, Msg, Offer, Proof};
 use ab_num::{Cluster, OutOfMemory, Party};
-use ab_slots::Input;
+use ab_slots::Reading;
 use std::alloc::Global;
 
 /// The request that a client asks for in instance `i`.
-fn read_request(i: u32, content: &Content) -> Input
+fn read_request(i: u32, content: &Content) -> Reading
     ensures { input_of result ≡ read_request i content.now }
 {
     match content {
@@ -23,18 +23,18 @@ fn read_request(i: u32, content: &Content) -> Input
             request,
         } => {
             if *instance == i && *client == request.client {
-                Input::Request(request.copy())
+                Reading::Request(request.copy())
             } else {
-                Input::Other
+                Reading::Other
             }
         }
-        _ => Input::Other,
+        _ => Reading::Other,
     }
 }
 
 /// Where a primary offers something: in a slot of a view, under a digest.
 #[derive(Clone, Copy)]
-struct Place {
+struct SlotPlace {
     by: u8,
     view: u32,
     slot: u8,
@@ -46,18 +46,18 @@ fn read_base(
     alloc: Global,
     c: &Cluster,
     i: u32,
-    place: Place,
+    place: SlotPlace,
     cert: &AbortCert,
-) -> Result<Input, OutOfMemory>
+) -> Result<Reading, OutOfMemory>
     ensures { IfOk result (λ e. input_of e ≡ read_offer c.now i place.by place.view place.slot place.x (Offer.Base cert.now)) }
 {
-    let Place { by, view, slot, x } = place;
+    let SlotPlace { by, view, slot, x } = place;
     if slot != 0 {
-        return Ok(Input::Other);
+        return Ok(Reading::Other);
     }
     match base_offered(alloc, c, i, cert)? {
-        Some(base) => Ok(Input::PrePrepareBase { by, view, x, base }),
-        None => Ok(Input::Other),
+        Some(base) => Ok(Reading::PrePrepareBase { by, view, x, base }),
+        None => Ok(Reading::Other),
     }
 }
 
@@ -66,19 +66,19 @@ fn read_offer(
     alloc: Global,
     c: &Cluster,
     i: u32,
-    place: Place,
+    place: SlotPlace,
     offer: &Offer,
-) -> Result<Input, OutOfMemory>
+) -> Result<Reading, OutOfMemory>
     ensures { IfOk result (λ e. input_of e ≡ read_offer c.now i place.by place.view place.slot place.x offer.now) }
 {
-    let Place { by, view, slot, x } = place;
+    let SlotPlace { by, view, slot, x } = place;
     match offer {
         Offer::Base(cert) => read_base(alloc, c, i, place, cert),
         Offer::Request { request, .. } => {
             if slot == 0 {
-                return Ok(Input::Other);
+                return Ok(Reading::Other);
             }
-            Ok(Input::PrePrepare {
+            Ok(Reading::PrePrepare {
                 by,
                 view,
                 slot,
@@ -96,7 +96,7 @@ fn read_pre_prepare(
     i: u32,
     content: &Content,
     offer: &Offer,
-) -> Result<Input, OutOfMemory>
+) -> Result<Reading, OutOfMemory>
     ensures { IfOk result (λ e. input_of e ≡ read_pre_prepare c.now i content.now offer.now) }
 {
     match content {
@@ -108,9 +108,9 @@ fn read_pre_prepare(
             x,
         } => {
             if !is_ours(c, i, *instance, *by) {
-                return Ok(Input::Other);
+                return Ok(Reading::Other);
             }
-            let place = Place {
+            let place = SlotPlace {
                 by: *by,
                 view: *view,
                 slot: *slot,
@@ -118,12 +118,12 @@ fn read_pre_prepare(
             };
             read_offer(alloc, c, i, place, offer)
         }
-        _ => Ok(Input::Other),
+        _ => Ok(Reading::Other),
     }
 }
 
 /// What a PREPARE tells.
-fn read_prepare(c: &Cluster, i: u32, content: &Content) -> Input
+fn read_prepare(c: &Cluster, i: u32, content: &Content) -> Reading
     ensures { input_of result ≡ read_prepare c.now.f i content.now }
 {
     match content {
@@ -135,22 +135,22 @@ fn read_prepare(c: &Cluster, i: u32, content: &Content) -> Input
             x,
         } => {
             if is_ours(c, i, *instance, *by) {
-                Input::Prepare {
+                Reading::Prepare {
                     by: *by,
                     view: *view,
                     slot: *slot,
                     x: *x,
                 }
             } else {
-                Input::Other
+                Reading::Other
             }
         }
-        _ => Input::Other,
+        _ => Reading::Other,
     }
 }
 
 /// What a COMMIT tells.
-fn read_commit(c: &Cluster, i: u32, content: &Content) -> Input
+fn read_commit(c: &Cluster, i: u32, content: &Content) -> Reading
     ensures { input_of result ≡ read_commit c.now.f i content.now }
 {
     match content {
@@ -162,27 +162,27 @@ fn read_commit(c: &Cluster, i: u32, content: &Content) -> Input
             x,
         } => {
             if is_ours(c, i, *instance, *by) {
-                Input::Commit {
+                Reading::Commit {
                     by: *by,
                     view: *view,
                     slot: *slot,
                     x: *x,
                 }
             } else {
-                Input::Other
+                Reading::Other
             }
         }
-        _ => Input::Other,
+        _ => Reading::Other,
     }
 }
 
 /// What a VIEW-CHANGE tells.
-fn read_change(alloc: Global, c: &Cluster, i: u32, proof: &Proof) -> Result<Input, OutOfMemory>
+fn read_change(alloc: Global, c: &Cluster, i: u32, proof: &Proof) -> Result<Reading, OutOfMemory>
     ensures { IfOk result (λ e. input_of e ≡ read_change (change_of c.now.f i proof.now)) }
 {
     match change_of(alloc, c, i, proof)? {
-        Some(change) => Ok(Input::ViewChange(change)),
-        None => Ok(Input::Other),
+        Some(change) => Ok(Reading::ViewChange(change)),
+        None => Ok(Reading::Other),
     }
 }
 
@@ -193,7 +193,7 @@ fn read_new_view(
     i: u32,
     content: &Content,
     proofs: &[Proof],
-) -> Result<Input, OutOfMemory>
+) -> Result<Reading, OutOfMemory>
     ensures { IfOk result (λ e. input_of e ≡ read_new_view c.now.f i content.now proofs.now) }
 {
     match content {
@@ -203,24 +203,24 @@ fn read_new_view(
             view,
         } => {
             if !is_ours(c, i, *instance, *by) {
-                return Ok(Input::Other);
+                return Ok(Reading::Other);
             }
             match changes_of(alloc, c, i, proofs)? {
-                Some(changes) => Ok(Input::NewView {
+                Some(changes) => Ok(Reading::NewView {
                     by: *by,
                     view: *view,
                     changes,
                 }),
-                None => Ok(Input::Other),
+                None => Ok(Reading::Other),
             }
         }
-        _ => Ok(Input::Other),
+        _ => Ok(Reading::Other),
     }
 }
 
 /// What a message tells a replica of the cluster in instance `i`: what is not of that instance, or names a replica
 /// outside the cluster, tells nothing.
-pub fn read(alloc: Global, c: &Cluster, i: u32, m: &Msg) -> Result<Input, OutOfMemory>
+pub fn read(alloc: Global, c: &Cluster, i: u32, m: &Msg) -> Result<Reading, OutOfMemory>
     ensures { IfOk result (λ e. input_of e ≡ read_message c.now i m.now) }
 {
     match m {
@@ -234,6 +234,6 @@ pub fn read(alloc: Global, c: &Cluster, i: u32, m: &Msg) -> Result<Input, OutOfM
             changes,
             ..
         } => read_new_view(alloc, c, i, content, changes.as_slice()),
-        _ => Ok(Input::Other),
+        _ => Ok(Reading::Other),
     }
 }

@@ -5,9 +5,9 @@ use Rattle.ab_num.specs.declared.cluster.Cluster.{Cluster}
 use Rattle.ab_text.specs.declared.event.Event.{Event}
 use Rattle.ab_text.specs.declared.line.Line.{Line}
 use Rattle.ab_text.specs.declared.line.Premise.{Premise}
-use Rattle.ab_picture.specs.declared.picture.Parcel.{Parcel}
+use Rattle.ab_picture.specs.declared.picture.SentPacket.{SentPacket}
 use Rattle.ab_picture.specs.declared.picture.Picture.{Picture}
-use Rattle.ab_picture.specs.declared.picture.Told.{Told}
+use Rattle.ab_picture.specs.declared.picture.Tale.{Tale as Told}
 use Rattle.ab_picture.specs.Lanes.{lanes_of}
 use Rattle.ab_picture.specs.Pictures.{arrows_of, mark_of, moments_of, stubs_of}
 
@@ -15,7 +15,7 @@ use Rattle.ab_picture.specs.Pictures.{arrows_of, mark_of, moments_of, stubs_of}
 pub record Tale : Type 0 where
   pub events : List Event
   pub counts : List ℕ
-  pub parcels : List Parcel
+  pub parcels : List SentPacket
   pub lines : List Line
   pub premise : Premise
 

@@ -13,7 +13,7 @@ use Rattle.ab_picture.specs.declared.picture.Cue.{Cue}
 use Rattle.ab_picture.specs.declared.picture.Cue.TheVariants.{Invoked, Delivered, TimedOut, Injected}
 use Rattle.ab_picture.specs.declared.picture.Mark.{Mark}
 use Rattle.ab_picture.specs.declared.picture.Moment.{Moment}
-use Rattle.ab_picture.specs.declared.picture.Parcel.{Parcel}
+use Rattle.ab_picture.specs.declared.picture.SentPacket.{SentPacket}
 use Rattle.ab_picture.specs.declared.picture.Sign.TheVariants as sign
 use Rattle.ab_picture.specs.declared.picture.Stub.{Stub}
 
@@ -31,12 +31,12 @@ mark_of (line.Spent e r) = record { event = e; party = Replica r; sign = sign.Sp
 -- ---- packets
 
 -- the packet of this number, counted from 1
-abbrev pub parcel_at : List Parcel → ℕ → Option Parcel
+abbrev pub parcel_at : List SentPacket → ℕ → Option SentPacket
 parcel_at parcels zero = None
 parcel_at parcels (suc n) = slice_get parcels n
 
 -- its code, or 0
-abbrev pub code_at : List Parcel → ℕ → ℕ
+abbrev pub code_at : List SentPacket → ℕ → ℕ
 code_at parcels k = unwrap_or (option_map (λ p. p.code) (parcel_at parcels k)) 0
 
 -- the event that sent packet k, where this tells how many packets there were after each event: the first after which there are k
@@ -51,39 +51,39 @@ is_delivery k (Timeout core) = false
 is_delivery k (Inject core bytes) = false
 
 -- the arrow of packet k to the event of this number
-abbrev pub arrow_to : List ℕ → List Parcel → ℕ → ℕ → Arrow
+abbrev pub arrow_to : List ℕ → List SentPacket → ℕ → ℕ → Arrow
 arrow_to counts parcels e k = record { packet = k; code = code_at parcels k; from = sender_of counts k; to = e }
 
 -- the arrow of an event, if it delivers a packet
-abbrev pub arrow_of : List ℕ → List Parcel → ℕ → Event → Option Arrow
+abbrev pub arrow_of : List ℕ → List SentPacket → ℕ → Event → Option Arrow
 arrow_of counts parcels e (Deliver k core) = Some (arrow_to counts parcels e k)
 arrow_of counts parcels e (Invoke core command) = None
 arrow_of counts parcels e (Timeout core) = None
 arrow_of counts parcels e (Inject core bytes) = None
 
 -- an arrow for each delivery of a packet
-abbrev pub arrows_of : List Event → List ℕ → List Parcel → List Arrow
+abbrev pub arrows_of : List Event → List ℕ → List SentPacket → List Arrow
 arrows_of events counts parcels = filter_map (λ x. arrow_of counts parcels x.0 x.1) (enumerate_from 1 events)
 
 abbrev pub is_delivered : List Event → ℕ → Bool
 is_delivered events k = list_any (is_delivery k) events
 
 -- the stub of packet k
-abbrev pub stub_at : List ℕ → ℕ → Parcel → Stub
+abbrev pub stub_at : List ℕ → ℕ → SentPacket → Stub
 stub_at counts k p = record { packet = k; code = p.code; from = sender_of counts k; to = p.to }
 
 -- it is there if no event delivers the packet
-abbrev pub stub_of : List Event → List ℕ → ℕ → Parcel → Option Stub
+abbrev pub stub_of : List Event → List ℕ → ℕ → SentPacket → Option Stub
 stub_of events counts k p = if is_delivered events k then None else Some (stub_at counts k p)
 
 -- a stub for each packet that is not delivered
-abbrev pub stubs_of : List Event → List ℕ → List Parcel → List Stub
+abbrev pub stubs_of : List Event → List ℕ → List SentPacket → List Stub
 stubs_of events counts parcels = filter_map (λ x. stub_of events counts x.0 x.1) (enumerate_from 1 parcels)
 
 -- ---- events
 
 -- where an event is. A packet that is delivered to no named core goes to its addressee's first one
-abbrev pub core_of : List Parcel → Event → Option Core
+abbrev pub core_of : List SentPacket → Event → Option Core
 core_of parcels (Invoke core command) = Some core
 core_of parcels (Deliver k (Some core)) = Some core
 core_of parcels (Deliver k None) = option_map (λ p. record { party = p.to; twin = None }) (parcel_at parcels k)
@@ -102,16 +102,16 @@ count_at counts zero = 0
 count_at counts (suc n) = unwrap_or (slice_get counts n) 0
 
 -- a PANIC, whose code is 5, is among the packets behind the first of these numbers, up to the second
-abbrev pub has_panic : List Parcel → ℕ → ℕ → Bool
+abbrev pub has_panic : List SentPacket → ℕ → ℕ → Bool
 has_panic parcels before now = list_any (λ p. p.code == 5) (take (now - before) (drop before parcels))
 
 -- the event after n others
-abbrev pub moment_of : List ℕ → List Parcel → ℕ → Event → Moment
+abbrev pub moment_of : List ℕ → List SentPacket → ℕ → Event → Moment
 moment_of counts parcels n e = record {
   core = core_of parcels e;
   cue = cue_of e;
   panics = has_panic parcels (count_at counts n) (count_at counts (n + 1));
 }
 
-abbrev pub moments_of : List Event → List ℕ → List Parcel → List Moment
+abbrev pub moments_of : List Event → List ℕ → List SentPacket → List Moment
 moments_of events counts parcels = map (λ x. moment_of counts parcels x.0 x.1) (enumerate_from 0 events)

@@ -8,7 +8,7 @@ ghost use Rattle.ab_picture.specs.Composed.{IsPicture, tale_of};
 
 use crate::lanes::lanes;
 use crate::marks::marks;
-use crate::picture::{Arrow, Cue, Moment, Parcel, Picture, Stub, Told};
+use crate::picture::{Arrow, Cue, Moment, Picture, SentPacket, Stub, Tale};
 use ab_num::{Cluster, OutOfMemory, Party};
 use ab_text::{Core, Event};
 use std::alloc::Global;
@@ -17,7 +17,7 @@ use std::alloc::Global;
 const PANIC: u8 = 5;
 
 /// The packet of this number, counted from 1.
-fn parcel_at(parcels: &[Parcel], number: u64) -> Option<&Parcel>
+fn parcel_at(parcels: &[SentPacket], number: u64) -> Option<&SentPacket>
     ensures { option_map (λ p. p.now) result ≡ parcel_at parcels.now number }
 {
     let index = number.checked_sub(1)?;
@@ -34,7 +34,7 @@ fn sender_of(counts: &[u64], number: u64) -> u32
 }
 
 /// The code of the packet of this number. 0 where there is none.
-fn code_at(parcels: &[Parcel], number: u64) -> u8
+fn code_at(parcels: &[SentPacket], number: u64) -> u8
     ensures { result ≡ code_at parcels.now number }
 {
     match parcel_at(parcels, number) {
@@ -44,7 +44,7 @@ fn code_at(parcels: &[Parcel], number: u64) -> u8
 }
 
 /// Where an event is. None where it delivers a packet that there isn't.
-fn core_of(parcels: &[Parcel], event: &Event) -> Option<Core>
+fn core_of(parcels: &[SentPacket], event: &Event) -> Option<Core>
     ensures { result ≡ core_of parcels.now event.now }
 {
     match event {
@@ -91,7 +91,7 @@ fn count_at(counts: &[u64], events: usize) -> usize
 }
 
 /// Whether a PANIC is among the packets behind the first `before`, up to the first `now`.
-fn has_panic(parcels: &[Parcel], before: usize, now: usize) -> bool
+fn has_panic(parcels: &[SentPacket], before: usize, now: usize) -> bool
     ensures { result ≡ has_panic parcels.now before now }
 {
     parcels
@@ -102,7 +102,7 @@ fn has_panic(parcels: &[Parcel], before: usize, now: usize) -> bool
 }
 
 /// The event after so many others.
-fn moment_of(told: &Told, earlier: usize, event: &Event) -> Moment
+fn moment_of(told: &Tale, earlier: usize, event: &Event) -> Moment
     requires { earlier < 2 ^ 31 }
     ensures { result ≡ moment_of told.now.counts.now told.now.parcels.now earlier event.now }
 {
@@ -129,7 +129,7 @@ fn keep<T: Drop>(all: &mut Vec<T>, value: Option<T>) -> Result<(), OutOfMemory>
 }
 
 /// The events of a run, one after another.
-fn moments(alloc: Global, told: &Told) -> Result<Vec<Moment>, OutOfMemory>
+fn moments(alloc: Global, told: &Tale) -> Result<Vec<Moment>, OutOfMemory>
     requires { length told.now.events.now < 2 ^ 31 }
     ensures moments { IfOk result (λ v. v.items ≡ moments_of told.now.events.now told.now.counts.now told.now.parcels.now) }
     ensures count { IfOk result (λ v. length v.items ≡ length told.now.events.now) }
@@ -143,7 +143,7 @@ fn moments(alloc: Global, told: &Told) -> Result<Vec<Moment>, OutOfMemory>
 }
 
 /// The arrow of a packet to the event of this number.
-fn arrow_to(told: &Told, number: u32, packet: u64) -> Arrow
+fn arrow_to(told: &Tale, number: u32, packet: u64) -> Arrow
     requires { length told.now.counts.now < 2 ^ 31 }
     ensures { result ≡ arrow_to told.now.counts.now told.now.parcels.now number packet }
 {
@@ -156,7 +156,7 @@ fn arrow_to(told: &Told, number: u32, packet: u64) -> Arrow
 }
 
 /// The arrow of the event of this number, if it delivers a packet.
-fn arrow_of(told: &Told, number: u32, event: &Event) -> Option<Arrow>
+fn arrow_of(told: &Tale, number: u32, event: &Event) -> Option<Arrow>
     requires { length told.now.counts.now < 2 ^ 31 }
     ensures { result ≡ arrow_of told.now.counts.now told.now.parcels.now number event.now }
 {
@@ -169,7 +169,7 @@ fn arrow_of(told: &Told, number: u32, event: &Event) -> Option<Arrow>
 }
 
 /// An arrow for each delivery, in the order of the events.
-fn arrows(alloc: Global, told: &Told) -> Result<Vec<Arrow>, OutOfMemory>
+fn arrows(alloc: Global, told: &Tale) -> Result<Vec<Arrow>, OutOfMemory>
     requires events { length told.now.events.now < 2 ^ 31 }
     requires counts { length told.now.counts.now < 2 ^ 31 }
     ensures { IfOk result (λ v. v.items ≡ arrows_of told.now.events.now told.now.counts.now told.now.parcels.now) }
@@ -201,7 +201,7 @@ fn is_delivered(events: &[Event], number: u64) -> bool
 }
 
 /// The stub of the packet of this number.
-fn stub_at(counts: &[u64], number: u64, parcel: &Parcel) -> Stub
+fn stub_at(counts: &[u64], number: u64, parcel: &SentPacket) -> Stub
     requires { length counts.now < 2 ^ 31 }
     ensures { result ≡ stub_at counts.now number parcel.now }
 {
@@ -214,7 +214,7 @@ fn stub_at(counts: &[u64], number: u64, parcel: &Parcel) -> Stub
 }
 
 /// The stub of the packet of this number, if no event delivers it.
-fn stub_of(told: &Told, number: u64, parcel: &Parcel) -> Option<Stub>
+fn stub_of(told: &Tale, number: u64, parcel: &SentPacket) -> Option<Stub>
     requires { length told.now.counts.now < 2 ^ 31 }
     ensures { result ≡ stub_of told.now.events.now told.now.counts.now number parcel.now }
 {
@@ -226,7 +226,7 @@ fn stub_of(told: &Told, number: u64, parcel: &Parcel) -> Option<Stub>
 }
 
 /// A stub for each packet that no event delivers, in the order of the packets.
-fn stubs(alloc: Global, told: &Told) -> Result<Vec<Stub>, OutOfMemory>
+fn stubs(alloc: Global, told: &Tale) -> Result<Vec<Stub>, OutOfMemory>
     requires parcels { length told.now.parcels.now < 2 ^ 63 }
     requires counts { length told.now.counts.now < 2 ^ 31 }
     ensures { IfOk result (λ v. v.items ≡ stubs_of told.now.events.now told.now.counts.now told.now.parcels.now) }
@@ -245,7 +245,7 @@ pub fn compose(
     alloc: Global,
     cluster: &Cluster,
     faulty: &[(Party, u8)],
-    told: &Told,
+    told: &Tale,
 ) -> Result<Picture, OutOfMemory>
     requires events { length told.now.events.now < 2 ^ 31 }
     requires counts { length told.now.counts.now < 2 ^ 31 }

@@ -6,7 +6,7 @@ use arrayvec::ArrayVec;
 
 /// A packet: to whom it was sent, and the code of its message, which is its first byte.
 #[derive(Clone, Copy)]
-pub struct Parcel {
+pub struct SentPacket {
     pub to: Party,
     pub code: u8,
 }
@@ -14,10 +14,10 @@ pub struct Parcel {
 /// What is told of a run: its events in their order, how many packets there were after each of them, the
 /// packets, the lines of its report and the premise line.
 #[derive(Drop)]
-pub struct Told<'a> {
+pub struct Tale<'a> {
     pub events: &'a [Event],
     pub counts: &'a [u64],
-    pub parcels: &'a [Parcel],
+    pub parcels: &'a [SentPacket],
     pub lines: &'a [Line],
     pub premise: Premise,
 }

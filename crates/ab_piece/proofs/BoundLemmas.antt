@@ -11,30 +11,31 @@ use Rattle.ab_num.specs.declared.party.Party.{Party}
 use Rattle.ab_num.specs.declared.party.Party.TheVariants.{Replica, Client}
 use Rattle.ab_num.specs.Parties.{party_eq}
 use Rattle.ab_num.proofs.PartyLemmas.{same_party, party_eq-refl}
+use Rattle.ab_num.proofs.Lists.{count_by-yes, count_by-no}
 use Rattle.ab_msg.specs.Fields.{IsParty}
 use Rattle.ab_piece.specs.Pieces.{Piece, IsPiece, each_from}
-use Rattle.ab_piece.specs.Joining.{Opened, Step, crowded_out, is_from, open_after, opened, step_of, with_body, with_room, without}
+use Rattle.ab_piece.specs.Joining.{OpenMessage, Joined, crowded_out, is_from, open_after, opened, step_of, with_body, with_room, without}
 use Rattle.ab_piece.specs.Bounds.{IsShort, kept_from, kept_of}
-use Rattle.ab_piece.proofs.CountLemmas.{count-yes, count-no, spread}
+use Rattle.ab_piece.proofs.CountLemmas.{spread}
 use Rattle.ab_piece.proofs.ReadLemmas.{body_short, piece_within}
 use Rattle.ab_piece.proofs.ChangeLemmas.{Change, alone, changes, completes, drops, extends, none_open, opens}
 
 -- ---- messages of a sender
 
-abbrev many : Party → List Opened → ℕ
+abbrev many : Party → List OpenMessage → ℕ
 many s os = count_by (is_from s) os
 
-abbrev Few : List Opened → Type 0
+abbrev Few : List OpenMessage → Type 0
 Few os = (s : Party) → many s os ≤ 8
 
-few_removed : (os : List Opened) (at : ℕ) (d : Opened) → at < length os → Few os → Few (remove os at)
-few_removed os at d lt few s = let e = sum_by-remove (λ (o : Opened). cond (is_from s o) 1 0) os at d lt in omega (arith, e, few s)
+few_removed : (os : List OpenMessage) (at : ℕ) (d : OpenMessage) → at < length os → Few os → Few (remove os at)
+few_removed os at d lt few s = let e = sum_by-remove (λ (o : OpenMessage). cond (is_from s o) 1 0) os at d lt in omega (arith, e, few s)
 
-few_set : (os : List Opened) (at : ℕ) (d : Opened) (index : ℕ) (body : List ℕ) → at < length os → Few os → Few (set os at (with_body (get_or os at d) index body))
+few_set : (os : List OpenMessage) (at : ℕ) (d : OpenMessage) (index : ℕ) (body : List ℕ) → at < length os → Few os → Few (set os at (with_body (get_or os at d) index body))
 few_set os at d index body lt few s =
-    let e = sum_by-set (λ (o : Opened). cond (is_from s o) 1 0) os at (with_body (get_or os at d) index body) d lt in omega (arith, e, few s)
+    let e = sum_by-set (λ (o : OpenMessage). cond (is_from s o) 1 0) os at (with_body (get_or os at d) index body) d lt in omega (arith, e, few s)
 
-module _ (os : List Opened) (p : Piece) (few : Few os) where
+module _ (os : List OpenMessage) (p : Piece) (few : Few os) where
   -- there is room for one more
   roomy : (b : Bool) → nat_lt (many p.sender os) 8 ≡ b → (place : Option ℕ) → position (is_from p.sender) os ≡ place → (s : Party) (c : Bool) → party_eq p.sender s ≡ c
       → many s (without (cond b None place) os) + cond c 1 0 ≤ 8
@@ -47,23 +48,23 @@ module _ (os : List Opened) (p : Piece) (few : Few os) where
       let enough = ltb-false (many p.sender os) 8 lt in absurd (omega (arith, none, enough))
   roomy false lt (Some at) e s true same =
       let f = position-Some (is_from p.sender) os at (opened p) e in
-      let r = sum_by-remove (λ (o : Opened). cond (is_from p.sender o) 1 0) os at (opened p) f.0 in
+      let r = sum_by-remove (λ (o : OpenMessage). cond (is_from p.sender o) 1 0) os at (opened p) f.0 in
       let here : ◌≡◌ {A = ℕ} (cond (is_from p.sender (get_or os at (opened p))) 1 0) 1 = ap (λ (b : Bool). cond b 1 0) f.1 in
       subst (λ (q : Party). many q (remove os at) + 1 ≤ 8) (same_party p.sender s same) (omega (arith, r, here, few p.sender))
   roomy false lt (Some at) e s false other =
       let f = position-Some (is_from p.sender) os at (opened p) e in
       let less = few_removed os at (opened p) f.0 few s in omega (arith, less)
 
-few_after : (bytes : List ℕ) (os : List Opened) (st : Step) → Few os → Change bytes os st → Few st.after
-few_after bytes os st few (drops c e) = subst (λ (t : Step). Few t.after) (sym e) few
-few_after bytes os st few (alone p is one e) = subst (λ (t : Step). Few t.after) (sym e) few
+few_after : (bytes : List ℕ) (os : List OpenMessage) (st : Joined) → Few os → Change bytes os st → Few st.after
+few_after bytes os st few (drops c e) = subst (λ (t : Joined). Few t.after) (sym e) few
+few_after bytes os st few (alone p is one e) = subst (λ (t : Joined). Few t.after) (sym e) few
 few_after bytes os st few (opens p is closed e) =
-    subst (λ (t : Step). Few t.after) (sym e)
+    subst (λ (t : Joined). Few t.after) (sym e)
     (λ s.
     let room = roomy os p few (nat_lt (many p.sender os) 8) refl (position (is_from p.sender) os) refl s (party_eq p.sender s) refl in
-    let sum = sum_by_push (λ (o : Opened). cond (is_from s o) 1 0) (with_room p.sender os) (opened p) in omega (arith, room, sum))
-few_after bytes os st few (extends p is at fills e) = subst (λ (t : Step). Few t.after) (sym e) (few_set os at (opened p) p.index p.body fills.within few)
-few_after bytes os st few (completes p is at fills last e) = subst (λ (t : Step). Few t.after) (sym e) (few_removed os at (opened p) fills.within few)
+    let sum = sum_by_push (λ (o : OpenMessage). cond (is_from s o) 1 0) (with_room p.sender os) (opened p) in omega (arith, room, sum))
+few_after bytes os st few (extends p is at fills e) = subst (λ (t : Joined). Few t.after) (sym e) (few_set os at (opened p) p.index p.body fills.within few)
+few_after bytes os st few (completes p is at fills last e) = subst (λ (t : Joined). Few t.after) (sym e) (few_removed os at (opened p) fills.within few)
 
 pub few_open : (ds : List (List ℕ)) → Few (open_after ds)
 few_open [] s = omega arith
@@ -85,29 +86,29 @@ short_opened p is =
       empty_short zero = All-nil (λ (b : Option (List ℕ)). length (unwrap_or b []) ≤ 8192)
       empty_short (suc n) = All-cons (λ (b : Option (List ℕ)). length (unwrap_or b []) ≤ 8192) None (replicate n None) (omega arith) (empty_short n)
 
-short_more : (o : Opened) (p : Piece) → IsPiece p → IsShort o → IsShort (with_body o p.index p.body)
+short_more : (o : OpenMessage) (p : Piece) → IsPiece p → IsShort o → IsShort (with_body o p.index p.body)
 short_more o p is short = record {
   sender = short.sender;
   places = omega (arith, short.places, length-set o.bodies p.index (Some p.body));
   bodies = All-set (λ (b : Option (List ℕ)). length (unwrap_or b []) ≤ 8192) o.bodies p.index (Some p.body) (body_short p is) short.bodies;
 }
 
-short_removed : (os : List Opened) (at : ℕ) → All IsShort os → All IsShort (remove os at)
+short_removed : (os : List OpenMessage) (at : ℕ) → All IsShort os → All IsShort (remove os at)
 short_removed os at all = All-append IsShort (take at os) (drop (suc at) os) (All-take IsShort at os all) (All-drop IsShort (suc at) os all)
 
-short_left : (os : List Opened) (at : Option ℕ) → All IsShort os → All IsShort (without at os)
+short_left : (os : List OpenMessage) (at : Option ℕ) → All IsShort os → All IsShort (without at os)
 short_left os None all = all
 short_left os (Some at) all = short_removed os at all
 
-short_after : (bytes : List ℕ) (os : List Opened) (st : Step) → All IsShort os → Change bytes os st → All IsShort st.after
-short_after bytes os st all (drops c e) = subst (λ (t : Step). All IsShort t.after) (sym e) all
-short_after bytes os st all (alone p is one e) = subst (λ (t : Step). All IsShort t.after) (sym e) all
+short_after : (bytes : List ℕ) (os : List OpenMessage) (st : Joined) → All IsShort os → Change bytes os st → All IsShort st.after
+short_after bytes os st all (drops c e) = subst (λ (t : Joined). All IsShort t.after) (sym e) all
+short_after bytes os st all (alone p is one e) = subst (λ (t : Joined). All IsShort t.after) (sym e) all
 short_after bytes os st all (opens p is closed e) =
-    subst (λ (t : Step). All IsShort t.after) (sym e) (All-push IsShort (with_room p.sender os) (opened p) (short_left os (crowded_out p.sender os) all) (short_opened p (piece_within bytes p is)))
+    subst (λ (t : Joined). All IsShort t.after) (sym e) (All-push IsShort (with_room p.sender os) (opened p) (short_left os (crowded_out p.sender os) all) (short_opened p (piece_within bytes p is)))
 short_after bytes os st all (extends p is at fills e) =
-    subst (λ (t : Step). All IsShort t.after) (sym e)
+    subst (λ (t : Joined). All IsShort t.after) (sym e)
     (All-set IsShort os at (with_body (get_or os at (opened p)) p.index p.body) (short_more (get_or os at (opened p)) p (piece_within bytes p is) (all at (opened p) fills.within)) all)
-short_after bytes os st all (completes p is at fills last e) = subst (λ (t : Step). All IsShort t.after) (sym e) (short_removed os at all)
+short_after bytes os st all (completes p is at fills last e) = subst (λ (t : Joined). All IsShort t.after) (sym e) (short_removed os at all)
 
 pub all_short : (ds : List (List ℕ)) → All IsShort (open_after ds)
 all_short [] = All-nil IsShort
@@ -115,21 +116,21 @@ all_short (bytes ∷ ds) = short_after bytes (open_after ds) (step_of (open_afte
 
 -- ---- bytes
 
-kept_short : (o : Opened) → IsShort o → kept_of o ≤ 4194304
+kept_short : (o : OpenMessage) → IsShort o → kept_of o ≤ 4194304
 kept_short o short = let sum = sum_by-le (λ (body : Option (List ℕ)). length (unwrap_or body [])) 8192 o.bodies short.bodies in let places = short.places in omega (arith, sum, places)
 
-kept_by : (s : Party) (os : List Opened) → All IsShort os → kept_from s os ≤ many s os * 4194304
+kept_by : (s : Party) (os : List OpenMessage) → All IsShort os → kept_from s os ≤ many s os * 4194304
 kept_by s [] all = omega arith
 kept_by s (o ∷ os) all =
     let rest = kept_by s os (All-tail IsShort o os all) in
     let here = kept_short o (All-head IsShort o os all) in
-    let sum = sum_by-cons (λ (q : Opened). cond (is_from s q) (kept_of q) 0) o os in
+    let sum = sum_by-cons (λ (q : OpenMessage). cond (is_from s q) (kept_of q) 0) o os in
     elim (cases_Bool (is_from s o)) [
       | inl holds ↦
-          (let count = count-yes (is_from s) o os holds in
+          (let count = count_by-yes (is_from s) o os holds in
           let mine : ◌≡◌ {A = ℕ} (cond (is_from s o) (kept_of o) 0) (kept_of o) = ap (λ (b : Bool). cond b (kept_of o) 0) holds in omega (arith, rest, here, sum, count, mine))
       | inr fails ↦
-          (let count = count-no (is_from s) o os fails in
+          (let count = count_by-no (is_from s) o os fails in
           let other : ◌≡◌ {A = ℕ} (cond (is_from s o) (kept_of o) 0) 0 = ap (λ (b : Bool). cond b (kept_of o) 0) fails in omega (arith, rest, sum, count, other))
     ]
 
@@ -162,12 +163,12 @@ listed (Client c) h =
     let m = met (λ q. party_eq (Client c) q) Client 0 16 c (omega arith) (omega (arith, h.1)) (party_eq-refl (Client c)) in
     let sum = sum_by-append (λ (q : Party). cond (party_eq (Client c) q) 1 0) (each_from Replica 0 7) (each_from Client 0 16) in omega (arith, m, sum)
 
-abbrev any : Opened → Bool
+abbrev any : OpenMessage → Bool
 any o = true
 
-counted : (os : List Opened) → count_by any os ≡ length os
+counted : (os : List OpenMessage) → count_by any os ≡ length os
 counted [] = refl
-counted (o ∷ os) = let one = count-yes any o os refl in let rest = counted os in omega arith
+counted (o ∷ os) = let one = count_by-yes any o os refl in let rest = counted os in omega arith
 
 few_all : (ds : List (List ℕ)) → length (open_after ds) ≤ 184
 few_all ds =

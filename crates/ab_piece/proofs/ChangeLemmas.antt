@@ -10,11 +10,11 @@ use Rattle.ab_form.specs.declared.bad.Bad.{Bad}
 use Rattle.ab_piece.specs.declared.taken.DropCause.{DropCause}
 use Rattle.ab_piece.specs.declared.taken.DropCause.TheVariants as cause
 use Rattle.ab_piece.specs.Pieces.{Piece, piece_of}
-use Rattle.ab_piece.specs.Joining.{Opened, Step, further_step, is_of, message_of, missing, dropped, more, opened, opening_step, piece_step, step, step_of, whole, with_body, with_room}
+use Rattle.ab_piece.specs.Joining.{OpenMessage, Joined, further_step, is_of, message_of, missing, dropped, more, opened, opening_step, piece_step, step, step_of, whole, with_body, with_room}
 use Rattle.ab_piece.proofs.CountLemmas.{nowhere}
 
 -- the piece belongs to the open message at this place, and isn't there yet
-pub record Fills (p : Piece) (os : List Opened) (at : ℕ) : Type 0 where
+pub record Fills (p : Piece) (os : List OpenMessage) (at : ℕ) : Type 0 where
   pub within : at < length os
   pub sender : (get_or os at (opened p)).sender ≡ p.sender
   pub number : (get_or os at (opened p)).number ≡ p.number
@@ -22,7 +22,7 @@ pub record Fills (p : Piece) (os : List Opened) (at : ℕ) : Type 0 where
   pub empty : is_some (get_or (get_or os at (opened p)).bodies p.index None) ≡ false
 
 -- the five ways in which a datagram may be taken
-pub data Change (bytes : List ℕ) (os : List Opened) (s : Step) : Type 0 where
+pub data Change (bytes : List ℕ) (os : List OpenMessage) (s : Joined) : Type 0 where
   drops : (c : DropCause) → s ≡ step (dropped c) os → Change bytes os s
   alone : (p : Piece) → piece_of bytes ≡ Ok p → p.count ≡ 1 → s ≡ step (whole p.body) os → Change bytes os s
   opens : (p : Piece) → piece_of bytes ≡ Ok p → count_by (is_of p.sender p.number) os ≡ 0 → s ≡ step more (with_room p.sender os ++ opened p ∷ []) → Change bytes os s
@@ -34,10 +34,10 @@ unplaced : (b : Bool) (n : ℕ) → cond b (Some n) None ≡ None → b ≡ fals
 unplaced true n e = cc
 unplaced false n e = refl
 
-pub none_open : (test : Opened → Bool) (os : List Opened) → position test os ≡ None → count_by test os ≡ 0
+pub none_open : (test : OpenMessage → Bool) (os : List OpenMessage) → position test os ≡ None → count_by test os ≡ 0
 none_open test os e = nowhere test os (ltb-false (position_or_len test os) (length os) (unplaced (nat_lt (position_or_len test os) (length os)) (position_or_len test os) e))
 
-module _ (os : List Opened) (bytes : List ℕ) (p : Piece) (is : piece_of bytes ≡ Ok p) where
+module _ (os : List OpenMessage) (bytes : List ℕ) (p : Piece) (is : piece_of bytes ≡ Ok p) where
   opening : count_by (is_of p.sender p.number) os ≡ 0 → (b : Bool) → (p.count == 1) ≡ b
       → Change bytes os (cond b (step (whole p.body) os) (step more (with_room p.sender os ++ opened p ∷ [])))
   opening closed true e = alone p is (eqb-true p.count 1 e) refl
@@ -65,11 +65,11 @@ module _ (os : List Opened) (bytes : List ℕ) (p : Piece) (is : piece_of bytes 
       let t = and_parts (party_eq o.sender p.sender) (o.number == p.number) f.1 in
       further at f.0 (same_party o.sender p.sender t.0) (eqb-true o.number p.number t.1) (length o.bodies == p.count) (is_some (get_or o.bodies p.index None)) (missing o.bodies == 1) refl refl refl
 
-by_bytes : (os : List Opened) (bytes : List ℕ) (r : Result Piece Bad) → piece_of bytes ≡ r
+by_bytes : (os : List OpenMessage) (bytes : List ℕ) (r : Result Piece Bad) → piece_of bytes ≡ r
     → Change bytes os (elim r [ Ok p ↦ piece_step os p | Err bad ↦ step (dropped cause.Header) os ])
 by_bytes os bytes (Ok p) is = by_piece os bytes p is (position (is_of p.sender p.number) os) refl
 by_bytes os bytes (Err bad) is = drops cause.Header refl
 
-pub changes : (os : List Opened) (bytes : List ℕ) → Change bytes os (step_of os bytes)
+pub changes : (os : List OpenMessage) (bytes : List ℕ) → Change bytes os (step_of os bytes)
 unfolding step_of
 changes os bytes = by_bytes os bytes (piece_of bytes) refl

@@ -1,16 +1,11 @@
 -- Counts over lists.
-use Rattle.std.proofs.Common.{◌≡◌, inl, inr, ℕ, zero, suc, ◌+◌, ◌<◌, ◌≤◌, List, [], ◌∷◌, ◌++◌, length, get_or, Bool, true, false, cond, nat_eq, refl, ap, sym, ◌∙◌, arith, zero-add}
+use Rattle.std.proofs.Common.{◌≡◌, inl, inr, ℕ, zero, suc, ◌+◌, ◌<◌, ◌≤◌, List, [], ◌∷◌, ◌++◌, length, get_or, Bool, true, false, cond, nat_eq, refl, ap, sym, ◌∙◌, arith}
 use Rattle.std.specs.Prelude.{Contains}
 use Rattle.std.specs.List.{All, count_by, sum_by, position_or_len}
 use Rattle.std.proofs.lemmas.Bool.{cases_Bool, eq-eqb}
 use Rattle.std.proofs.lemmas.List.Elements.{All-head, All-tail}
 use Rattle.std.proofs.lemmas.List.Sums.{sum_by-append, sum_by-cons, sum_by-remove}
-
-pub count-yes : {X : Type 0} (p : X → Bool) (x : X) (xs : List X) → p x ≡ true → count_by p (x ∷ xs) ≡ 1 + count_by p xs
-count-yes p x xs is = sum_by-cons (λ y. cond (p y) 1 0) x xs ∙ ap (λ b. cond b 1 0 + count_by p xs) is
-
-pub count-no : {X : Type 0} (p : X → Bool) (x : X) (xs : List X) → p x ≡ false → count_by p (x ∷ xs) ≡ count_by p xs
-count-no p x xs is = sum_by-cons (λ y. cond (p y) 1 0) x xs ∙ (ap (λ b. cond b 1 0 + count_by p xs) is ∙ zero-add (count_by p xs))
+use Rattle.ab_num.proofs.Lists.{count_by-yes, count_by-no}
 
 -- a list in three parts
 pub count-seam : {X : Type 0} (p : X → Bool) (front : List X) (x : X) (behind : List X) → count_by p (front ++ x ∷ behind) ≡ count_by p front + (cond (p x) 1 0 + count_by p behind)
@@ -24,7 +19,7 @@ nowhere p [] le = refl
 nowhere p (x ∷ xs) le =
     elim (cases_Bool (p x)) [
       | inl holds ↦ (let zero_place : suc (length xs) ≤ 0 = rw holds at le in absurd (omega arith))
-      | inr fails ↦ (let later : suc (length xs) ≤ 1 + position_or_len p xs = rw fails at le in count-no p x xs fails ∙ nowhere p xs (omega arith))
+      | inr fails ↦ (let later : suc (length xs) ≤ 1 + position_or_len p xs = rw fails at le in count_by-no p x xs fails ∙ nowhere p xs (omega arith))
     ]
 
 -- behind a front of which none passes, the first that passes is the one at the seam
@@ -32,8 +27,8 @@ pub place-seam : {X : Type 0} (p : X → Bool) (front : List X) (x : X) (behind 
 place-seam p [] x behind none is = rw is refl
 place-seam p (y ∷ front) x behind none is =
     elim (cases_Bool (p y)) [
-      | inl holds ↦ (let one = count-yes p y front holds in absurd (omega arith))
-      | inr fails ↦ (let rest = place-seam p front x behind (sym (count-no p y front fails) ∙ none) is in rw fails (omega (arith, rest)))
+      | inl holds ↦ (let one = count_by-yes p y front holds in absurd (omega arith))
+      | inr fails ↦ (let rest = place-seam p front x behind (sym (count_by-no p y front fails) ∙ none) is in rw fails (omega (arith, rest)))
     ]
 
 -- where some of the front pass, the first that passes is in it
@@ -42,7 +37,7 @@ place-front p [] behind some = absurd (omega arith)
 place-front p (y ∷ front) behind some =
     elim (cases_Bool (p y)) [
       | inl holds ↦ rw holds (omega arith)
-      | inr fails ↦ (let one = count-no p y front fails in let rest = place-front p front behind (omega arith) in rw fails (omega arith))
+      | inr fails ↦ (let one = count_by-no p y front fails in let rest = place-front p front behind (omega arith) in rw fails (omega arith))
     ]
 
 -- where none of the front passes, that at a place in it doesn't
@@ -50,13 +45,13 @@ pub fails-front : {X : Type 0} (p : X → Bool) (front behind : List X) (k : ℕ
 fails-front p [] behind k d none lt = absurd (omega arith)
 fails-front p (y ∷ front) behind zero d none lt =
     elim (cases_Bool (p y)) [
-      | inl holds ↦ (let one = count-yes p y front holds in absurd (omega arith))
+      | inl holds ↦ (let one = count_by-yes p y front holds in absurd (omega arith))
       | inr fails ↦ fails
     ]
 fails-front p (y ∷ front) behind (suc k) d none lt =
     elim (cases_Bool (p y)) [
-      | inl holds ↦ (let one = count-yes p y front holds in absurd (omega arith))
-      | inr fails ↦ fails-front p front behind k d (sym (count-no p y front fails) ∙ none) (omega arith)
+      | inl holds ↦ (let one = count_by-yes p y front holds in absurd (omega arith))
+      | inr fails ↦ fails-front p front behind k d (sym (count_by-no p y front fails) ∙ none) (omega arith)
     ]
 
 -- ---- sums over two lists
@@ -84,8 +79,8 @@ spread p has ks (x ∷ xs) each =
     = ap (λ f. sum_by f ks) (λ j k. sum_by-cons (λ y. cond (has k y) 1 0) x xs j) in
     let parts = sum_by-plus (λ k. cond (has k x) 1 0) (λ k. count_by (has k) xs) ks in
     elim (cases_Bool (p x)) [
-      | inl holds ↦ (let one = count-yes p x xs holds in let some = here holds in omega (arith, one, some, steps, parts, rest))
-      | inr fails ↦ (let one = count-no p x xs fails in omega (arith, one, steps, parts, rest))
+      | inl holds ↦ (let one = count_by-yes p x xs holds in let some = here holds in omega (arith, one, some, steps, parts, rest))
+      | inr fails ↦ (let one = count_by-no p x xs fails in omega (arith, one, steps, parts, rest))
     ]
 
 -- what is contained is counted

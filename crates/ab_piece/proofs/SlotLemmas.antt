@@ -6,9 +6,9 @@ use Rattle.std.proofs.lemmas.Bool.{cases_Bool, eqb-false}
 use Rattle.std.proofs.lemmas.List.{drop-drop, length-replicate, take_all}
 use Rattle.std.proofs.lemmas.List.Folds.{sum_by-replicate}
 use Rattle.std.proofs.lemmas.List.Sums.{sum_by-set}
+use Rattle.ab_num.proofs.Lists.{count_by-no, count_by-yes}
 use Rattle.ab_piece.specs.Pieces.{count_of, part_at}
 use Rattle.ab_piece.specs.Joining.{message_of, missing}
-use Rattle.ab_piece.proofs.CountLemmas.{count-no, count-yes}
 use Rattle.ab_piece.proofs.WholeLemmas.{all_there}
 
 abbrev nobody : Option (List ℕ)
@@ -34,10 +34,10 @@ module _ (m : List ℕ) where
   slot_empty [] i none = nothing_there (count_of (length m)) i
   slot_empty (j ∷ b) i none =
       elim (cases_Bool (nat_eq i j)) [
-        | inl same ↦ (let one = count-yes (nat_eq i) j b same in absurd (omega arith))
+        | inl same ↦ (let one = count_by-yes (nat_eq i) j b same in absurd (omega arith))
         | inr differs ↦
             (let other : i ≢ j = eqb-false i j differs in
-            get_or-set_other (slots b) j i (Some (part_at m j)) None other ∙ slot_empty b i (sym (count-no (nat_eq i) j b differs) ∙ none))
+            get_or-set_other (slots b) j i (Some (part_at m j)) None other ∙ slot_empty b i (sym (count_by-no (nat_eq i) j b differs) ∙ none))
       ]
 
   -- what is there is the message's part

@@ -9,7 +9,7 @@ use Rattle.std.proofs.lemmas.List.Folds.{flat_map-map}
 use Rattle.std.proofs.lemmas.List.{get_or-map, length-map, length-replicate}
 use Rattle.ab_piece.specs.declared.taken.DropCause.{DropCause}
 use Rattle.ab_piece.specs.Pieces.{Piece, piece_of}
-use Rattle.ab_piece.specs.Joining.{Opened, Step, crowded_out, dropped, message_of, missing, more, open_after, opened, step_of, whole, with_body, with_room, without}
+use Rattle.ab_piece.specs.Joining.{OpenMessage, Joined, crowded_out, dropped, message_of, missing, more, open_after, opened, step_of, whole, with_body, with_room, without}
 use Rattle.ab_piece.specs.Wholes.{Came, IsWholeOf}
 use Rattle.ab_piece.proofs.ReadLemmas.{index_below, piece_within}
 use Rattle.ab_piece.proofs.ChangeLemmas.{Change, alone, changes, completes, drops, extends, opens}
@@ -19,17 +19,17 @@ false_true e = cc
 
 -- ---- bodies that came
 
-abbrev piece_in : Opened → ℕ → List ℕ → Piece
+abbrev piece_in : OpenMessage → ℕ → List ℕ → Piece
 piece_in o i body = record { sender = o.sender; number = o.number; index = i; count = length o.bodies; body = body }
 
-abbrev Holds : List (List ℕ) → Opened → Type 0
+abbrev Holds : List (List ℕ) → OpenMessage → Type 0
 Holds ds o = (i : ℕ) (body : List ℕ) → i < length o.bodies → get_or o.bodies i None ≡ Some body → Came ds (piece_in o i body)
 
 some_same : (a b : List ℕ) → Some a ≡ Some b → a ≡ b
 some_same a b e = cc
 
 -- the body that came now, and one that came before
-pub put_by : (ds : List (List ℕ)) (bytes : List ℕ) (o : Opened) (p : Piece) → piece_of bytes ≡ Ok p → p.sender ≡ o.sender → p.number ≡ o.number → p.count ≡ length o.bodies
+pub put_by : (ds : List (List ℕ)) (bytes : List ℕ) (o : OpenMessage) (p : Piece) → piece_of bytes ≡ Ok p → p.sender ≡ o.sender → p.number ≡ o.number → p.count ≡ length o.bodies
     → Holds ds o → (i : ℕ) (body : List ℕ) → i < length o.bodies → (b : Bool) → nat_eq i p.index ≡ b → get_or (set o.bodies p.index (Some p.body)) i None ≡ Some body
     → Came (bytes ∷ ds) (piece_in o i body)
 put_by ds bytes o p is s n c holds i body lt true same e =
@@ -45,14 +45,14 @@ put_by ds bytes o p is s n c holds i body lt false other e =
 none_some : (a : List ℕ) → None ≡ Some a → ⊥
 none_some a e = cc
 
-put_holds : (ds : List (List ℕ)) (bytes : List ℕ) (o : Opened) (p : Piece) → piece_of bytes ≡ Ok p → p.sender ≡ o.sender → p.number ≡ o.number → p.count ≡ length o.bodies
+put_holds : (ds : List (List ℕ)) (bytes : List ℕ) (o : OpenMessage) (p : Piece) → piece_of bytes ≡ Ok p → p.sender ≡ o.sender → p.number ≡ o.number → p.count ≡ length o.bodies
     → Holds ds o → Holds (bytes ∷ ds) (with_body o p.index p.body)
 put_holds ds bytes o p is s n c holds i body lt e =
     let same : length (set o.bodies p.index (Some p.body)) ≡ length o.bodies = length-set o.bodies p.index (Some p.body) in
     let came = put_by ds bytes o p is s n c holds i body (subst (λ (k : ℕ). i < k) same lt) (nat_eq i p.index) refl e in
     subst (λ (k : ℕ). Came (bytes ∷ ds) (record { sender = o.sender; number = o.number; index = i; count = k; body = body })) (sym same) came
 
-later_holds : (ds : List (List ℕ)) (bytes : List ℕ) (os : List Opened) → All (Holds ds) os → All (Holds (bytes ∷ ds)) os
+later_holds : (ds : List (List ℕ)) (bytes : List ℕ) (os : List OpenMessage) → All (Holds ds) os → All (Holds (bytes ∷ ds)) os
 later_holds ds bytes os all k d lt i body within e = inr (all k d lt i body within e)
 
 abbrev nobody : Option (List ℕ)
@@ -91,7 +91,7 @@ last_one bodies i body lt gone one =
     let here : f (get_or bodies i None) ≡ 1 = ap f (absent (get_or bodies i None) gone) in
     omega (arith, counts, here, one)
 
-whole_of : (ds : List (List ℕ)) (bytes : List ℕ) (o : Opened) (p : Piece) → piece_of bytes ≡ Ok p → p.sender ≡ o.sender → p.number ≡ o.number → p.count ≡ length o.bodies
+whole_of : (ds : List (List ℕ)) (bytes : List ℕ) (o : OpenMessage) (p : Piece) → piece_of bytes ≡ Ok p → p.sender ≡ o.sender → p.number ≡ o.number → p.count ≡ length o.bodies
     → Holds ds o → missing (set o.bodies p.index (Some p.body)) ≡ 0 → IsWholeOf (bytes ∷ ds) (message_of (set o.bodies p.index (Some p.body)))
 whole_of ds bytes o p is s n c holds none =
     let bodies = set o.bodies p.index (Some p.body) in
@@ -123,7 +123,7 @@ single ds bytes p is lt one = record {
 
 -- ---- steps
 
-record Good (ds : List (List ℕ)) (s : Step) : Type 0 where
+record Good (ds : List (List ℕ)) (s : Joined) : Type 0 where
   held : All (Holds ds) s.after
   all_came : (m : List ℕ) → s.answer ≡ whole m → IsWholeOf ds m
 
@@ -136,14 +136,14 @@ not_more m e = cc
 not_dropped : (m : List ℕ) (c : DropCause) → dropped c ≡ whole m → ⊥
 not_dropped m c e = cc
 
-removed : (ds : List (List ℕ)) (os : List Opened) (at : ℕ) → All (Holds ds) os → All (Holds ds) (remove os at)
+removed : (ds : List (List ℕ)) (os : List OpenMessage) (at : ℕ) → All (Holds ds) os → All (Holds ds) (remove os at)
 removed ds os at all = All-append (Holds ds) (take at os) (drop (suc at) os) (All-take (Holds ds) at os all) (All-drop (Holds ds) (suc at) os all)
 
-left_held : (ds : List (List ℕ)) (os : List Opened) (at : Option ℕ) → All (Holds ds) os → All (Holds ds) (without at os)
+left_held : (ds : List (List ℕ)) (os : List OpenMessage) (at : Option ℕ) → All (Holds ds) os → All (Holds ds) (without at os)
 left_held ds os None all = all
 left_held ds os (Some at) all = removed ds os at all
 
-good : (ds : List (List ℕ)) (bytes : List ℕ) (os : List Opened) (s : Step) → All (Holds ds) os → Change bytes os s → Good (bytes ∷ ds) s
+good : (ds : List (List ℕ)) (bytes : List ℕ) (os : List OpenMessage) (s : Joined) → All (Holds ds) os → Change bytes os s → Good (bytes ∷ ds) s
 good ds bytes os s all (drops c e) = subst (Good (bytes ∷ ds)) (sym e) (record { held = later_holds ds bytes os all; all_came = λ m w. absurd (not_dropped m c w) })
 good ds bytes os s all (alone p is one e) =
     subst (Good (bytes ∷ ds)) (sym e)

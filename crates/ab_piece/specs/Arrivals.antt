@@ -3,7 +3,7 @@ use Rattle.std.specs.Prelude.{◌≡◌, ◌≢◌, ℕ, ◌-◌, ◌<◌, List,
 use Rattle.std.specs.List.{count_by}
 use Rattle.ab_num.specs.declared.party.Party.{Party}
 use Rattle.ab_piece.specs.Pieces.{Piece, IsCut, count_of, each_from, piece_of}
-use Rattle.ab_piece.specs.Joining.{Answer, Opened, is_of, more, step_of, whole}
+use Rattle.ab_piece.specs.Joining.{Answer, OpenMessage, is_of, more, step_of, whole}
 
 -- what comes: a piece of the message, by its index, or another datagram
 pub data Arrival : Type 0 where
@@ -17,7 +17,7 @@ indices (own i ∷ later) = i ∷ indices later
 indices (other bytes ∷ later) = indices later
 
 -- what is answered to the pieces, in the same order
-abbrev pub answers : (ℕ → List ℕ) → List Opened → List Arrival → List Answer
+abbrev pub answers : (ℕ → List ℕ) → List OpenMessage → List Arrival → List Answer
 answers piece messages [] = []
 answers piece messages (own i ∷ later) = (step_of messages (piece i)).answer ∷ answers piece (step_of messages (piece i)).after later
 answers piece messages (other bytes ∷ later) = answers piece (step_of messages bytes).after later
@@ -50,5 +50,5 @@ abbrev pub expected : List ℕ → List Answer
 expected message = replicate (count_of (length message) - 1) more ++ whole message ∷ []
 
 -- none of the open messages is this sender's of this number
-abbrev pub IsClosed : Party → ℕ → List Opened → Type 0
+abbrev pub IsClosed : Party → ℕ → List OpenMessage → Type 0
 IsClosed sender number messages = count_by (is_of sender number) messages ≡ 0

@@ -5,7 +5,7 @@ ghost use Rattle.std.specs.List.{count_by, position};
 ghost use Rattle.ab_piece.specs.Views.{piece};
 ghost use Rattle.ab_piece.specs.Joining.{answer_of, crowded_out, further_step, is_from, is_of, opened, opening_step, step_of, without};
 
-use crate::opened::OpenMessage;
+use crate::open_message::OpenMessage;
 use crate::reading::{PieceRef, read_piece};
 use crate::taken::{DropCause, Taken};
 use ab_num::{OutOfMemory, Party};
@@ -24,7 +24,7 @@ pub struct Joiner {
 /// It is seen as the list of the open messages. The one whose first piece came first is at the front.
 impl Model for Joiner {
     ghost use Rattle.std.specs.Prelude.{List};
-    ghost use Rattle.ab_piece.specs.Joining.{Opened};
+    ghost use Rattle.ab_piece.specs.Joining.{OpenMessage as Opened};
 
     ghost Value = { List Opened };
 

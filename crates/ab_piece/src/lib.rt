@@ -5,7 +5,7 @@ mod cutting;
 mod datagram;
 mod joiner;
 mod laws;
-mod opened;
+mod open_message;
 mod reading;
 mod taken;
 

@@ -3,7 +3,7 @@ use Rattle.std.proofs.Common.{◌≡◌, true, Some, List, [], ◌∷◌, map, r
 use Rattle.ab_svc.specs.Machines.{Machine}
 use Rattle.ab_msg.specs.declared.message.Msg.{Msg}
 use Rattle.ab_abs.specs.Messages.{took}
-use Rattle.ab_order.specs.Inputs.{Input}
+use Rattle.ab_order.specs.Inputs.{Reading}
 use Rattle.ab_order.specs.Readings.{read}
 use Rattle.ab_order.specs.Backups.{Backing, is_done}
 use Rattle.ab_order.specs.Protos.{OrderProto, Obeys, told, backup}
@@ -15,7 +15,7 @@ use Rattle.ab_run.specs.Examples.{one}
 use Rattle.ab_plans.specs.Examples.{cluster, messages, no_pen, after_all, primary}
 
 module _ {S P : Type 0} (machine : Machine S) (orders : OrderProto P Pbft) (obeys : Obeys orders pbft) where
-  abbrev read_all : List Msg → List Input
+  abbrev read_all : List Msg → List Reading
   read_all all = map (λ m. read cluster 1 (took m)) all
 
   -- it is in instance 1, of which it orders one request, and the rules see this

@@ -23,7 +23,7 @@ use Rattle.ab_pbft_rules.specs.Standing.{PbftStands}
 use Rattle.ab_pbft_rules.proofs.OrderlyOrderer.{pbft_orderly}
 use Rattle.ab_pbft_rules.proofs.LawfulOrderer.{pbft_lawful}
 use Rattle.ab_zlight.specs.Rules.{is_zlight}
-use Rattle.ab_run.specs.Setups.{Setup}
+use Rattle.ab_run.specs.Setups.{RunSetup}
 use Rattle.ab_run.specs.Runs.{Event, run, named_by}
 use Rattle.ab_run.specs.Premises.{RunPremises, AreFormed}
 use Rattle.ab_run.proofs.Events.{whole_run_abstract, whole_run_ordered}
@@ -32,7 +32,7 @@ use Rattle.ab_plans.specs.Runs.{with_backup, served, is_fast}
 use Rattle.ab_plans.proofs.Choosing.{choice_law}
 
 module _ {S P : Type 0} (machine : Machine S) (proto : Proto P) (serves : Kind → Bool) (sound : Setting → List Act → Type 0) (stands : Setting → P → ℕ → List Act → Type 0) (law : IsLawfulProto machine proto serves sound stands)
-    (k : Setup) (events : List Event) (all : ServesAll serves k.cluster) (formed : AreFormed k events) (premises : RunPremises k proto events) where
+    (k : RunSetup) (events : List Event) (all : ServesAll serves k.cluster) (formed : AreFormed k events) (premises : RunPremises k proto events) where
   pub lawful_ordered : Ordered machine (run k proto events).seen (named_by k (run k proto events)) k.faulty
   lawful_ordered =
       whole_run_ordered machine k proto serves (record { form = law.placed; all = all }) events formed premises
@@ -62,7 +62,7 @@ module _ {S Q : Type 0} (machine : Machine S) (orders : OrderProto Q Pbft) (obey
 
   -- beside a lawful protocol
   module _ {P : Type 0} (proto : Proto P) (serves : Kind → Bool) (sound : Setting → List Act → Type 0) (stands : Setting → P → ℕ → List Act → Type 0) (law : IsLawfulProto machine proto serves sound stands)
-      (k : Setup) (events : List Event) (all : ServesAll (served serves) k.cluster) (formed : AreFormed k events) (premises : RunPremises k (with_backup machine proto serves orders) events) where
+      (k : RunSetup) (events : List Event) (all : ServesAll (served serves) k.cluster) (formed : AreFormed k events) (premises : RunPremises k (with_backup machine proto serves orders) events) where
     with_law : IsLawfulProto machine (with_backup machine proto serves orders) (served serves) (sound_by serves sound (backup_sound machine IsPbftSound)) (stands_by serves stands (backup_stands orders pbft PbftStands))
     with_law = choice_law machine proto (backup orders pbft machine) serves is_backup sound (backup_sound machine IsPbftSound) stands (backup_stands orders pbft PbftStands) law backup_law
 

@@ -4,7 +4,7 @@ use Rattle.ab_num.specs.declared.plan.Kind.{Kind}
 use Rattle.ab_svc.specs.Machines.{Machine}
 use Rattle.ab_abs.specs.Ensembles.{Proto}
 use Rattle.ab_abs.specs.Members.{Member}
-use Rattle.ab_chain.specs.Rules.{Link, is_chain, chain}
+use Rattle.ab_chain.specs.Rules.{ChainState, is_chain, chain}
 use Rattle.ab_quorum.specs.Rules.{is_quorum, quorum}
 use Rattle.ab_zlight.specs.Rules.{Light, is_zlight, zlight}
 use Rattle.ab_plans.specs.declared.choice.Choice.{Choice}
@@ -28,5 +28,5 @@ azyzzyva machine orders = with_backup machine (zlight machine) is_zlight orders
 abbrev pub is_fast : Kind → Bool
 is_fast = either is_quorum is_chain
 
-abbrev pub aliph : {S Q : Type 0} → Machine S → OrderProto Q Pbft → Proto (Choice (Choice Member Link) (Backing Q))
+abbrev pub aliph : {S Q : Type 0} → Machine S → OrderProto Q Pbft → Proto (Choice (Choice Member ChainState) (Backing Q))
 aliph machine orders = with_backup machine (choice (quorum machine) (chain machine) is_quorum) is_fast orders

@@ -1,5 +1,5 @@
 -- The premise line of a run is the one that a program tells.
-use Rattle.std.proofs.Common.{◌≡◌, ℕ, zero, suc, ◌≤◌, ◌<◌, ◌↔◌, true, false, Bool, Some, None, Option, List, [], ◌∷◌, ◌++◌, length, map, refl, sym, ap, ◌∙◌, subst, inl, inr, arith, append_assoc, length-append}
+use Rattle.std.proofs.Common.{◌≡◌, ℕ, ◌≤◌, ◌<◌, ◌↔◌, true, false, Bool, Some, None, Option, List, [], ◌∷◌, ◌++◌, length, map, refl, sym, ap, ◌∙◌, subst, inl, inr, arith, append_assoc, length-append}
 use Rattle.std.specs.Prelude.{Contains, nat_le, nat_lt, count_by, slice_get, if◌then◌else◌}
 use Rattle.std.specs.List.{filter}
 use Rattle.std.proofs.lemmas.Bool.{cases_Bool, cases_lt, leb-true, leb-false, le-leb, lt-leb, ltb-true}
@@ -8,6 +8,7 @@ use Rattle.std.proofs.lemmas.List.Sums.{length-filter}
 use Rattle.std.proofs.lemmas.List.Elements.{Contains-append_right}
 use Rattle.ab_num.specs.declared.party.Party.{Party}
 use Rattle.ab_num.specs.declared.party.Party.TheVariants.{Replica, Client}
+use Rattle.ab_num.proofs.Lists.{slice_get_there, Contains-head}
 use Rattle.ab_hist.specs.declared.request.Request.{Request}
 use Rattle.ab_text.specs.declared.line.Breach.TheVariants.{Forged, Collision as Collided}
 use Rattle.ab_text.specs.declared.line.Premise.{Premise}
@@ -16,8 +17,7 @@ use Rattle.ab_msg.specs.Carried.{is_replica}
 use Rattle.ab_abs.specs.Messages.{Call, took, timed}
 use Rattle.ab_abs.specs.Ensembles.{Proto}
 use Rattle.ab_links.specs.Digested.{HasNoCollision}
-use Rattle.ab_links.proofs.ListLemmas.{Contains-head}
-use Rattle.ab_run.specs.Setups.{Setup, replicas}
+use Rattle.ab_run.specs.Setups.{RunSetup, replicas}
 use Rattle.ab_run.specs.Runs.{Event, invoke, to_replica, to_client, replica_time, client_time, Run, run, step}
 use Rattle.ab_run.specs.Local.{Cue, cue_command, cue_message, cue_time}
 use Rattle.ab_run.specs.Premises.{IsHonestRun, checked}
@@ -31,15 +31,10 @@ use Rattle.ab_premise.specs.Premises.{passing, first_premise, faulty_premise, Is
 
 -- ---- how many are faulty
 
-get_there : {A : Type 0} (xs : List A) (i : ℕ) → i < length xs → (x : A) × (slice_get xs i ≡ Some x)
-get_there [] i lt = absurd (omega arith)
-get_there (x ∷ xs) zero lt = (x, refl)
-get_there (x ∷ xs) (suc i) lt = get_there xs i (omega arith)
-
 none_past : {A : Type 0} (xs : List A) (i : ℕ) → slice_get xs i ≡ None → length xs ≤ i
 none_past xs i none =
     elim (cases_lt i (length xs)) [
-      | inl lt ↦ let there = get_there xs i lt in let e : None ≡ Some there.0 = sym none ∙ there.1 in absurd (cc (e))
+      | inl lt ↦ let there = slice_get_there xs i lt in let e : None ≡ Some there.0 = sym none ∙ there.1 in absurd (cc (e))
       | inr ge ↦ ge
     ]
 
@@ -64,7 +59,7 @@ seam : {A : Type 0} (p : List A) (x : A) (rest : List A) → p ++ x ∷ rest ≡
 seam [] x rest = refl
 seam (y ∷ p) x rest = ap (λ l. y ∷ l) (seam p x rest)
 
-module _ {P : Type 0} (k : Setup) (proto : Proto P) where
+module _ {P : Type 0} (k : RunSetup) (proto : Proto P) where
   -- what was had and asked stays
   record Wider (w v : Run P) : Type 0 where
     had : (h : List Request) → Contains w.had h → Contains v.had h

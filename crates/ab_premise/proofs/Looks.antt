@@ -8,6 +8,7 @@ use Rattle.std.proofs.lemmas.List.Elements.{Contains-append_left, Contains-appen
 use Rattle.ab_num.specs.declared.party.Party.{Party}
 use Rattle.ab_num.specs.declared.plan.Kind.{Kind}
 use Rattle.ab_num.specs.declared.party.Party.TheVariants.{Replica, Client}
+use Rattle.ab_num.proofs.Lists.{Contains-cons_cases, Contains-head}
 use Rattle.ab_hist.specs.declared.request.Request.{Request}
 use Rattle.ab_msg.specs.declared.signed.Signed.{Signed}
 use Rattle.ab_msg.specs.declared.message.Msg.{Msg}
@@ -22,9 +23,9 @@ use Rattle.ab_abs.specs.FormLaws.{KeepsForm}
 use Rattle.ab_abs.proofs.Prefixes.{prefix_is_take}
 use Rattle.ab_links.specs.Links.{Continues}
 use Rattle.ab_links.specs.Digested.{Item, history, request, item_histories, item_requests, histories_of, requests_of, BeginsIn}
-use Rattle.ab_links.proofs.ListLemmas.{HasSame, Contains-cons_cases, Contains-head, Contains-tail}
-use Rattle.ab_run.specs.Setups.{Setup, replicas, last_instance}
-use Rattle.ab_run.specs.Replicas.{Rep, Turn, turn_enter, turn_call, turn_halt, turn_sign, turn_bring, turn_abort, state_at, after_turn, client_of, cert_instance, brought, aborting, aborting_with, halting, late, here, taken, taken_in, due, due_by, due_with, is_spent, turns}
+use Rattle.ab_links.proofs.ListLemmas.{HasSame, Contains-tail}
+use Rattle.ab_run.specs.Setups.{RunSetup, replicas, last_instance}
+use Rattle.ab_run.specs.Replicas.{Rep, RepAction, turn_enter, turn_call, turn_halt, turn_sign, turn_bring, turn_abort, state_at, after_turn, client_of, cert_instance, brought, aborting, aborting_with, halting, late, here, taken, taken_in, due, due_by, due_with, is_spent, turns}
 use Rattle.ab_run.specs.Runs.{Event, invoke, to_replica, to_client, replica_time, client_time, Run, step, start, had_at, histories_for, requests_for}
 use Rattle.ab_run.specs.Local.{after_turns, rep_after, cue_command, cue_message, cue_time, Cue}
 use Rattle.ab_run.specs.Stages.{had_in_turns, had_in_call, call_histories, call_requests}
@@ -35,27 +36,27 @@ use Rattle.ab_premise.specs.Collisions.{checked_items, entered_items, first_item
 -- ---- the turns of an event
 
 -- turns that leave the value where it is
-pub data IsQuiet : Turn → Type 0 where
+pub data IsQuiet : RepAction → Type 0 where
   signs : IsQuiet turn_sign
   brings : (c : ℕ) → IsQuiet (turn_bring c)
   aborts : (c : ℕ) → IsQuiet (turn_abort c)
 
-abbrev pub AllQuiet : List Turn → Type 0
+abbrev pub AllQuiet : List RepAction → Type 0
 AllQuiet [] = Unit {0}
 AllQuiet (t ∷ ts) = IsQuiet t × AllQuiet ts
 
 -- in one instance the value stays, takes one call, or is stopped
-pub data IsCalm : List Turn → Type 0 where
-  still : (ts : List Turn) → AllQuiet ts → IsCalm ts
+pub data IsCalm : List RepAction → Type 0 where
+  still : (ts : List RepAction) → AllQuiet ts → IsCalm ts
   once : (call : Call) → IsCalm (turn_call call ∷ [])
-  stops : (ts : List Turn) → AllQuiet ts → IsCalm (turn_halt ∷ ts)
+  stops : (ts : List RepAction) → AllQuiet ts → IsCalm (turn_halt ∷ ts)
 
 -- the same, in the instance where a replica is or in a later one that it enters first
-pub data IsCalmFrom {P : Type 0} (s : Rep P) : List Turn → Type 0 where
-  stays : (ts : List Turn) → IsCalm ts → IsCalmFrom s ts
-  enters : (j : ℕ) (cert : List Signed) (h : List Request) (ts : List Turn) → s.at ≤ j → IsCalm ts → IsCalmFrom s (turn_enter j cert h ∷ ts)
+pub data IsCalmFrom {P : Type 0} (s : Rep P) : List RepAction → Type 0 where
+  stays : (ts : List RepAction) → IsCalm ts → IsCalmFrom s ts
+  enters : (j : ℕ) (cert : List Signed) (h : List Request) (ts : List RepAction) → s.at ≤ j → IsCalm ts → IsCalmFrom s (turn_enter j cert h ∷ ts)
 
-calm_if : (b : Bool) (ts us : List Turn) → IsCalm ts → IsCalm us → IsCalm (if b then ts else us)
+calm_if : (b : Bool) (ts us : List RepAction) → IsCalm ts → IsCalm us → IsCalm (if b then ts else us)
 calm_if true ts us one other = one
 calm_if false ts us one other = other
 
@@ -63,11 +64,11 @@ aborting_quiet : (c : ℕ) (o : Option Signed) → AllQuiet (aborting_with c o)
 aborting_quiet c None = (signs, (aborts c, tt))
 aborting_quiet c (Some abort) = (aborts c, tt)
 
-quiet_if : (b : Bool) (ts : List Turn) → AllQuiet ts → AllQuiet (if b then ts else [])
+quiet_if : (b : Bool) (ts : List RepAction) → AllQuiet ts → AllQuiet (if b then ts else [])
 quiet_if true ts all = all
 quiet_if false ts all = tt
 
-module _ {P : Type 0} (k : Setup) (proto : Proto P) where
+module _ {P : Type 0} (k : RunSetup) (proto : Proto P) where
   halting_calm : (c : ℕ) (s : Rep P) → IsCalm (halting k proto c s)
   halting_calm c s =
       let due = aborting k proto c s in
@@ -115,7 +116,7 @@ module _ {P : Type 0} (k : Setup) (proto : Proto P) where
   due_calm r s (took m) = by_calm r s m (brought m)
   due_calm r s timed = stays (turn_call timed ∷ []) (once timed)
 
-  from_if : (s : Rep P) (b : Bool) (ts : List Turn) → IsCalmFrom s ts → IsCalmFrom s (if b then [] else ts)
+  from_if : (s : Rep P) (b : Bool) (ts : List RepAction) → IsCalmFrom s ts → IsCalmFrom s (if b then [] else ts)
   from_if s true ts calm = stays [] (still [] tt)
   from_if s false ts calm = calm
 
@@ -140,7 +141,7 @@ module _ {P : Type 0} (k : Setup) (proto : Proto P) where
     last : (h : List Request) → Contains (had_at (state_at k proto now)) h → Contains had h ⊎ Contains (had_at (state_at k proto s)) h
 
   -- the value stays
-  record Stays (r : ℕ) (ts : List Turn) (s : Rep P) : Type 0 where
+  record Stays (r : ℕ) (ts : List RepAction) (s : Rep P) : Type 0 where
     at : (after_turns k proto r s ts).at ≡ s.at
     base : (after_turns k proto r s ts).entry.base ≡ s.entry.base
     same : (after_turns k proto r s ts).value ≡ s.value
@@ -151,12 +152,12 @@ module _ {P : Type 0} (k : Setup) (proto : Proto P) where
     base : now.entry.base ≡ s.entry.base
     value : now.value ≡ s.value
 
-  quiet_one : (r : ℕ) (t : Turn) (s : Rep P) → IsQuiet t → Same s (after_turn k proto r s t)
+  quiet_one : (r : ℕ) (t : RepAction) (s : Rep P) → IsQuiet t → Same s (after_turn k proto r s t)
   quiet_one r t s signs = record { at = refl; base = refl; value = refl }
   quiet_one r t s (brings c) = record { at = refl; base = refl; value = refl }
   quiet_one r t s (aborts c) = record { at = refl; base = refl; value = refl }
 
-  quiet_stays : (r : ℕ) (ts : List Turn) (s : Rep P) → AllQuiet ts → Stays r ts s
+  quiet_stays : (r : ℕ) (ts : List RepAction) (s : Rep P) → AllQuiet ts → Stays r ts s
   quiet_stays r [] s all = record { at = refl; base = refl; same = refl; each = λ h gone. absurd (omega (arith, gone.1)) }
   quiet_stays r (t ∷ ts) s all =
       let now = after_turn k proto r s t in
@@ -175,7 +176,7 @@ module _ {P : Type 0} (k : Setup) (proto : Proto P) where
       }
 
   module _ {serves : Kind → Bool} (form : KeepsForm proto serves) where
-    calm_moved : (r : ℕ) (ts : List Turn) (s : Rep P) → IsCalm ts → Moved s (after_turns k proto r s ts) (had_in_turns k proto r s ts)
+    calm_moved : (r : ℕ) (ts : List RepAction) (s : Rep P) → IsCalm ts → Moved s (after_turns k proto r s ts) (had_in_turns k proto r s ts)
     calm_moved r ts s (still _ all) =
         let is = quiet_stays r ts s all in
         record {
@@ -220,7 +221,7 @@ module _ {P : Type 0} (k : Setup) (proto : Proto P) where
       ]
     ]
 
-    calm_went : (r : ℕ) (ts : List Turn) (s : Rep P) → IsCalmFrom s ts → Went s (after_turns k proto r s ts) (had_in_turns k proto r s ts)
+    calm_went : (r : ℕ) (ts : List RepAction) (s : Rep P) → IsCalmFrom s ts → Went s (after_turns k proto r s ts) (had_in_turns k proto r s ts)
     calm_went r ts s (stays _ calm) =
         let is = calm_moved r ts s calm in
         record {
@@ -338,7 +339,7 @@ checked_looks w v hs ms had asked = record {
   begins = checked_begin w.had hs ms;
 }
 
-module _ {P : Type 0} (k : Setup) (proto : Proto P) {serves : Kind → Bool} (form : KeepsForm proto serves) where
+module _ {P : Type 0} (k : RunSetup) (proto : Proto P) {serves : Kind → Bool} (form : KeepsForm proto serves) where
   -- what each correct replica has, the run has, and the empty history
   pub record HasOwn (w : Run P) : Type 0 where
     pub each : (r : ℕ) → r < replicas k → is_faulty k.faulty (Replica r) ≡ false → (h : List Request) → Contains (had_at (state_at k proto (w.reps r))) h → Contains w.had h

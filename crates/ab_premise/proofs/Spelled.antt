@@ -11,6 +11,7 @@ use Rattle.ab_num.specs.declared.party.Party.TheVariants.{Replica, Client}
 use Rattle.ab_num.specs.declared.plan.Kind.{Kind}
 use Rattle.ab_num.specs.declared.plan.Kind.TheVariants as kind
 use Rattle.ab_num.specs.Parties.{party_eq}
+use Rattle.ab_num.proofs.Lists.{flat_map_cases, Contains-filter_cases, Contains-cons_cases}
 use Rattle.ab_hist.specs.declared.request.Request.{Request}
 use Rattle.ab_svc.specs.Machines.{Reply}
 use Rattle.ab_msg.specs.declared.content.Content.{Content}
@@ -34,11 +35,9 @@ use Rattle.ab_abs.specs.FormLaws.{KeepsForm}
 use Rattle.ab_run.specs.Forms.{IsWrittenRep, IsWrittenSetup}
 use Rattle.ab_run.proofs.Written.{IsGood, AllGood, good_if, due_good, first_written, abort_written, turn_keeps, turn_drafts}
 use Rattle.ab_abs.proofs.Drafts.{few_replicas}
-use Rattle.ab_abs.proofs.Lists.{flat_map_cases, Contains-filter_cases}
-use Rattle.ab_links.proofs.ListLemmas.{Contains-cons_cases}
-use Rattle.ab_run.specs.Setups.{Setup, replicas, within, last_instance}
-use Rattle.ab_run.specs.Replicas.{Rep, Turn, turn_enter, turn_call, turn_halt, turn_sign, turn_bring, turn_abort, after_turn, made_in_turn, state_at, pen_of, cert_instance, here, due, is_spent, turns}
-use Rattle.ab_run.specs.Clients.{Cli, Move, move_ask, move_vote, move_commit, move_keep, move_take, move_panic, move_again, asking, after_move, made_in_move, hears, hears_response, hears_tail, counting, keeping, taking, taking_with, own_cert, kind_at, panics, panics_in, if_open, moves, vote_claim, is_abort_of}
+use Rattle.ab_run.specs.Setups.{RunSetup, replicas, within, last_instance}
+use Rattle.ab_run.specs.Replicas.{Rep, RepAction, turn_enter, turn_call, turn_halt, turn_sign, turn_bring, turn_abort, after_turn, made_in_turn, state_at, pen_of, cert_instance, here, due, is_spent, turns}
+use Rattle.ab_run.specs.Clients.{Cli, CliAction, move_ask, move_vote, move_commit, move_keep, move_take, move_panic, move_again, asking, after_move, made_in_move, hears, hears_response, hears_tail, counting, keeping, taking, taking_with, own_cert, kind_at, panics, panics_in, if_open, moves, vote_claim, is_abort_of}
 use Rattle.ab_run.specs.declared.phase.Phase.{Phase}
 use Rattle.ab_run.specs.declared.phase.Phase.TheVariants.{Idle, Waiting, Panicking}
 use Rattle.ab_run.specs.Runs.{Event, invoke, to_replica, to_client, replica_time, client_time, Run, run, step, start}
@@ -55,7 +54,7 @@ one_of s c is has = elim (Contains-cons_cases s [] c has) [
 ]
 
 -- what each replica makes
-module _ {P : Type 0} (k : Setup) (proto : Proto P) {serves : Kind → Bool} (form : KeepsForm proto serves) (are : IsWrittenSetup k serves) (contents : AreSpelledContents k.cluster.f) where
+module _ {P : Type 0} (k : RunSetup) (proto : Proto P) {serves : Kind → Bool} (form : KeepsForm proto serves) (are : IsWrittenSetup k serves) (contents : AreSpelledContents k.cluster.f) where
   record Makes (r : ℕ) (made : List Content) (now : Rep P) : Type 0 where
     each : (c : Content) → Contains made c → IsContent c
     stands : IsWrittenRep proto serves k.cluster r now
@@ -66,7 +65,7 @@ module _ {P : Type 0} (k : Setup) (proto : Proto P) {serves : Kind → Bool} (fo
   both : (xs ys : List Content) → ((c : Content) → Contains xs c → IsContent c) → ((c : Content) → Contains ys c → IsContent c) → (c : Content) → Contains (xs ++ ys) c → IsContent c
   both xs ys one other c has = elim (Contains-append_cases xs ys c has) [ inl here ↦ one c here | inr there ↦ other c there ]
 
-  turn_makes : (r : ℕ) (t : Turn) (s : Rep P) → r < replicas k → IsGood t → IsWrittenRep proto serves k.cluster r s → (c : Content) → Contains (made_in_turn k proto r s t) c → IsContent c
+  turn_makes : (r : ℕ) (t : RepAction) (s : Rep P) → r < replicas k → IsGood t → IsWrittenRep proto serves k.cluster r s → (c : Content) → Contains (made_in_turn k proto r s t) c → IsContent c
   turn_makes r (turn_enter j cert h) s lt good was = nothing
   turn_makes r (turn_call call) s lt good was = λ c has.
       let sends = proto.sends (pen_of k proto r s) s.value call in
@@ -80,7 +79,7 @@ module _ {P : Type 0} (k : Setup) (proto : Proto P) {serves : Kind → Bool} (fo
   turn_makes r (turn_bring c) s lt good was = nothing
   turn_makes r (turn_abort c) s lt good was = nothing
 
-  turns_make : (r : ℕ) (ts : List Turn) (s : Rep P) → r < replicas k → AllGood ts → IsWrittenRep proto serves k.cluster r s → Makes r (made_in_turns k proto r s ts) (after_turns k proto r s ts)
+  turns_make : (r : ℕ) (ts : List RepAction) (s : Rep P) → r < replicas k → AllGood ts → IsWrittenRep proto serves k.cluster r s → Makes r (made_in_turns k proto r s ts) (after_turns k proto r s ts)
   turns_make r [] s lt good was = record { each = nothing; stands = was }
   turns_make r (t ∷ ts) s lt good was =
       let now = after_turn k proto r s t in
@@ -98,7 +97,7 @@ abbrev IsOwned : ℕ → Request → Type 0
 IsOwned c m = IsRequest 0 15 m × (m.client ≡ c)
 
 -- a move whose parts have bytes, of a client after at most n events
-abbrev IsFine : ℕ → ℕ → Move → Type 0
+abbrev IsFine : ℕ → ℕ → CliAction → Type 0
 IsFine c n (move_ask m) = IsOwned c m × (m.stamp ≤ n)
 IsFine c n (move_vote b) = Unit {0}
 IsFine c n (move_commit m d e reply claims) = Unit {0}
@@ -107,7 +106,7 @@ IsFine c n (move_take j cert h m) = (j < last_instance) × IsOwned c m
 IsFine c n move_panic = Unit {0}
 IsFine c n (move_again m) = Unit {0}
 
-abbrev AllFine : ℕ → ℕ → List Move → Type 0
+abbrev AllFine : ℕ → ℕ → List CliAction → Type 0
 AllFine c n [] = Unit {0}
 AllFine c n (t ∷ ts) = IsFine c n t × AllFine c n ts
 
@@ -124,7 +123,7 @@ record Does (c n : ℕ) (made : List Content) (now : Cli) : Type 0 where
 no_content : (c : Content) → Contains [] c → IsContent c
 no_content c gone = absurd (omega (arith, gone.1))
 
-move_does : (c n : ℕ) (t : Move) (s : Cli) → c ≤ 15 → IsFine c n t → Sits c n s → Does c n (made_in_move c s t) (after_move s t)
+move_does : (c n : ℕ) (t : CliAction) (s : Cli) → c ≤ 15 → IsFine c n t → Sits c n s → Does c n (made_in_move c s t) (after_move s t)
 move_does c n (move_ask m) s le fine sits = record {
   each = λ q has. one_of (content.Req (Client c) s.at m) q (sym (ap Client fine.0.1), (sits.at, fine.0.0)) has;
   sits = record { at = sits.at; stamp = fine.1; last = λ q is. let same : m ≡ q = cc (is) in subst (IsOwned c) same fine.0 };
@@ -142,7 +141,7 @@ move_does c n move_panic s le fine sits = record {
 }
 move_does c n (move_again m) s le fine sits = record { each = no_content; sits = record { at = sits.at; stamp = sits.stamp; last = sits.last } }
 
-moves_do : (c n : ℕ) (ts : List Move) (s : Cli) → c ≤ 15 → AllFine c n ts → Sits c n s → Does c n (made_in_moves c s ts) (after_moves s ts)
+moves_do : (c n : ℕ) (ts : List CliAction) (s : Cli) → c ≤ 15 → AllFine c n ts → Sits c n s → Does c n (made_in_moves c s ts) (after_moves s ts)
 moves_do c n [] s le fine sits = record { each = no_content; sits = sits }
 moves_do c n (t ∷ ts) s le fine sits =
     let one = move_does c n t s le fine.0 sits in
@@ -152,7 +151,7 @@ moves_do c n (t ∷ ts) s le fine sits =
       sits = rest.sits;
     }
 
-fine_if : (c n : ℕ) (b : Bool) (ts us : List Move) → AllFine c n ts → AllFine c n us → AllFine c n (if b then ts else us)
+fine_if : (c n : ℕ) (b : Bool) (ts us : List CliAction) → AllFine c n ts → AllFine c n us → AllFine c n (if b then ts else us)
 fine_if c n true ts us one other = one
 fine_if c n false ts us one other = other
 
@@ -166,19 +165,19 @@ panics_fine c n kind.ZLight waits m = (tt, tt)
 panics_fine c n kind.Chain waits m = (tt, tt)
 panics_fine c n kind.Backup waits m = fine_if c n waits (move_again m ∷ []) [] (tt, tt) tt
 
-open_fine : (c n : ℕ) (phase : Phase) (last : Option Request) (ms : Bool → Request → List Move) → ((waits : Bool) (q : Request) → last ≡ Some q → AllFine c n (ms waits q)) → AllFine c n (if_open phase last ms)
+open_fine : (c n : ℕ) (phase : Phase) (last : Option Request) (ms : Bool → Request → List CliAction) → ((waits : Bool) (q : Request) → last ≡ Some q → AllFine c n (ms waits q)) → AllFine c n (if_open phase last ms)
 open_fine c n Idle last ms all = tt
 open_fine c n Waiting None ms all = tt
 open_fine c n Waiting (Some q) ms all = all true q refl
 open_fine c n Panicking None ms all = tt
 open_fine c n Panicking (Some q) ms all = all false q refl
 
-module _ (k : Setup) (c n : ℕ) where
+module _ (k : RunSetup) (c n : ℕ) where
   counting_fine : (s : Cli) (m : Request) (b : Ballot) → AllFine c n (counting k c s m b)
   counting_fine s m b =
-      let last : List Move = move_commit m b.n b.d b.reply (map (vote_claim s.at c m.stamp) (b ∷ s.votes)) ∷ [] in
+      let last : List CliAction = move_commit m b.n b.d b.reply (map (vote_claim s.at c m.stamp) (b ∷ s.votes)) ∷ [] in
       let full : Bool = is_full_by (rule_in (within k s.at)) (replicas k) (b ∷ s.votes) b in
-      let voting : List Move = move_vote b ∷ (if full then last else []) in
+      let voting : List CliAction = move_vote b ∷ (if full then last else []) in
       let all : AllFine c n voting = (tt, fine_if c n full last [] (tt, tt) tt) in
       fine_if c n (nat_lt b.by (replicas k)) (if has_voted s.votes b.by then [] else voting) [] (fine_if c n (has_voted s.votes b.by) [] voting tt all) tt
 
@@ -234,7 +233,7 @@ more_made false more was now is old new c has = elim (Contains-append_cases more
   | inr other ↦ old c other
 ]
 
-module _ {P : Type 0} (k : Setup) (proto : Proto P) {serves : Kind → Bool} (form : KeepsForm proto serves) (are : IsWrittenSetup k serves)
+module _ {P : Type 0} (k : RunSetup) (proto : Proto P) {serves : Kind → Bool} (form : KeepsForm proto serves) (are : IsWrittenSetup k serves)
     (contents : AreSpelledContents k.cluster.f) where
   abbrev Stands : ℕ → Rep P → Type 0
   Stands r s = IsWrittenRep proto serves k.cluster r s
@@ -349,7 +348,7 @@ module _ {P : Type 0} (k : Setup) (proto : Proto P) {serves : Kind → Bool} (fo
       | inr before ↦ each_checked inputs c before
     ]
 
-pub spells_apart : {P : Type 0} (k : Setup) (proto : Proto P) (serves : Kind → Bool) (opens : Opener) (inputs : List Input) → KeepsForm proto serves → IsSpelledRun k serves opens inputs → AreSpelledContents k.cluster.f
+pub spells_apart : {P : Type 0} (k : RunSetup) (proto : Proto P) (serves : Kind → Bool) (opens : Opener) (inputs : List Input) → KeepsForm proto serves → IsSpelledRun k serves opens inputs → AreSpelledContents k.cluster.f
     → SpellsApart k proto spell_content (events_in opens inputs)
 spells_apart k proto serves opens inputs form is contents s t made checked same =
     contents.apart s t ((all_spelled k proto form is.written contents opens is.opens_spelled inputs is.each is.few).made s made)

@@ -9,7 +9,7 @@ use Rattle.ab_abs.specs.Ensembles.{Proto}
 use Rattle.ab_abs.specs.FormLaws.{KeepsForm}
 use Rattle.ab_links.specs.Digested.{HasNoCollision, Item, history, keep_items, any_found, nothing, histories_of, requests_of, IsDigested}
 use Rattle.ab_links.proofs.DigestedLemmas.{all_free, none_found, all_kept, fewer, found_step, kept_step, nothing_is, nothing_free, HasNoCollision-same, IsDigested-same}
-use Rattle.ab_run.specs.Setups.{Setup}
+use Rattle.ab_run.specs.Setups.{RunSetup}
 use Rattle.ab_run.specs.Runs.{Event, invoke, to_replica, to_client, replica_time, client_time, Run, run, step}
 use Rattle.ab_run.specs.Inputs.{Input, told, came, rang, elsewhere, Opener, opened, event_in, events_in}
 use Rattle.ab_premise.specs.declared.breach.Collision.{Collision}
@@ -37,7 +37,7 @@ came_so opens (rang (Replica r)) = eventful (replica_time r) (Replica r) refl re
 came_so opens (rang (Client c)) = eventful (client_time c) (Client c) refl refl
 came_so opens elsewhere = quiet refl
 
-module _ {P : Type 0} (k : Setup) (proto : Proto P) {serves : Kind → Bool} (form : KeepsForm proto serves) (opens : Opener) where
+module _ {P : Type 0} (k : RunSetup) (proto : Proto P) {serves : Kind → Bool} (form : KeepsForm proto serves) (opens : Opener) where
   abbrev at : List Input → Run P
   at inputs = run k proto (events_in opens inputs)
 

@@ -8,7 +8,7 @@ use Rattle.ab_abs.specs.Faults.{is_faulty}
 use Rattle.ab_abs.specs.Messages.{Call, took, timed}
 use Rattle.ab_abs.specs.Ensembles.{Proto}
 use Rattle.ab_links.specs.Digested.{HasNoCollision, Digested, Item, history, request, keep_item, keep_items, any_found, nothing}
-use Rattle.ab_run.specs.Setups.{Setup, replicas}
+use Rattle.ab_run.specs.Setups.{RunSetup, replicas}
 use Rattle.ab_run.specs.Replicas.{Rep, state_at}
 use Rattle.ab_run.specs.Runs.{Event, invoke, to_replica, to_client, replica_time, client_time, Run, run, histories_for, requests_for}
 use Rattle.ab_run.specs.Local.{rep_after}
@@ -25,7 +25,7 @@ taker_of (came p bytes) = Some p
 taker_of (rang p) = Some p
 taker_of elsewhere = None
 
-module _ {P : Type 0} (k : Setup) (proto : Proto P) where
+module _ {P : Type 0} (k : RunSetup) (proto : Proto P) where
   -- among what correct parties had or checked in the run no two different histories or requests have one digest
   abbrev pub IsFree : List Event → Type 0
   IsFree events = HasNoCollision (run k proto events).had (run k proto events).asked
@@ -68,7 +68,7 @@ abbrev pub first_items : Option (List Request) → List Item
 first_items None = []
 first_items (Some h) = history h 0 ∷ []
 
-module _ {P : Type 0} (k : Setup) (proto : Proto P) where
+module _ {P : Type 0} (k : RunSetup) (proto : Proto P) where
   -- of a log in the same instance only the entries behind those of before are new
   abbrev pub known_of : Rep P → Rep P → ℕ
   known_of s now = if s.at == now.at then length (state_at k proto s).log else 0

@@ -8,7 +8,7 @@ use Rattle.ab_text.specs.declared.line.Premise.{Premise}
 use Rattle.ab_text.specs.declared.line.Premise.TheVariants.{Held, Broken}
 use Rattle.ab_msg.specs.Carried.{is_replica}
 use Rattle.ab_abs.specs.Ensembles.{Proto}
-use Rattle.ab_run.specs.Setups.{Setup}
+use Rattle.ab_run.specs.Setups.{RunSetup}
 use Rattle.ab_run.specs.Premises.{IsHonestRun}
 use Rattle.ab_run.specs.Inputs.{Input, Opener, events_in}
 use Rattle.ab_run.specs.Stages.{Forgery, IsForgedAt}
@@ -39,7 +39,7 @@ faulty_premise (Some p) later = Broken 0 Faulty p
 
 -- ---- by the run
 
-module _ {P : Type 0} (k : Setup) (proto : Proto P) (opens : Opener) where
+module _ {P : Type 0} (k : RunSetup) (proto : Proto P) (opens : Opener) where
   -- a forgery at event n, before which there was no collision
   pub record IsForgedFirst (inputs : List Input) (n : ℕ) (p : Party) : Type 0 where
     pub forged : IsForgedAt k proto opens inputs n p

@@ -9,7 +9,7 @@ use Rattle.ab_msg.specs.Claims.{claims, fresh}
 use Rattle.ab_msg.specs.Contents.{IsContent, spell_content}
 use Rattle.ab_msg.specs.Messages.{IsDraft, IsMessage}
 use Rattle.ab_run.specs.Forms.{IsWrittenSetup}
-use Rattle.ab_run.specs.Setups.{Setup}
+use Rattle.ab_run.specs.Setups.{RunSetup}
 use Rattle.ab_run.specs.Inputs.{Input, told, came, rang, elsewhere, Opener}
 
 -- a command has 1 to 128 bytes
@@ -24,11 +24,11 @@ AreSpelledInputs [] = Unit {0}
 AreSpelledInputs (g ∷ inputs) = IsSpelledInput g × AreSpelledInputs inputs
 
 -- what opens is of the grammar, and so is each content that is checked in it
-abbrev pub OpensSpelled : Setup → Opener → Type 0
+abbrev pub OpensSpelled : RunSetup → Opener → Type 0
 OpensSpelled k opens = (p : Party) (bytes : List ℕ) (m : Msg) → opens p bytes ≡ Some m → IsMessage m × All IsContent (claims k.cluster.f p m)
 
 -- what comes is spelled, there are few events, and what replicas begin and sign with has bytes
-pub record IsSpelledRun (k : Setup) (serves : Kind → Bool) (opens : Opener) (inputs : List Input) : Type 0 where
+pub record IsSpelledRun (k : RunSetup) (serves : Kind → Bool) (opens : Opener) (inputs : List Input) : Type 0 where
   pub written : IsWrittenSetup k serves
   pub opens_spelled : OpensSpelled k opens
   pub each : AreSpelledInputs inputs

@@ -8,7 +8,7 @@ ghost use Rattle.ab_msg.specs.Carried.{is_replica};
 ghost use Rattle.ab_msg.specs.Contents.{spell_content};
 ghost use Rattle.ab_abs.specs.Ensembles.{Proto};
 ghost use Rattle.ab_abs.specs.FormLaws.{KeepsForm};
-ghost use Rattle.ab_run.specs.Setups.{Setup};
+ghost use Rattle.ab_run.specs.Setups.{RunSetup};
 ghost use Rattle.ab_run.specs.Premises.{IsHonestRun};
 ghost use Rattle.ab_run.specs.Inputs.{Input, Opener, SpellsApart, events_in};
 ghost use Rattle.ab_run.specs.Stages.{Forgery, IsForgedAt};
@@ -26,10 +26,10 @@ pub fn few_are_faulty()
 /// collision exactly where the run has none, and finds one at the event and the party at which the run
 /// has its first.
 pub fn collisions_are_told<P>()
-    ensures free { (k : Setup) (proto : Proto P) (serves : Kind → Bool) (opens : Opener) (inputs : List Input)
+    ensures free { (k : RunSetup) (proto : Proto P) (serves : Kind → Bool) (opens : Opener) (inputs : List Input)
         → KeepsForm proto serves
         → ((watched k proto opens inputs).collided ≡ None) ↔ IsFree k proto (events_in opens inputs) }
-    ensures earliest { (k : Setup) (proto : Proto P) (serves : Kind → Bool) (opens : Opener) (inputs : List Input) (c : Collision)
+    ensures earliest { (k : RunSetup) (proto : Proto P) (serves : Kind → Bool) (opens : Opener) (inputs : List Input) (c : Collision)
         → KeepsForm proto serves
         → ((watched k proto opens inputs).collided ≡ Some c) ↔ IsCollidedAt k proto opens inputs c.event c.party }
 {}
@@ -37,7 +37,7 @@ pub fn collisions_are_told<P>()
 /// The premise line that a program tells is that of the run, where its first forgery and its first
 /// collision are those of the run; and no other line is.
 pub fn premise_is_told<P>()
-    ensures { (k : Setup) (proto : Proto P) (opens : Opener) (faulty : List (TheParty × ℕ)) (inputs : List Input) (forged : Option Forgery) (collided : Option Collision)
+    ensures { (k : RunSetup) (proto : Proto P) (opens : Opener) (faulty : List (TheParty × ℕ)) (inputs : List Input) (forged : Option Forgery) (collided : Option Collision)
         → ((forged ≡ None) ↔ IsHonestRun k proto (events_in opens inputs))
         → ((b : Forgery) → (forged ≡ Some b) ↔ IsForgedAt k proto opens inputs b.event b.maker)
         → ((collided ≡ None) ↔ IsFree k proto (events_in opens inputs))
@@ -48,7 +48,7 @@ pub fn premise_is_told<P>()
 /// In a run in which what comes is spelled, whatever a correct party made and whatever one checked
 /// have bytes of their own, where contents of the grammar have.
 pub fn spelled_runs_are_apart<P>()
-    ensures { (k : Setup) (proto : Proto P) (serves : Kind → Bool) (opens : Opener) (inputs : List Input)
+    ensures { (k : RunSetup) (proto : Proto P) (serves : Kind → Bool) (opens : Opener) (inputs : List Input)
         → KeepsForm proto serves → IsSpelledRun k serves opens inputs → AreSpelledContents k.cluster.f
         → SpellsApart k proto spell_content (events_in opens inputs) }
 {}

@@ -1,8 +1,7 @@
 -- Runs without a refusal, and what the first refusal says of a text.
-use Rattle.std.proofs.Common.{◌≡◌, ℕ, zero, suc, ◌+◌, ◌*◌, ◌≤◌, ◌<◌, List, [], ◌∷◌, Bool, true, false, Option, None, Some, Result, Ok, Err, if◌then◌else◌, drop, get_or, length, slice_set, refl, sym, ap, ◌∙◌, subst, inr, arith}
+use Rattle.std.proofs.Common.{◌≡◌, ℕ, zero, suc, ◌+◌, ◌*◌, ◌≤◌, ◌<◌, List, [], ◌∷◌, Bool, true, false, Option, None, Some, Result, Ok, Err, if◌then◌else◌, drop, get_or, length, refl, sym, ap, ◌∙◌, subst, inr, arith}
 use Rattle.std.proofs.Math.Bridge.{le_prop}
 use Rattle.std.specs.Prelude.{IfErr}
-use Rattle.std.specs.Result.{IsErrAnd}
 use Rattle.ab_num.specs.Bounds.{IsInBounds}
 use Rattle.ab_num.specs.declared.party.Party.{Party}
 use Rattle.ab_text.specs.declared.event.Event.{Event}
@@ -16,6 +15,7 @@ use Rattle.ab_num.specs.declared.plan.Plan.{Plan}
 use Rattle.std.proofs.lemmas.List.{at_drop_more, length-append}
 use Rattle.std.proofs.lemmas.Bool.{lt-ltb}
 use Rattle.arrayvec.specs.ArrayVec.{ArrayVec}
+use Rattle.ab_num.proofs.Lists.{length-slice_set}
 use Rattle.ab_text.specs.declared.event.Core.{Core as CoreName}
 use Rattle.ab_text.specs.declared.event.Event.TheVariants.{Invoke, Deliver, Timeout, Inject}
 use Rattle.ab_msg.specs.Packets.{Packet}
@@ -45,13 +45,8 @@ record Stays {P : Type 0} (x y : Cast P) : Type 0 where
   setup : y.setup ≡ x.setup
   replicas : length y.replicas ≡ length x.replicas
 
-set_length : {A : Type 0} (xs : List A) (r : ℕ) (v : A) → length (slice_set xs r v) ≡ length xs
-set_length [] r v = refl
-set_length (x ∷ xs) zero v = refl
-set_length (x ∷ xs) (suc r) v = ap suc (set_length xs r v)
-
 core_stays : {P : Type 0} (x : Cast P) (at : Place) (s : Core P) → Stays x (with_core x at s)
-core_stays x (place.Replica r) (replica s) = record { setup = refl; replicas = set_length x.replicas r s }
+core_stays x (place.Replica r) (replica s) = record { setup = refl; replicas = length-slice_set x.replicas r s }
 core_stays x (place.Client c) (replica s) = record { setup = refl; replicas = refl }
 core_stays x (place.ReplicaTwin r n) (replica s) = record { setup = refl; replicas = refl }
 core_stays x (place.ClientTwin c n) (replica s) = record { setup = refl; replicas = refl }
@@ -289,14 +284,6 @@ module _ {P : Type 0} (proto : Proto P) where
   refused_at w e line i at NoMemory r f o is refuses place cause next = subst (λ (x : ReplayFault). EventsCause x line o) (sym (is ∙ ap fault_from refuses)) tt
 
 -- ---- errors that are handed on
-
-pub kept_err : {T E : Type 0} (r : Result T E) (x : E) (Q : E → Type 0) → IsErrAnd r (λ e. e ≡ x) → Q x → IfErr r Q
-kept_err (Ok t) x Q is q = tt
-kept_err (Err e) x Q is q = subst Q (sym is) q
-
-pub if_err_then : {T E : Type 0} (r : Result T E) (P Q : E → Type 0) → ((e : E) → P e → Q e) → IfErr r P → IfErr r Q
-if_err_then (Ok t) P Q each is = tt
-if_err_then (Err e) P Q each is = each e is
 
 -- the cause of a fault is that of the same run
 pub caused_as : {T P : Type 0} (r : Result T ReplayFault) (line : ℕ) {o q : Result (World P) (ℕ × WorldFault)} → q ≡ o → IfErr r (λ e. EventsCause e line o) → IfErr r (λ e. EventsCause e line q)

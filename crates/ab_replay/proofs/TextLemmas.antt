@@ -6,7 +6,7 @@ use Rattle.ab_num.specs.declared.plan.Plan.{Plan}
 use Rattle.ab_num.specs.Places.{kind_of}
 use Rattle.ab_replay.specs.Protocols.{is_served}
 
-each_is_served : (k : Kind) → IsTrue (is_served k)
+pub each_is_served : (k : Kind) → IsTrue (is_served k)
 each_is_served Quorum = refl
 each_is_served ZLight = refl
 each_is_served Chain = refl

@@ -6,7 +6,7 @@ use Rattle.ab_abs.specs.Ensembles.{Proto}
 use Rattle.ab_abs.specs.Members.{Member}
 use Rattle.ab_quorum.specs.Rules.{quorum, is_quorum}
 use Rattle.ab_zlight.specs.Rules.{Light, zlight, is_zlight}
-use Rattle.ab_chain.specs.Rules.{Link, chain, is_chain}
+use Rattle.ab_chain.specs.Rules.{ChainState, chain, is_chain}
 use Rattle.ab_order.specs.Backups.{Backing}
 use Rattle.ab_order.specs.Protos.{backup, is_backup}
 use Rattle.ab_pbft_rules.specs.Rules.{pbft}
@@ -16,7 +16,7 @@ use Rattle.ab_plans.specs.ChoiceRules.{choice, either}
 
 -- a replica of Quorum, of ZLight, of Chain, or of Backup over PBFT
 abbrev pub Any : Type 0
-Any = Choice Member (Choice Light (Choice Link (Backing Signing)))
+Any = Choice Member (Choice Light (Choice ChainState (Backing Signing)))
 
 -- it goes by the rules of its instance's kind
 abbrev pub any : {S : Type 0} → Machine S → Proto Any

@@ -4,6 +4,7 @@ use Rattle.std.specs.Prelude.{◌&&◌, ◌==◌, nat_lt, if◌then◌else◌, A
 use Rattle.std.specs.List.{list_all}
 use Rattle.std.proofs.lemmas.Bool.{and_parts, ltb-true}
 use Rattle.std.proofs.lemmas.List.Elements.{All-head, All-tail, All-cons, All-nil}
+use Rattle.std.proofs.Math.Bool.{and-false}
 use Rattle.ab_num.specs.declared.cluster.Cluster.{Cluster}
 use Rattle.ab_num.specs.declared.party.Party.{Party}
 use Rattle.ab_num.specs.declared.party.Party.TheVariants.{Replica, Client}
@@ -36,16 +37,12 @@ aborts_are replicas (s ∷ cert) formed all =
     All-cons (λ t. IsAbort replicas t) s cert is (aborts_are replicas cert (All-tail (IsSigned contents.IsAbort) s cert formed) both.1)
 
 module _ (c : Cluster) (j : ℕ) where
-  and_false : (b : Bool) → (b && false) ≡ false
-  and_false true = refl
-  and_false false = refl
-
   not_held : (r : ℕ) (content : Content) → contents.IsAbort content → maker_of content ≡ Replica r → nat_lt r (3 * c.f + 1) ≡ false → aborted_in c j content ≡ None
   not_held r (Abort (Replica q) i h) is made over =
       let same : r ≡ q = cc (made) in
       let out : nat_lt q (3 * c.f + 1) ≡ false = subst (λ (n : ℕ). nat_lt n (3 * c.f + 1) ≡ false) same over in
       ap (λ b. if (i == j) && b then Some (let v : Held = record { by = q; log = h } in v) else None) out
-      ∙ ap (λ b. if b then Some (let v : Held = record { by = q; log = h } in v) else None) (and_false (i == j))
+      ∙ ap (λ b. if b then Some (let v : Held = record { by = q; log = h } in v) else None) (and-false (i == j))
   not_held r (Abort (Client q) i h) is made over = absurd (cc (made))
   not_held r _ is made over = absurd is
 

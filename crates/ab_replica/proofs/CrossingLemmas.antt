@@ -6,15 +6,15 @@ use Rattle.ab_msg.specs.declared.message.Msg.{Msg}
 use Rattle.ab_abs.specs.Certificates.{history_of}
 use Rattle.ab_abs.specs.Ensembles.{Proto, entry_of}
 use Rattle.ab_abs.specs.Messages.{took}
-use Rattle.ab_run.specs.Setups.{Setup, last_instance}
-use Rattle.ab_run.specs.Replicas.{Rep, Turn, brought, cert_instance, due, due_by, due_with, taken}
+use Rattle.ab_run.specs.Setups.{RunSetup, last_instance}
+use Rattle.ab_run.specs.Replicas.{Rep, RepAction, brought, cert_instance, due, due_by, due_with, taken}
 use Rattle.ab_replica.specs.declared.crossing.Crossing.{Crossing}
 use Rattle.ab_replica.specs.Crossings.{crossing_with, crossing_in}
 use Rattle.ab_replica.specs.Doings.{entering}
 
-module _ {P : Type 0} (k : Setup) (proto : Proto P) (r : ℕ) (s : Rep P) (m : Msg) where
+module _ {P : Type 0} (k : RunSetup) (proto : Proto P) (r : ℕ) (s : Rep P) (m : Msg) where
   -- what is due where the message leads over or doesn't
-  abbrev pub IsDue : Option Crossing → List Turn → Type 0
+  abbrev pub IsDue : Option Crossing → List RepAction → Type 0
   IsDue None ts = ts ≡ taken k proto s m
   IsDue (Some x) ts = (j : ℕ) × (cert : List Signed) × (h : List Request) × (x ≡ record { instance = j + 1; entry = entry_of h (Some cert) }) × (ts ≡ entering k proto r s m j cert h)
 

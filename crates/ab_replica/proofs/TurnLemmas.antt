@@ -1,8 +1,7 @@
 -- What turns leave, send and show.
-use Rattle.std.proofs.Common.{◌≡◌, ℕ, ◌+◌, ◌-◌, ◌<◌, ◌≤◌, Bool, true, false, Option, None, Some, Result, Ok, Err, List, [], ◌∷◌, length, nat_lt, if◌then◌else◌, reverse, refl, sym, ap, subst, ◌∙◌, arith, add-zero, append-nil}
+use Rattle.std.proofs.Common.{◌≡◌, ℕ, ◌+◌, ◌-◌, ◌<◌, ◌≤◌, Bool, true, false, Option, None, Some, Result, Ok, Err, List, [], ◌∷◌, length, if◌then◌else◌, reverse, refl, sym, ap, subst, ◌∙◌, arith, add-zero, append-nil}
 use Rattle.std.specs.Prelude.{IfOk}
-use Rattle.std.proofs.lemmas.Bool.{ltb-true}
-use Rattle.std.proofs.lemmas.Bool.Decides.{nat_tests}
+use Rattle.std.proofs.lemmas.Bool.{ltb-true, le-ltb, ltb-false, lt-ltb}
 use Rattle.ab_num.specs.declared.party.Party.TheVariants.{Replica}
 use Rattle.ab_hist.specs.declared.request.Request.{Request}
 use Rattle.ab_msg.specs.declared.signed.Signed.{Signed}
@@ -13,8 +12,8 @@ use Rattle.ab_abs.specs.declared.seen.Seen.{Seen}
 use Rattle.ab_abs.specs.declared.seen.Seen.TheVariants.{Init, Cert}
 use Rattle.ab_abs.specs.Ensembles.{Proto, entry_of}
 use Rattle.ab_abs.specs.Messages.{Call, offered}
-use Rattle.ab_run.specs.Setups.{Setup}
-use Rattle.ab_run.specs.Replicas.{Turn, turn_enter, turn_call, accepted, accepted_marks, if_offered, new_first, after_turn, pen_of, wanted, taken, due}
+use Rattle.ab_run.specs.Setups.{RunSetup}
+use Rattle.ab_run.specs.Replicas.{RepAction, turn_enter, turn_call, accepted, accepted_marks, if_offered, new_first, after_turn, pen_of, wanted, taken, due}
 use Rattle.ab_run.specs.Local.{after_turns, sent_in_turns, marks_in_turns}
 use Rattle.ab_replica.specs.Sites.{Site, IsSetupOf, setup_of}
 use Rattle.ab_replica.specs.Entries.{with_entry}
@@ -22,29 +21,20 @@ use Rattle.ab_replica.specs.declared.crossing.Crossing.{Crossing}
 use Rattle.ab_replica.specs.declared.effects.Effects.{Effects}
 use Rattle.ab_replica.specs.Doings.{Arrives, Does, Hears, entering, are_spent, entries_in}
 
-not_below : (a b : ℕ) → b ≤ a → nat_lt a b ≡ false
-not_below a b le = grind (arith, nat_tests)
-
-not_above : (a b : ℕ) → nat_lt a b ≡ false → b ≤ a
-not_above a b e = grind (arith, nat_tests)
-
-below : (a b : ℕ) → a < b → nat_lt a b ≡ true
-below a b lt = grind (arith, nat_tests)
-
 -- the pen of a replica is the one that a run gives it
 pub pen_is : {P : Type 0} (proto : Proto P) (pen : Pen) (s : Site P) → pen.used ≡ s.rep.used → pen ≡ pen_of (setup_of s pen) proto s.me s.rep
 pen_is proto pen s e = ap (λ n. let p : Pen = record { used = n; sig = pen.sig } in p) e
 
 module _ {P : Type 0} (proto : Proto P) (pen : Pen) (s : Site P) where
   -- turns for which enough signatures are left are taken
-  pub does_all : (ts : List Turn) (now : Site P) (outs : List Out) (marks : List Seen)
+  pub does_all : (ts : List RepAction) (now : Site P) (outs : List Out) (marks : List Seen)
       → s.rep.used + wanted (setup_of s pen) proto s.me s.rep ts ≤ s.signatures
       → now ≡ record s { rep = after_turns (setup_of s pen) proto s.me s.rep ts; entries = s.entries + entries_in ts }
       → outs ≡ sent_in_turns (setup_of s pen) proto s.me s.rep ts
       → marks ≡ marks_in_turns (setup_of s pen) proto s.me s.rep ts
       → Does proto pen s ts now outs marks false
   does_all ts now outs marks fits after sends shows =
-      let e = not_below s.signatures (s.rep.used + wanted (setup_of s pen) proto s.me s.rep ts) fits in
+      let e = le-ltb s.signatures (s.rep.used + wanted (setup_of s pen) proto s.me s.rep ts) fits in
       record {
         after = subst (λ (b : Bool). now ≡ record s { rep = after_turns (setup_of s pen) proto s.me s.rep (if b then [] else ts); entries = s.entries + entries_in (if b then [] else ts) }) (sym e) after;
         sends = subst (λ (b : Bool). outs ≡ sent_in_turns (setup_of s pen) proto s.me s.rep (if b then [] else ts)) (sym e) sends;
@@ -56,9 +46,9 @@ module _ {P : Type 0} (proto : Proto P) (pen : Pen) (s : Site P) where
   same_site = ap (λ n. let t : Site P = record s { entries = n } in t) (sym (add-zero s.entries))
 
   -- and where they are not, none is
-  pub does_none : (ts : List Turn) → s.signatures < s.rep.used + wanted (setup_of s pen) proto s.me s.rep ts → Does proto pen s ts s [] [] true
+  pub does_none : (ts : List RepAction) → s.signatures < s.rep.used + wanted (setup_of s pen) proto s.me s.rep ts → Does proto pen s ts s [] [] true
   does_none ts over =
-      let e = below s.signatures (s.rep.used + wanted (setup_of s pen) proto s.me s.rep ts) over in
+      let e = lt-ltb s.signatures (s.rep.used + wanted (setup_of s pen) proto s.me s.rep ts) over in
       record {
         after = subst (λ (b : Bool). s ≡ record s { rep = after_turns (setup_of s pen) proto s.me s.rep (if b then [] else ts); entries = s.entries + entries_in (if b then [] else ts) }) (sym e) same_site;
         sends = subst (λ (b : Bool). [] ≡ sent_in_turns (setup_of s pen) proto s.me s.rep (if b then [] else ts)) (sym e) refl;
@@ -67,7 +57,7 @@ module _ {P : Type 0} (proto : Proto P) (pen : Pen) (s : Site P) where
       }
 
   -- the same, of equal effects
-  pub same_effects : (ts : List Turn) (now : Site P) (outs : List Out) (marks : List Seen) (spent : Bool) → now ≡ s → outs ≡ [] → marks ≡ [] → Does proto pen s ts s [] [] spent → Does proto pen s ts now outs marks spent
+  pub same_effects : (ts : List RepAction) (now : Site P) (outs : List Out) (marks : List Seen) (spent : Bool) → now ≡ s → outs ≡ [] → marks ≡ [] → Does proto pen s ts s [] [] spent → Does proto pen s ts now outs marks spent
   same_effects ts now outs marks spent stays silent unseen does =
       subst (λ (t : Site P). Does proto pen s ts t outs marks spent) (sym stays)
       (subst (λ (os : List Out). Does proto pen s ts s os marks spent) (sym silent)
@@ -106,13 +96,13 @@ module _ {P : Type 0} (proto : Proto P) (pen : Pen) (s : Site P) where
 
   -- ---- what was done, by whether it was spent
 
-  pub record WasSpent (ts : List Turn) (now : Site P) (outs : List Out) (marks : List Seen) : Type 0 where
+  pub record WasSpent (ts : List RepAction) (now : Site P) (outs : List Out) (marks : List Seen) : Type 0 where
     pub stays : now ≡ s
     pub silent : outs ≡ []
     pub unseen : marks ≡ []
     pub over : s.signatures < s.rep.used + wanted (setup_of s pen) proto s.me s.rep ts
 
-  pub was_spent : (ts : List Turn) (now : Site P) (outs : List Out) (marks : List Seen) → Does proto pen s ts now outs marks true → WasSpent ts now outs marks
+  pub was_spent : (ts : List RepAction) (now : Site P) (outs : List Out) (marks : List Seen) → Does proto pen s ts now outs marks true → WasSpent ts now outs marks
   was_spent ts now outs marks does =
       let e : are_spent proto (setup_of s pen) s ts ≡ true = sym does.spends in
       record {
@@ -122,27 +112,27 @@ module _ {P : Type 0} (proto : Proto P) (pen : Pen) (s : Site P) where
         over = ltb-true s.signatures (s.rep.used + wanted (setup_of s pen) proto s.me s.rep ts) e;
       }
 
-  pub record WasTaken (ts : List Turn) (now : Site P) (outs : List Out) (marks : List Seen) : Type 0 where
+  pub record WasTaken (ts : List RepAction) (now : Site P) (outs : List Out) (marks : List Seen) : Type 0 where
     pub after : now ≡ record s { rep = after_turns (setup_of s pen) proto s.me s.rep ts; entries = s.entries + entries_in ts }
     pub sends : outs ≡ sent_in_turns (setup_of s pen) proto s.me s.rep ts
     pub shows : marks ≡ marks_in_turns (setup_of s pen) proto s.me s.rep ts
     pub fits : s.rep.used + wanted (setup_of s pen) proto s.me s.rep ts ≤ s.signatures
 
-  pub was_taken : (ts : List Turn) (now : Site P) (outs : List Out) (marks : List Seen) → Does proto pen s ts now outs marks false → WasTaken ts now outs marks
+  pub was_taken : (ts : List RepAction) (now : Site P) (outs : List Out) (marks : List Seen) → Does proto pen s ts now outs marks false → WasTaken ts now outs marks
   was_taken ts now outs marks does =
       let e : are_spent proto (setup_of s pen) s ts ≡ false = sym does.spends in
       record {
         after = subst (λ (b : Bool). now ≡ record s { rep = after_turns (setup_of s pen) proto s.me s.rep (if b then [] else ts); entries = s.entries + entries_in (if b then [] else ts) }) e does.after;
         sends = subst (λ (b : Bool). outs ≡ sent_in_turns (setup_of s pen) proto s.me s.rep (if b then [] else ts)) e does.sends;
         shows = subst (λ (b : Bool). marks ≡ marks_in_turns (setup_of s pen) proto s.me s.rep (if b then [] else ts)) e does.shows;
-        fits = not_above s.signatures (s.rep.used + wanted (setup_of s pen) proto s.me s.rep ts) e;
+        fits = ltb-false s.signatures (s.rep.used + wanted (setup_of s pen) proto s.me s.rep ts) e;
       }
 
 -- ---- an entry
 
 module _ {P : Type 0} (proto : Proto P) (pen : Pen) (s : Site P) where
   -- a replica that has just entered arrives where it takes turns and its entry is seen too
-  pub arrives_if : {E : Type 0} (ts : List Turn) (now : Site P) (e : Effects) (i me : ℕ) (h : List Request) (r : Result Effects E)
+  pub arrives_if : {E : Type 0} (ts : List RepAction) (now : Site P) (e : Effects) (i me : ℕ) (h : List Request) (r : Result Effects E)
       → Does proto pen s ts now e.outs e.marks.items e.spent → with_entry i me h e.marks.items e.spent ≡ with_entry s.rep.at s.me s.rep.entry.base e.marks.items e.spent
       → IfOk r (λ x. x.outs ≡ e.outs) → IfOk r (λ x. x.marks.items ≡ with_entry i me h e.marks.items e.spent) → IfOk r (λ x. x.spent ≡ e.spent)
       → IfOk r (λ x. Arrives proto pen s ts now x.outs x.marks.items x.spent)
@@ -159,13 +149,13 @@ module _ {P : Type 0} (proto : Proto P) (pen : Pen) (s : Site P) (j : ℕ) (cert
   abbrev pub there : Site P
   there = record s { rep = after_turn (setup_of s pen) proto s.me s.rep (turn_enter j cert h); entries = s.entries + 1 }
 
-  pub enters_spent : (ts : List Turn) (now : Site P) (outs : List Out) (marks : List Seen) → Does proto pen there ts now outs marks true → Does proto pen s (turn_enter j cert h ∷ ts) s outs marks true
+  pub enters_spent : (ts : List RepAction) (now : Site P) (outs : List Out) (marks : List Seen) → Does proto pen there ts now outs marks true → Does proto pen s (turn_enter j cert h ∷ ts) s outs marks true
   enters_spent ts now outs marks does =
       let was = was_spent proto pen there ts now outs marks does in
       same_effects proto pen s (turn_enter j cert h ∷ ts) s outs marks true refl was.silent was.unseen
       (does_none proto pen s (turn_enter j cert h ∷ ts) (omega (arith, was.over)))
 
-  pub enters_taken : (ts : List Turn) (now : Site P) (outs : List Out) (marks : List Seen) → Does proto pen there ts now outs marks false
+  pub enters_taken : (ts : List RepAction) (now : Site P) (outs : List Out) (marks : List Seen) → Does proto pen there ts now outs marks false
       → Does proto pen s (turn_enter j cert h ∷ ts) now outs (Cert j (Replica s.me) h ∷ Init (j + 1) s.me h ∷ marks) false
   enters_taken ts now outs marks does =
       let was = was_taken proto pen there ts now outs marks does in
@@ -207,12 +197,12 @@ module _ {P : Type 0} (proto : Proto P) (pen : Pen) (s : Site P) (j : ℕ) (cert
 
 -- ---- whatever the run
 
-module _ {P : Type 0} (proto : Proto P) (pen : Pen) (s : Site P) (k : Setup) (of : IsSetupOf k s pen) where
+module _ {P : Type 0} (proto : Proto P) (pen : Pen) (s : Site P) (k : RunSetup) (of : IsSetupOf k s pen) where
   setup_is : setup_of s pen ≡ record { cluster = k.cluster; faulty = []; signatures = k.signatures; sig = λ q. k.sig s.me }
   setup_is =
-      ap (λ c. let x : Setup = record { cluster = c; faulty = []; signatures = s.signatures; sig = λ q. pen.sig } in x) (sym of.cluster)
-      ∙ ap (λ n. let x : Setup = record { cluster = k.cluster; faulty = []; signatures = n; sig = λ q. pen.sig } in x) (sym of.signatures)
-      ∙ ap (λ f. let x : Setup = record { cluster = k.cluster; faulty = []; signatures = k.signatures; sig = λ q. f } in x) (sym of.sig)
+      ap (λ c. let x : RunSetup = record { cluster = c; faulty = []; signatures = s.signatures; sig = λ q. pen.sig } in x) (sym of.cluster)
+      ∙ ap (λ n. let x : RunSetup = record { cluster = k.cluster; faulty = []; signatures = n; sig = λ q. pen.sig } in x) (sym of.signatures)
+      ∙ ap (λ f. let x : RunSetup = record { cluster = k.cluster; faulty = []; signatures = k.signatures; sig = λ q. f } in x) (sym of.sig)
 
   alike : (call : Call) (now : Site P) (outs : List Out) (marks : List Seen) (spent : Bool)
       → Hears proto (record { cluster = k.cluster; faulty = []; signatures = k.signatures; sig = λ q. k.sig s.me }) s call now outs marks spent → Hears proto k s call now outs marks spent
@@ -222,11 +212,11 @@ module _ {P : Type 0} (proto : Proto P) (pen : Pen) (s : Site P) (k : Setup) (of
   pub hears_of : (call : Call) (now : Site P) (outs : List Out) (marks : List Seen) (spent : Bool) → Does proto pen s (due (setup_of s pen) proto s.me s.rep call) now outs marks spent → Hears proto k s call now outs marks spent
   hears_of call now outs marks spent does =
       alike call now outs marks spent
-      (subst (λ (x : Setup). Hears proto x s call now outs marks spent) setup_is
+      (subst (λ (x : RunSetup). Hears proto x s call now outs marks spent) setup_is
       (record { after = does.after; sends = does.sends; shows = does.shows; spends = does.spends }))
 
-  pub hears_if : {E : Type 0} (call : Call) (ts : List Turn) (now : Site P) (r : Result Effects E) → due (setup_of s pen) proto s.me s.rep call ≡ ts
+  pub hears_if : {E : Type 0} (call : Call) (ts : List RepAction) (now : Site P) (r : Result Effects E) → due (setup_of s pen) proto s.me s.rep call ≡ ts
       → IfOk r (λ e. Does proto pen s ts now e.outs e.marks.items e.spent) → IfOk r (λ e. Hears proto k s call now e.outs e.marks.items e.spent)
   hears_if call ts now (Ok e) asks does =
-      hears_of call now e.outs e.marks.items e.spent (subst (λ (us : List Turn). Does proto pen s us now e.outs e.marks.items e.spent) (sym asks) does)
+      hears_of call now e.outs e.marks.items e.spent (subst (λ (us : List RepAction). Does proto pen s us now e.outs e.marks.items e.spent) (sym asks) does)
   hears_if call ts now (Err e) asks does = tt

@@ -8,13 +8,13 @@ use Rattle.ab_msg.specs.Pens.{Pen}
 use Rattle.ab_abs.specs.declared.seen.Seen.{Seen}
 use Rattle.ab_abs.specs.Ensembles.{Proto}
 use Rattle.ab_abs.specs.Messages.{Call}
-use Rattle.ab_run.specs.Setups.{Setup}
-use Rattle.ab_run.specs.Replicas.{Rep, Turn, turn_enter, turn_call, turn_halt, turn_sign, turn_bring, turn_abort, after_turn, taken, wanted, is_spent, turns}
+use Rattle.ab_run.specs.Setups.{RunSetup}
+use Rattle.ab_run.specs.Replicas.{Rep, RepAction, turn_enter, turn_call, turn_halt, turn_sign, turn_bring, turn_abort, after_turn, taken, wanted, is_spent, turns}
 use Rattle.ab_run.specs.Local.{after_turns, sent_in_turns, marks_in_turns, rep_after, rep_sends, rep_marks}
 use Rattle.ab_replica.specs.Sites.{Site, setup_of}
 use Rattle.ab_replica.specs.Entries.{with_entry}
 
-abbrev pub enters : Turn → ℕ
+abbrev pub enters : RepAction → ℕ
 enters (turn_enter j cert h) = 1
 enters (turn_call call) = 0
 enters turn_halt = 0
@@ -23,32 +23,32 @@ enters (turn_bring c) = 0
 enters (turn_abort c) = 0
 
 -- how often the replica enters an instance in these turns
-abbrev pub entries_in : List Turn → ℕ
+abbrev pub entries_in : List RepAction → ℕ
 entries_in [] = 0
 entries_in (t ∷ ts) = enters t + entries_in ts
 
 -- the replica takes what comes, by the rules of a run: where it then is, what it sends, what is seen of it, and whether the event is spent
-pub record Hears {P : Type 0} (proto : Proto P) (k : Setup) (s : Site P) (call : Call) (now : Site P) (outs : List Out) (marks : List Seen) (spent : Bool) : Type 0 where
+pub record Hears {P : Type 0} (proto : Proto P) (k : RunSetup) (s : Site P) (call : Call) (now : Site P) (outs : List Out) (marks : List Seen) (spent : Bool) : Type 0 where
   pub after : now ≡ record s { rep = rep_after k proto s.me s.rep call; entries = s.entries + entries_in (turns k proto s.me s.rep call) }
   pub sends : outs ≡ rep_sends k proto s.me s.rep call
   pub shows : marks ≡ rep_marks k proto s.me s.rep call
   pub spends : spent ≡ is_spent k proto s.me s.rep call
 
 -- a replica enters the instance after j, and takes the message there
-abbrev pub entering : {P : Type 0} → Setup → Proto P → ℕ → Rep P → Msg → ℕ → List Signed → List Request → List Turn
+abbrev pub entering : {P : Type 0} → RunSetup → Proto P → ℕ → Rep P → Msg → ℕ → List Signed → List Request → List RepAction
 entering k proto r s m j cert h = turn_enter j cert h ∷ taken k proto (after_turn k proto r s (turn_enter j cert h)) m
 
-module _ {P : Type 0} (proto : Proto P) (k : Setup) (s : Site P) (ts : List Turn) where
+module _ {P : Type 0} (proto : Proto P) (k : RunSetup) (s : Site P) (ts : List RepAction) where
   -- whether these turns want more signatures than are left
   abbrev pub are_spent : Bool
   are_spent = nat_lt k.signatures (s.rep.used + wanted k proto s.me s.rep ts)
 
   -- then none of them is taken
-  abbrev pub unless_spent : List Turn
+  abbrev pub unless_spent : List RepAction
   unless_spent = if are_spent then [] else ts
 
 -- the same of a replica that takes these turns, with the signatures of a pen
-pub record Does {P : Type 0} (proto : Proto P) (pen : Pen) (s : Site P) (ts : List Turn) (now : Site P) (outs : List Out) (marks : List Seen) (spent : Bool) : Type 0 where
+pub record Does {P : Type 0} (proto : Proto P) (pen : Pen) (s : Site P) (ts : List RepAction) (now : Site P) (outs : List Out) (marks : List Seen) (spent : Bool) : Type 0 where
   pub after : now ≡ record s {
     rep = after_turns (setup_of s pen) proto s.me s.rep (unless_spent proto (setup_of s pen) s ts);
     entries = s.entries + entries_in (unless_spent proto (setup_of s pen) s ts);
@@ -58,7 +58,7 @@ pub record Does {P : Type 0} (proto : Proto P) (pen : Pen) (s : Site P) (ts : Li
   pub spends : spent ≡ are_spent proto (setup_of s pen) s ts
 
 -- the same of one that has just entered its instance: that is seen too
-pub record Arrives {P : Type 0} (proto : Proto P) (pen : Pen) (s : Site P) (ts : List Turn) (now : Site P) (outs : List Out) (shown : List Seen) (spent : Bool) : Type 0 where
+pub record Arrives {P : Type 0} (proto : Proto P) (pen : Pen) (s : Site P) (ts : List RepAction) (now : Site P) (outs : List Out) (shown : List Seen) (spent : Bool) : Type 0 where
   pub marks : List Seen
   pub does : Does proto pen s ts now outs marks spent
   pub shows : shown ≡ with_entry s.rep.at s.me s.rep.entry.base marks spent

@@ -3,7 +3,7 @@ use Rattle.std.specs.Prelude.{◌≡◌, ℕ, ◌+◌, ◌%◌, ◌^◌, None, [
 use Rattle.ab_num.specs.declared.cluster.Cluster.{Cluster}
 use Rattle.ab_msg.specs.Pens.{Pen}
 use Rattle.ab_abs.specs.Ensembles.{Proto, entry_of}
-use Rattle.ab_run.specs.Setups.{Setup}
+use Rattle.ab_run.specs.Setups.{RunSetup}
 use Rattle.ab_run.specs.Replicas.{Rep}
 
 -- its cluster, its number, how many signatures it can make, where it is, and how often it has entered an instance
@@ -25,13 +25,13 @@ first_site proto c r signatures = record {
 }
 
 -- a run in which the replica stands: of its cluster, with as many signatures and with those of its pen
-pub record IsSetupOf {P : Type 0} (k : Setup) (s : Site P) (pen : Pen) : Type 0 where
+pub record IsSetupOf {P : Type 0} (k : RunSetup) (s : Site P) (pen : Pen) : Type 0 where
   pub cluster : k.cluster ≡ s.cluster
   pub signatures : k.signatures ≡ s.signatures
   pub sig : k.sig s.me ≡ pen.sig
 
 -- the one in which nobody is faulty, and everybody signs as this replica does: what it does depends on neither
-abbrev pub setup_of : {P : Type 0} → Site P → Pen → Setup
+abbrev pub setup_of : {P : Type 0} → Site P → Pen → RunSetup
 setup_of s pen = record { cluster = s.cluster; faulty = []; signatures = s.signatures; sig = λ r. pen.sig }
 
 -- the pen has made the signatures that the replica made, and can make those that it has left

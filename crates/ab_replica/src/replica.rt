@@ -10,7 +10,7 @@ ghost use Rattle.ab_abs.specs.Promises.{ServesAll};
 ghost use Rattle.ab_abs.specs.Ensembles.{entry_of};
 ghost use Rattle.ab_abs.specs.Messages.{took, timed, offered};
 ghost use Rattle.ab_abs.specs.Signers.{SignsNothing};
-ghost use Rattle.ab_run.specs.Setups.{Setup};
+ghost use Rattle.ab_run.specs.Setups.{RunSetup};
 ghost use Rattle.ab_run.specs.Runs.{first_rep};
 ghost use Rattle.ab_run.specs.Replicas.{aborting, halting, here, late, taken, turn_call};
 ghost use Rattle.ab_replica.specs.Sites.{IsPenAfter, IsPenOf, IsSetupOf, Site, first_site, setup_of, timer_number};
@@ -92,7 +92,7 @@ impl<S: Service, P: Protocol<S>> Replica<S, P> {
         requires served { ServesAll P.serves cluster.now }
         requires replica { me < 3 * cluster.now.f + 1 }
         ensures site { IfOk result (λ q. q ≡ first_site P.proto cluster.now me signatures) }
-        ensures first { (k : Setup) → k.cluster ≡ cluster.now → IfOk result (λ q. q.rep ≡ first_rep k P.proto me) }
+        ensures first { (k : RunSetup) → k.cluster ≡ cluster.now → IfOk result (λ q. q.rep ≡ first_rep k P.proto me) }
     {
         let entry = Entry {
             base: History::new(alloc),
@@ -176,7 +176,7 @@ impl<S: Service, P: Protocol<S>> Replica<S, P> {
     ) -> Result<Effects, OutOfMemory>
         requires received { IsReceived m }
         requires pen { IsPenOf (N.pen n.old) (N.remains n.old) self.old }
-        ensures hears { (k : Setup) → IsSetupOf k self.old (N.pen n.old) → IfOk result (λ e. Hears P.proto k self.old (took (message m.entry)) self.new e.outs e.marks.items e.spent) }
+        ensures hears { (k : RunSetup) → IsSetupOf k self.old (N.pen n.old) → IfOk result (λ e. Hears P.proto k self.old (took (message m.entry)) self.new e.outs e.marks.items e.spent) }
         ensures pen { IfOk result (λ e. e.spent ≡ false → IsPenAfter (N.pen n.old) (N.pen n.new) (N.remains n.new) self.new) }
         ensures unused { IfOk result (λ e. e.spent ≡ true → SignsNothing (N.pen n.old) (N.remains n.old) (N.pen n.new) (N.remains n.new)) }
         ensures err { OnErr result (self.new ≡ self.old) }
@@ -191,7 +191,7 @@ impl<S: Service, P: Protocol<S>> Replica<S, P> {
     /// Its timer has run out. As `on` with that call.
     pub fn timeout<N: Notary>(&mut self, alloc: Global, n: &mut N) -> Result<Effects, OutOfMemory>
         requires { IsPenOf (N.pen n.old) (N.remains n.old) self.old }
-        ensures hears { (k : Setup) → IsSetupOf k self.old (N.pen n.old) → IfOk result (λ e. Hears P.proto k self.old timed self.new e.outs e.marks.items e.spent) }
+        ensures hears { (k : RunSetup) → IsSetupOf k self.old (N.pen n.old) → IfOk result (λ e. Hears P.proto k self.old timed self.new e.outs e.marks.items e.spent) }
         ensures pen { IfOk result (λ e. e.spent ≡ false → IsPenAfter (N.pen n.old) (N.pen n.new) (N.remains n.new) self.new) }
         ensures unused { IfOk result (λ e. e.spent ≡ true → SignsNothing (N.pen n.old) (N.remains n.old) (N.pen n.new) (N.remains n.new)) }
         ensures err { OnErr result (self.new ≡ self.old) }

@@ -12,12 +12,12 @@ use Rattle.ab_abs.specs.declared.seen.Seen.TheVariants.{Invoked}
 use Rattle.ab_abs.specs.declared.ballot.Ballot.{Ballot}
 use Rattle.ab_abs.specs.Faults.{is_faulty}
 use Rattle.ab_abs.specs.Acts.{observations, log_of, state_of}
-use Rattle.ab_abs.specs.Deeds.{Deed, acts_in, seen_in}
+use Rattle.ab_abs.specs.Deeds.{InstanceAct, acts_in, seen_in}
 use Rattle.ab_abs.specs.Ensembles.{Proto, Ensemble, Reached}
 use Rattle.ab_abs.specs.FormLaws.{KeepsPlace, Belongs}
 use Rattle.ab_abs.specs.Promises.{ServesAll}
 use Rattle.ab_abs.specs.Votes.{AreFirst}
-use Rattle.ab_run.specs.Setups.{Setup, replicas}
+use Rattle.ab_run.specs.Setups.{RunSetup, replicas}
 use Rattle.ab_run.specs.Replicas.{state_at}
 use Rattle.ab_run.specs.Clients.{Cli, vote_claim}
 use Rattle.ab_run.specs.declared.phase.Phase.{Phase}
@@ -32,7 +32,7 @@ is_open Panicking = true
 
 -- a correct client: one request a stamp, the open one invoked where it is, its votes the first of each replica, and votes and kept ABORTs
 -- made by whom they name
-pub record ClientKeeps (k : Setup) (made : List Content) (had : List (List Request)) (asked : List Request) (deeds : List Deed) (c : ℕ) (s : Cli) : Type 0 where
+pub record ClientKeeps (k : RunSetup) (made : List Content) (had : List (List Request)) (asked : List Request) (deeds : List InstanceAct) (c : ℕ) (s : Cli) : Type 0 where
   pub begun : 1 ≤ s.at
   pub invoked : (i : ℕ) (m : Request) → Contains (observations (acts_in i deeds)) (Invoked i c m) → (m.stamp ≤ s.stamp) × (m.stamp ≡ s.stamp → s.last ≡ Some m)
   pub own : (m : Request) → s.last ≡ Some m → (m.client ≡ c) × (m.stamp ≡ s.stamp)
@@ -44,11 +44,11 @@ pub record ClientKeeps (k : Setup) (made : List Content) (had : List (List Reque
   pub kept_asked : (v : Signed) → Contains s.kept v → (m : Request) → Contains (stated_request v.content) m → Contains asked m
 
 -- what is known of the protocol
-pub record AreRules {P : Type 0} (k : Setup) (proto : Proto P) (serves : Kind → Bool) : Type 0 where
+pub record AreRules {P : Type 0} (k : RunSetup) (proto : Proto P) (serves : Kind → Bool) : Type 0 where
   pub form : KeepsPlace proto serves
   pub all : ServesAll serves k.cluster
 
-module _ {P : Type 0} (k : Setup) (proto : Proto P) (serves : Kind → Bool) where
+module _ {P : Type 0} (k : RunSetup) (proto : Proto P) (serves : Kind → Bool) where
   -- the ensemble v has the acts of the run w
   pub record Keeps (w : Run P) (v : Ensemble P) : Type 0 where
     pub reached : Reached proto k.cluster k.faulty v

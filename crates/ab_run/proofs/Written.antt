@@ -9,6 +9,7 @@ use Rattle.ab_num.specs.declared.party.Party.TheVariants.{Replica, Client}
 use Rattle.ab_num.specs.declared.plan.Kind.{Kind}
 use Rattle.ab_num.specs.declared.plan.Kind.TheVariants as kind
 use Rattle.ab_num.specs.Places.{kind_of}
+use Rattle.ab_num.proofs.Lists.{Contains-one, Contains-none}
 use Rattle.ab_hist.specs.declared.request.Request.{Request}
 use Rattle.ab_msg.specs.declared.content.Content.{Content}
 use Rattle.ab_msg.specs.declared.content.Content.TheVariants.{Abort}
@@ -29,9 +30,8 @@ use Rattle.ab_abs.specs.Ensembles.{Proto, entry_of}
 use Rattle.ab_abs.specs.FormLaws.{KeepsForm, Belongs, begun, called, halted, Arises, IsWrittenEntry, from_entry, by_call, by_stop}
 use Rattle.ab_abs.proofs.Certified.{certificate_written}
 use Rattle.ab_abs.proofs.Drafts.{few_replicas}
-use Rattle.ab_abs.proofs.Statements.{one_of, none_of}
-use Rattle.ab_run.specs.Setups.{Setup, replicas, last_instance}
-use Rattle.ab_run.specs.Replicas.{Rep, Turn, turn_enter, turn_call, turn_halt, turn_sign, turn_bring, turn_abort, after_turn, sent_in_turn, state_at, pen_of, client_of, cert_instance, cert_to, abort_to, brought, aborting, aborting_with, halting, late, here, taken, taken_in, due, due_by, due_with, is_spent, turns}
+use Rattle.ab_run.specs.Setups.{RunSetup, replicas, last_instance}
+use Rattle.ab_run.specs.Replicas.{Rep, RepAction, turn_enter, turn_call, turn_halt, turn_sign, turn_bring, turn_abort, after_turn, sent_in_turn, state_at, pen_of, client_of, cert_instance, cert_to, abort_to, brought, aborting, aborting_with, halting, late, here, taken, taken_in, due, due_by, due_with, is_spent, turns}
 use Rattle.ab_run.specs.Runs.{first_rep}
 use Rattle.ab_run.specs.Local.{after_turns, sent_in_turns, rep_after, rep_sends}
 use Rattle.ab_run.specs.Forms.{IsDraftOf, IsWrittenRep, IsWrittenSetup}
@@ -68,7 +68,7 @@ brought_aborts _ cert of_grammar is = absurd (cc (is))
 -- ---- the turns of replicas
 
 -- a turn whose parts have bytes
-abbrev pub IsGood : Turn → Type 0
+abbrev pub IsGood : RepAction → Type 0
 IsGood (turn_enter j cert h) = (j < last_instance) × (AreAborts 1 7 cert × IsWritten h)
 IsGood (turn_call call) = IsFormed call
 IsGood turn_halt = Unit {0}
@@ -76,11 +76,11 @@ IsGood turn_sign = Unit {0}
 IsGood (turn_bring c) = Unit {0}
 IsGood (turn_abort c) = Unit {0}
 
-abbrev pub AllGood : List Turn → Type 0
+abbrev pub AllGood : List RepAction → Type 0
 AllGood [] = Unit {0}
 AllGood (t ∷ ts) = IsGood t × AllGood ts
 
-pub good_if : (b : Bool) (ts us : List Turn) → AllGood ts → AllGood us → AllGood (if b then ts else us)
+pub good_if : (b : Bool) (ts us : List RepAction) → AllGood ts → AllGood us → AllGood (if b then ts else us)
 good_if true ts us one other = one
 good_if false ts us one other = other
 
@@ -88,7 +88,7 @@ aborting_good : (c : ℕ) (o : Option Signed) → AllGood (aborting_with c o)
 aborting_good c None = (tt, (tt, tt))
 aborting_good c (Some abort) = (tt, tt)
 
-module _ {P : Type 0} (k : Setup) (proto : Proto P) where
+module _ {P : Type 0} (k : RunSetup) (proto : Proto P) where
   halting_good : (c : ℕ) (s : Rep P) → AllGood (halting k proto c s)
   halting_good c s =
       let due = aborting k proto c s in
@@ -148,7 +148,7 @@ module _ {P : Type 0} (proto : Proto P) (serves : Kind → Bool) (c : Cluster) (
   placed p (by_call pen q call lawful formed was) = placed q was
   placed p (by_stop q was) = placed q was
 
-module _ {P : Type 0} (k : Setup) (proto : Proto P) {serves : Kind → Bool} (form : KeepsForm proto serves) (are : IsWrittenSetup k serves) where
+module _ {P : Type 0} (k : RunSetup) (proto : Proto P) {serves : Kind → Bool} (form : KeepsForm proto serves) (are : IsWrittenSetup k serves) where
   abbrev pub Stands : ℕ → Rep P → Type 0
   Stands r s = IsWrittenRep proto serves k.cluster r s
 
@@ -160,7 +160,7 @@ module _ {P : Type 0} (k : Setup) (proto : Proto P) {serves : Kind → Bool} (fo
   pub abort_written : (r : ℕ) (s : Rep P) → r < replicas k → Stands r s → IsAbort (Abort (Replica r) s.at (state_at k proto s).log)
   abort_written r s lt was = ((omega arith, few_replicas k.cluster r lt), (placed proto serves k.cluster s.at r s.value was.arises, form.written k.cluster s.at r s.value was.arises))
 
-  pub turn_keeps : (r : ℕ) (t : Turn) (s : Rep P) → r < replicas k → IsGood t → Stands r s → Stands r (after_turn k proto r s t)
+  pub turn_keeps : (r : ℕ) (t : RepAction) (s : Rep P) → r < replicas k → IsGood t → Stands r s → Stands r (after_turn k proto r s t)
   turn_keeps r (turn_enter j cert h) s lt good was =
       let entry : IsWrittenEntry (entry_of h (Some cert)) = record { base = good.1.1; cert = λ other is. let same : cert ≡ other = cc (is) in subst (AreAborts 1 7) same good.1.0 } in
       record {
@@ -183,26 +183,26 @@ module _ {P : Type 0} (k : Setup) (proto : Proto P) {serves : Kind → Bool} (fo
   turn_keeps r (turn_abort c) s lt good was = was
 
   cert_drafts : (r c : ℕ) (o : Option (List Signed)) → ((cert : List Signed) → o ≡ Some cert → AreAborts 1 7 cert) → (out : Out) → Contains (cert_to c o) out → IsDraftOf k.cluster.f (Replica r) out
-  cert_drafts r c None all out has = absurd (none_of out has)
+  cert_drafts r c None all out has = absurd (Contains-none out has)
   cert_drafts r c (Some cert) all out has =
       let sent : Out = record { to = Client c; msg = msg.Init cert } in
-      subst (IsDraftOf k.cluster.f (Replica r)) (one_of sent out has) (record { draft = all cert refl; own = λ q gone. absurd (none_of q gone) })
+      subst (IsDraftOf k.cluster.f (Replica r)) (Contains-one sent out has) (record { draft = all cert refl; own = λ q gone. absurd (Contains-none q gone) })
 
   abort_drafts : (r c : ℕ) (o : Option Signed) → ((v : Signed) → o ≡ Some v → IsSigned IsAbort v × (maker_of v.content ≡ Replica r)) → (out : Out) → Contains (abort_to c o) out → IsDraftOf k.cluster.f (Replica r) out
-  abort_drafts r c None all out has = absurd (none_of out has)
+  abort_drafts r c None all out has = absurd (Contains-none out has)
   abort_drafts r c (Some v) all out has =
       let sent : Out = record { to = Client c; msg = msg.Abort v } in
       let is = all v refl in
-      subst (IsDraftOf k.cluster.f (Replica r)) (one_of sent out has) (record { draft = is.0; own = λ q at. subst (λ (z : Content). maker_of z ≡ Replica r) (one_of v.content q at) is.1 })
+      subst (IsDraftOf k.cluster.f (Replica r)) (Contains-one sent out has) (record { draft = is.0; own = λ q at. subst (λ (z : Content). maker_of z ≡ Replica r) (Contains-one v.content q at) is.1 })
 
-  pub turn_drafts : (r : ℕ) (t : Turn) (s : Rep P) → r < replicas k → IsGood t → Stands r s → (o : Out) → Contains (sent_in_turn k proto r s t) o → IsDraftOf k.cluster.f (Replica r) o
-  turn_drafts r (turn_enter j cert h) s lt good was o has = absurd (none_of o has)
+  pub turn_drafts : (r : ℕ) (t : RepAction) (s : Rep P) → r < replicas k → IsGood t → Stands r s → (o : Out) → Contains (sent_in_turn k proto r s t) o → IsDraftOf k.cluster.f (Replica r) o
+  turn_drafts r (turn_enter j cert h) s lt good was o has = absurd (Contains-none o has)
   turn_drafts r (turn_call call) s lt good was o has = record {
     draft = form.drafts k.cluster s.at r (pen_of k proto r s) s.value call (λ q n. are.signs r q n lt) was.arises good o has;
     own = λ q at. (form.own k.cluster s.at r (pen_of k proto r s) s.value call o q (belongs proto serves k.cluster s.at r s.value was.arises) has at).0;
   }
-  turn_drafts r turn_halt s lt good was o has = absurd (none_of o has)
-  turn_drafts r turn_sign s lt good was o has = absurd (none_of o has)
+  turn_drafts r turn_halt s lt good was o has = absurd (Contains-none o has)
+  turn_drafts r turn_sign s lt good was o has = absurd (Contains-none o has)
   turn_drafts r (turn_bring c) s lt good was o has = cert_drafts r c s.entry.cert was.entry.cert o has
   turn_drafts r (turn_abort c) s lt good was o has = abort_drafts r c s.abort was.abort o has
 
@@ -211,8 +211,8 @@ module _ {P : Type 0} (k : Setup) (proto : Proto P) {serves : Kind → Bool} (fo
     pub stands : Stands r now
     pub drafts : (o : Out) → Contains sent o → IsDraftOf k.cluster.f (Replica r) o
 
-  turns_go : (r : ℕ) (ts : List Turn) (s : Rep P) → r < replicas k → AllGood ts → Stands r s → Goes r (after_turns k proto r s ts) (sent_in_turns k proto r s ts)
-  turns_go r [] s lt good was = record { stands = was; drafts = λ o gone. absurd (none_of o gone) }
+  turns_go : (r : ℕ) (ts : List RepAction) (s : Rep P) → r < replicas k → AllGood ts → Stands r s → Goes r (after_turns k proto r s ts) (sent_in_turns k proto r s ts)
+  turns_go r [] s lt good was = record { stands = was; drafts = λ o gone. absurd (Contains-none o gone) }
   turns_go r (t ∷ ts) s lt good was =
       let rest = turns_go r ts (after_turn k proto r s t) lt good.1 (turn_keeps r t s lt good.0 was) in
       record {

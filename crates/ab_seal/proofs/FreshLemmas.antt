@@ -16,49 +16,10 @@ use Rattle.ab_msg.specs.declared.message.Msg.{Msg}
 use Rattle.ab_msg.specs.declared.message.Msg.TheVariants as msg
 use Rattle.ab_msg.specs.Claims.{fresh, passed_at}
 use Rattle.ab_msg.specs.Fields.{IsInstance, IsReply, IsRequest}
-use Rattle.ab_msg.specs.Contents.{IsAbort, IsChange, IsCommit, IsContent, IsNewView, IsOrder, IsPanic, IsPrePrepare, IsPrepare, IsReq, IsResp}
+use Rattle.ab_msg.specs.Contents.{IsContent}
 use Rattle.ab_msg.specs.Messages.{IsDraft}
 use Rattle.ab_seal.proofs.DraftLemmas.{party-fits}
-
-of-req : (c : Content) → IsReq c → IsContent c
-of-req (Req maker i m) h = h
-of-req c h = absurd h
-
-of-order : (c : Content) → IsOrder c → IsContent c
-of-order (Order maker i n m) h = h
-of-order c h = absurd h
-
-of-resp : (c : Content) → IsResp c → IsContent c
-of-resp (Resp maker i client stamp n d reply) h = h
-of-resp c h = absurd h
-
-of-panic : (c : Content) → IsPanic c → IsContent c
-of-panic (Panic maker i) h = h
-of-panic c h = absurd h
-
-of-abort : (c : Content) → IsAbort c → IsContent c
-of-abort (Abort maker i history) h = h
-of-abort c h = absurd h
-
-of-pre_prepare : (c : Content) → IsPrePrepare c → IsContent c
-of-pre_prepare (PrePrepare maker i view slot x) h = h
-of-pre_prepare c h = absurd h
-
-of-prepare : (c : Content) → IsPrepare c → IsContent c
-of-prepare (Prepare maker i view slot x) h = h
-of-prepare c h = absurd h
-
-of-commit : (c : Content) → IsCommit c → IsContent c
-of-commit (Commit maker i view slot x) h = h
-of-commit c h = absurd h
-
-of-change : (c : Content) → IsChange c → IsContent c
-of-change (ViewChange maker i view entries) h = h
-of-change c h = absurd h
-
-of-new_view : (c : Content) → IsNewView c → IsContent c
-of-new_view (NewView maker i view) h = h
-of-new_view c h = absurd h
+use Rattle.ab_wire.proofs.KindLemmas.{req_content, order_content, resp_content, panic_content, abort_content, pre_prepare_content, prepare_content, commit_content, change_content, new_view_content}
 
 nothing : All IsContent []
 nothing = λ k d lt. absurd (omega (arith, lt))
@@ -81,17 +42,17 @@ passed-fits f i m n d (Some reply) r p by at asks within long short =
     (by, (at, (asks.0, (asks.1.0, (within, long))))) (by, (at, (asks.0, (asks.1.0, (within, (long, short))))))
 
 pub fresh-fits : (f clients : ℕ) (p : Party) (m : Msg) → IsInBounds f clients → IsTrue (is_party f clients p) → IsDraft m → All IsContent (fresh f p m)
-fresh-fits f clients p (msg.Req content tags) bounds party h = alone content (of-req content h)
-fresh-fits f clients p (msg.Order content client_tag tag) bounds party h = alone content (of-order content h.0)
-fresh-fits f clients p (msg.Resp content tag) bounds party h = alone content (of-resp content h)
+fresh-fits f clients p (msg.Req content tags) bounds party h = alone content (req_content content h)
+fresh-fits f clients p (msg.Order content client_tag tag) bounds party h = alone content (order_content content h.0)
+fresh-fits f clients p (msg.Resp content tag) bounds party h = alone content (resp_content content h)
 fresh-fits f clients (Replica r) (msg.Chain i m n d reply tags) bounds party h =
     passed-fits f i m n d reply r (position_in f i r) (party-fits f clients (Replica r) bounds.few_faulty bounds.few_clients party) h.0 h.1.0 h.1.1.0 h.1.1.1.0 h.1.1.1.1.0
 fresh-fits f clients (Client c) (msg.Chain i m n d reply tags) bounds party h = nothing
-fresh-fits f clients p (msg.Panic content tag) bounds party h = alone content (of-panic content h)
-fresh-fits f clients p (msg.Abort abort) bounds party h = alone abort.content (of-abort abort.content h.1.0)
+fresh-fits f clients p (msg.Panic content tag) bounds party h = alone content (panic_content content h)
+fresh-fits f clients p (msg.Abort abort) bounds party h = alone abort.content (abort_content abort.content h.1.0)
 fresh-fits f clients p (msg.Init cert) bounds party h = nothing
-fresh-fits f clients p (msg.PrePrepare content tag offer) bounds party h = alone content (of-pre_prepare content h.0)
-fresh-fits f clients p (msg.Prepare prepare) bounds party h = alone prepare.content (of-prepare prepare.content h.1.0)
-fresh-fits f clients p (msg.Commit content tag) bounds party h = alone content (of-commit content h)
-fresh-fits f clients p (msg.ViewChange change) bounds party h = alone change.change.content (of-change change.change.content h.0.1.0)
-fresh-fits f clients p (msg.NewView content tag changes) bounds party h = alone content (of-new_view content h.0)
+fresh-fits f clients p (msg.PrePrepare content tag offer) bounds party h = alone content (pre_prepare_content content h.0)
+fresh-fits f clients p (msg.Prepare prepare) bounds party h = alone prepare.content (prepare_content prepare.content h.1.0)
+fresh-fits f clients p (msg.Commit content tag) bounds party h = alone content (commit_content content h)
+fresh-fits f clients p (msg.ViewChange change) bounds party h = alone change.change.content (change_content change.change.content h.0.1.0)
+fresh-fits f clients p (msg.NewView content tag changes) bounds party h = alone content (new_view_content content h.0)

@@ -14,7 +14,7 @@ use std::alloc::Global;
 
 /// A request on its way along a chain, without the tags.
 #[derive(Clone, Copy)]
-pub(crate) struct Link<'a> {
+pub(crate) struct Passing<'a> {
     pub(crate) instance: u32,
     pub(crate) request: &'a Request,
     pub(crate) n: u16,
@@ -59,7 +59,7 @@ fn forward_tags(
 fn add_answer(
     alloc: Global,
     k: &KeyRing,
-    l: &Link<'_>,
+    l: &Passing<'_>,
     r: u8,
     p: u8,
     tags: &mut Vec<TagBetween>,
@@ -90,7 +90,7 @@ fn add_answer(
 fn tags_at(
     alloc: Global,
     k: &KeyRing,
-    l: &Link<'_>,
+    l: &Passing<'_>,
     r: u8,
     p: u8,
 ) -> Result<Vec<TagBetween>, OutOfMemory>
@@ -116,7 +116,7 @@ fn tags_at(
 pub(crate) fn own_tags(
     alloc: Global,
     k: &KeyRing,
-    l: &Link<'_>,
+    l: &Passing<'_>,
 ) -> Result<Vec<TagBetween>, OutOfMemory>
     requires { 1 ≤ l.now.instance }
     ensures tags { IfOk result (λ v. v.items ≡ own_tags k.now k.now.me l.now.instance l.now.request.now l.now.n l.now.d.now l.now.reply.now) }

@@ -3,8 +3,8 @@
 
 mod chain;
 mod laws;
-mod link;
 mod message;
+mod passing;
 mod receivers;
 mod repeats;
 mod sealed;

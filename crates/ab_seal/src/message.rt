@@ -6,7 +6,7 @@ ghost use Rattle.ab_msg.specs.Claims.{fresh};
 ghost use Rattle.ab_msg.specs.Contents.{spell_content};
 ghost use Rattle.ab_msg.specs.Messages.{IsDraft};
 
-use crate::link::Link;
+use crate::passing::Passing;
 use crate::texts::Texts;
 use ab_msg::Msg;
 use ab_num::{Cluster, OutOfMemory, Party};
@@ -31,7 +31,7 @@ pub fn stated(alloc: Global, k: &Cluster, p: Party, m: &Msg) -> Result<Texts, Ou
             reply,
             ..
         } => {
-            let link = Link {
+            let link = Passing {
                 instance: *instance,
                 request,
                 n: *n,

@@ -12,7 +12,7 @@ ghost use Rattle.ab_write.specs.Writable.{AreSigned, IsProofFit};
 ghost use Rattle.ab_msg.specs.Certs.{spell_proof};
 ghost use Rattle.ab_seal.specs.Sealing.{IsOwn, content_tag, own_tags as tags_of_party, sealed, tags_made as made_tags};
 
-use crate::chain::{Link, own_tags};
+use crate::chain::{Passing, own_tags};
 use crate::tags::{tag_made, tags_made};
 use ab_form::{put_bytes, put_u8};
 use ab_keys::KeyRing;
@@ -128,7 +128,7 @@ fn seal_new_view(
 fn seal_chain(
     alloc: Global,
     k: &KeyRing,
-    l: &Link<'_>,
+    l: &Passing<'_>,
     tags: &ChainTags,
 ) -> Result<Vec<u8>, OutOfMemory>
     requires instance { 1 ≤ l.now.instance }
@@ -169,7 +169,7 @@ pub fn seal(alloc: Global, k: &KeyRing, o: &Out) -> Result<Vec<u8>, OutOfMemory>
             reply,
             tags,
         } => {
-            let link = Link {
+            let link = Passing {
                 instance: *instance,
                 request,
                 n: *n,

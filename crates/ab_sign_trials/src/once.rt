@@ -1,6 +1,6 @@
 //! One signature, as another implementation made it.
 
-use ab_lmots::{candidate, key_once, sign_once};
+use ab_lms::{candidate, key_once, sign_once};
 use ab_mac::hash;
 use std::process::Abort;
 

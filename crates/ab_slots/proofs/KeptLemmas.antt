@@ -7,6 +7,7 @@ use Rattle.std.proofs.lemmas.List.Sums.{take_while-cons}
 use Rattle.std.proofs.lemmas.List.{take_more}
 use Rattle.std.proofs.lemmas.Bool.{cases_Bool}
 use Rattle.std.proofs.lemmas.Bool.Decides.{nat_tests}
+use Rattle.ab_num.proofs.Tests.{nat_lt-turned, nat_lt-above, nat_lt-same}
 use Rattle.ab_msg.specs.declared.value.Value.{Value}
 use Rattle.ab_lock.specs.ViewChanges.{Kept, of_view, put}
 use Rattle.ab_pbft_rules.specs.Rules.{without}
@@ -71,17 +72,8 @@ place_within r (u ∷ kept) =
       | inr other ↦ rw other (omega arith)
     ]
 
-not_below : (a b : ℕ) → nat_lt a b ≡ true → nat_lt b a ≡ false
-not_below a b h = grind (arith, nat_tests)
-
 not_same : (a b : ℕ) → nat_lt a b ≡ true → (b == a) ≡ false
 not_same a b h = grind (arith, nat_tests)
-
-above : (a b : ℕ) → nat_lt a b ≡ false → (a == b) ≡ false → nat_lt b a ≡ true
-above a b h e = grind (arith, nat_tests)
-
-same_not_below : (a b : ℕ) → (a == b) ≡ true → nat_lt b a ≡ false
-same_not_below a b e = grind (arith, nat_tests)
 
 same_turned : (a b : ℕ) → (a == b) ≡ true → (b == a) ≡ true
 same_turned a b e = grind (arith, nat_tests)
@@ -93,11 +85,11 @@ put_new new (u ∷ kept) none = of (put_new new kept) (cases_Bool (nat_lt u.chan
   where
     of : (is_by new.change.by (slice_get kept (place_by new.change.by kept)) ≡ false → insert kept (place_by new.change.by kept) new ≡ put new kept) → ((nat_lt u.change.by new.change.by ≡ true) ⊎ (nat_lt u.change.by new.change.by ≡ false)) → insert (u ∷ kept) (place_by new.change.by (u ∷ kept)) new ≡ put new (u ∷ kept)
     of rest (inl lower) =
-        let a = not_below u.change.by new.change.by lower in
+        let a = nat_lt-turned u.change.by new.change.by lower in
         let b = not_same u.change.by new.change.by lower in
         rw (lower, a, b) (ap (λ l. u ∷ l) (rest (rw lower at none)))
     of rest (inr other) =
-        let c = above u.change.by new.change.by other (rw other at none) in
+        let c = nat_lt-above u.change.by new.change.by other (rw other at none) in
         rw (other, c) refl
 
 -- one of a replica that has one there
@@ -108,7 +100,7 @@ put_there new u (v ∷ kept) is same = of (λ there. put_there new u kept there 
   where
     of : (slice_get kept (place_by new.change.by kept) ≡ Some u → put new kept ≡ (if nat_lt u.view new.view then slice_set kept (place_by new.change.by kept) new else kept)) → ((nat_lt v.change.by new.change.by ≡ true) ⊎ (nat_lt v.change.by new.change.by ≡ false)) → put new (v ∷ kept) ≡ (if nat_lt u.view new.view then slice_set (v ∷ kept) (place_by new.change.by (v ∷ kept)) new else v ∷ kept)
     of rest (inl lower) =
-        let a = not_below v.change.by new.change.by lower in
+        let a = nat_lt-turned v.change.by new.change.by lower in
         let b = not_same v.change.by new.change.by lower in
         let more = rest (rw lower at is) in
         elim (cases_Bool (nat_lt u.view new.view)) [
@@ -119,7 +111,7 @@ put_there new u (v ∷ kept) is same = of (λ there. put_there new u kept there 
         let here : Some v ≡ Some u = rw other at is in
         let e : v ≡ u = cc here in
         let twin = ap (λ (w : Kept Value). w.change.by == new.change.by) e ∙ same in
-        let a = same_not_below v.change.by new.change.by twin in
+        let a = nat_lt-same v.change.by new.change.by twin in
         let b = same_turned v.change.by new.change.by twin in
         let view_is : nat_lt v.view new.view ≡ nat_lt u.view new.view = ap (λ (w : Kept Value). nat_lt w.view new.view) e in
         elim (cases_Bool (nat_lt u.view new.view)) [

@@ -1,10 +1,10 @@
 -- Requests that wait.
-use Rattle.std.proofs.Common.{◌≡◌, ◌⊎◌, ℕ, suc, ◌≤◌, ◌==◌, true, false, List, [], ◌∷◌, length, refl, ap, ◌∙◌, inl, inr, arith}
+use Rattle.std.proofs.Common.{◌≡◌, ◌⊎◌, ℕ, suc, ◌≤◌, true, false, List, [], ◌∷◌, length, refl, ap, ◌∙◌, inl, inr, arith}
 use Rattle.std.specs.Prelude.{nat_lt, slice_get, slice_set}
 use Rattle.std.specs.List.{insert, take_while}
 use Rattle.std.proofs.lemmas.List.Sums.{take_while-cons}
 use Rattle.std.proofs.lemmas.Bool.{cases_Bool}
-use Rattle.std.proofs.lemmas.Bool.Decides.{nat_tests}
+use Rattle.ab_num.proofs.Tests.{nat_lt-turned, nat_lt-above, nat_lt-same}
 use Rattle.ab_hist.specs.declared.request.Request.{Request}
 use Rattle.ab_order.specs.Backups.{keep}
 use Rattle.ab_slots.specs.Places.{place_of, is_of}
@@ -25,15 +25,6 @@ client_within client (m ∷ kept) =
       | inr other ↦ rw other (omega arith)
     ]
 
-not_below : (a b : ℕ) → nat_lt a b ≡ true → nat_lt b a ≡ false
-not_below a b h = grind (arith, nat_tests)
-
-above : (a b : ℕ) → nat_lt a b ≡ false → (a == b) ≡ false → nat_lt b a ≡ true
-above a b h e = grind (arith, nat_tests)
-
-same_not_below : (a b : ℕ) → (a == b) ≡ true → nat_lt b a ≡ false
-same_not_below a b e = grind (arith, nat_tests)
-
 -- the first of a client
 pub keep_new : (m : Request) (kept : List Request) → is_of m.client (slice_get kept (place_of m.client kept)) ≡ false → insert kept (place_of m.client kept) m ≡ keep m kept
 keep_new m [] none = refl
@@ -41,10 +32,10 @@ keep_new m (o ∷ kept) none = of (keep_new m kept) (cases_Bool (nat_lt o.client
   where
     of : (is_of m.client (slice_get kept (place_of m.client kept)) ≡ false → insert kept (place_of m.client kept) m ≡ keep m kept) → ((nat_lt o.client m.client ≡ true) ⊎ (nat_lt o.client m.client ≡ false)) → insert (o ∷ kept) (place_of m.client (o ∷ kept)) m ≡ keep m (o ∷ kept)
     of rest (inl lower) =
-        let a = not_below o.client m.client lower in
+        let a = nat_lt-turned o.client m.client lower in
         rw (lower, a) (ap (λ l. o ∷ l) (rest (rw lower at none)))
     of rest (inr other) =
-        let c = above o.client m.client other (rw other at none) in
+        let c = nat_lt-above o.client m.client other (rw other at none) in
         rw (other, c) refl
 
 -- and one in place of another
@@ -54,8 +45,8 @@ keep_there m (o ∷ kept) there = of (keep_there m kept) (cases_Bool (nat_lt o.c
   where
     of : (is_of m.client (slice_get kept (place_of m.client kept)) ≡ true → slice_set kept (place_of m.client kept) m ≡ keep m kept) → ((nat_lt o.client m.client ≡ true) ⊎ (nat_lt o.client m.client ≡ false)) → slice_set (o ∷ kept) (place_of m.client (o ∷ kept)) m ≡ keep m (o ∷ kept)
     of rest (inl lower) =
-        let a = not_below o.client m.client lower in
+        let a = nat_lt-turned o.client m.client lower in
         rw (lower, a) (ap (λ l. o ∷ l) (rest (rw lower at there)))
     of rest (inr other) =
-        let c = same_not_below o.client m.client (rw other at there) in
+        let c = nat_lt-same o.client m.client (rw other at there) in
         rw (other, c) refl

@@ -1,9 +1,9 @@
 -- What comes to a replica as code, as the rules see it.
 use Rattle.ab_order.specs.Inputs as told
-use Rattle.ab_slots.specs.declared.input.Input.{Input}
-use Rattle.ab_slots.specs.declared.input.Input.TheVariants.{Request, PrePrepareBase, PrePrepare, Prepare, Commit, ViewChange, NewView, Timeout, Other}
+use Rattle.ab_slots.specs.declared.reading.Reading.{Reading}
+use Rattle.ab_slots.specs.declared.reading.Reading.TheVariants.{Request, PrePrepareBase, PrePrepare, Prepare, Commit, ViewChange, NewView, Timeout, Other}
 
-abbrev pub input_of : Input → told.Input
+abbrev pub input_of : Reading → told.Reading
 input_of (Request m) = told.request m
 input_of (PrePrepareBase by view x base) = told.pre_prepare_base by view x base
 input_of (PrePrepare by view slot x m) = told.pre_prepare by view slot x m

@@ -5,17 +5,17 @@
 pub mod certs;
 mod change;
 mod choosing;
-mod deed;
 mod digest;
-mod input;
 pub mod kept;
+mod notice;
+mod reading;
+pub mod slot_vote;
 mod slots;
-pub mod vote;
 pub mod waiting;
 
 pub use change::{Cert, Change};
 pub use choosing::chosen;
-pub use deed::Deed;
 pub use digest::slot_digest;
-pub use input::{ChangeInput, Input, ProvedSlot, into_changes, may_enter};
+pub use notice::Notice;
+pub use reading::{ChangeReading, ProvedSlot, Reading, into_changes, may_enter};
 pub use slots::Slots;

@@ -31,11 +31,12 @@ use Rattle.ab_world.specs.declared.fault.WorldFault.{WorldFault}
 use Rattle.ab_world.specs.declared.fault.WorldFault.TheVariants.{EventLimit, PacketLimit, BadCommand}
 use Rattle.ab_world.specs.Steps.{Happening, Given, ask, hand, ring, refuse_command, asked_at, asked, handed, rung, delivered, happening, ready_in, ready, after, within_limit, stepped_by, stepped}
 use Rattle.ab_world.specs.Worlds.{World, start}
-use Rattle.ab_world.proofs.SeatLemmas.{length-first_seats, length-first_sites}
+use Rattle.ab_world.proofs.SeatLemmas.{length-first_sites}
 use Rattle.ab_world.proofs.SentLemmas.{IsWithin, start_sends, step_sends}
 use Rattle.ab_storm.specs.Standing.{Goes}
 use Rattle.ab_storm.specs.Runs.{idle_of, drawn_at, storm_of, storm_setup}
 use Rattle.ab_storm.proofs.Stepping.{Keeps, given_keeps}
+use Rattle.ab_cast.proofs.CastLemmas.{length-first_seats}
 
 -- ---- idle clients
 

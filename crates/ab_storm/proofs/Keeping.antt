@@ -24,10 +24,6 @@ pub on_ok : {T E : Type 0} (r : Result T E) (Q : Type 0) → Q → OnOk r Q
 on_ok (Ok t) Q q = q
 on_ok (Err e) Q q = tt
 
-pub on_ok_so : {T E : Type 0} (r : Result T E) (Q R : Type 0) → (Q → R) → OnOk r Q → OnOk r R
-on_ok_so (Ok t) Q R so q = so q
-on_ok_so (Err e) Q R so q = tt
-
 -- ---- event by event
 
 module _ {P : Type 0} (proto : Proto P) where

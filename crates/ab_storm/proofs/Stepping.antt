@@ -4,10 +4,10 @@ use Rattle.std.specs.Prelude.{slice_get}
 use Rattle.std.specs.Option.{option_map}
 use Rattle.ab_num.specs.declared.party.Party.{Party}
 use Rattle.ab_num.specs.declared.party.Party.TheVariants.{Replica, Client}
+use Rattle.ab_num.proofs.Lists.{length-slice_set}
 use Rattle.ab_open.specs.declared.fault.OpenFault.{OpenFault}
 use Rattle.ab_abs.specs.Ensembles.{Proto}
 use Rattle.ab_run.specs.Local.{Cue, cue_command, cue_message, cue_time}
-use Rattle.ab_run.proofs.Listed.{set_length}
 use Rattle.ab_replica.specs.Sites.{Site}
 use Rattle.ab_client.specs.Clients.{Seat}
 use Rattle.ab_cast.specs.Setups.{own_place, party_at}
@@ -30,13 +30,13 @@ module _ {P : Type 0} (proto : Proto P) (w : World P) where
 
   replica_keeps : (r : ℕ) (cue : Cue) (o : Option (Site P)) → Keeps (moved_at proto w (own_place (Replica r)) cue (option_map replica o))
   replica_keeps r cue None = still
-  replica_keeps r (cue_command bytes) (Some s) = record { setup = refl; replicas = set_length w.cast.replicas r _; clients = refl; events = omega arith; ended = refl }
-  replica_keeps r (cue_message m) (Some s) = record { setup = refl; replicas = set_length w.cast.replicas r _; clients = refl; events = omega arith; ended = refl }
-  replica_keeps r cue_time (Some s) = record { setup = refl; replicas = set_length w.cast.replicas r _; clients = refl; events = omega arith; ended = refl }
+  replica_keeps r (cue_command bytes) (Some s) = record { setup = refl; replicas = length-slice_set w.cast.replicas r _; clients = refl; events = omega arith; ended = refl }
+  replica_keeps r (cue_message m) (Some s) = record { setup = refl; replicas = length-slice_set w.cast.replicas r _; clients = refl; events = omega arith; ended = refl }
+  replica_keeps r cue_time (Some s) = record { setup = refl; replicas = length-slice_set w.cast.replicas r _; clients = refl; events = omega arith; ended = refl }
 
   client_keeps : (c : ℕ) (cue : Cue) (o : Option Seat) → Keeps (moved_at proto w (own_place (Client c)) cue (option_map client o))
   client_keeps c cue None = still
-  client_keeps c cue (Some s) = record { setup = refl; replicas = refl; clients = set_length w.cast.clients c _; events = omega arith; ended = refl }
+  client_keeps c cue (Some s) = record { setup = refl; replicas = refl; clients = length-slice_set w.cast.clients c _; events = omega arith; ended = refl }
 
   own_keeps : (p : Party) (cue : Cue) → Keeps (moved_at proto w (own_place p) cue (core_at w.cast (own_place p)))
   own_keeps (Replica r) cue = replica_keeps r cue (slice_get w.cast.replicas r)

@@ -1,8 +1,7 @@
 -- The run of a storm.
 use Rattle.std.proofs.Common.{◌≡◌, ℕ, zero, suc, ◌+◌, ◌-◌, ◌≤◌, ◌<◌, Bool, Option, None, Some, List, ◌∷◌, Result, Ok, Err, length, refl, sym, ap, ◌∙◌, subst, arith}
 use Rattle.std.proofs.Math.Bridge.{le_prop}
-use Rattle.std.specs.Prelude.{IfErr, IsSome}
-use Rattle.std.specs.Result.{IsErrAnd}
+use Rattle.std.specs.Prelude.{IsSome}
 use Rattle.ab_num.specs.Bounds.{IsInBounds}
 use Rattle.ab_num.specs.declared.cluster.Cluster.{Cluster}
 use Rattle.ab_num.specs.declared.plan.Plan.{Plan}
@@ -44,11 +43,6 @@ one_end proto k r q a b =
     ∙ b.runs
 
 -- ---- results
-
--- an error that is handed on
-pub kept_err : {T E : Type 0} (r : Result T E) (x : E) (Q : E → Type 0) → IsErrAnd r (λ e. e ≡ x) → Q x → IfErr r Q
-kept_err (Ok t) x Q is q = tt
-kept_err (Err e) x Q is q = subst Q (sym is) q
 
 -- what the generator answers is what is drawn where the world stands
 pub drawn_so : {P : Type 0} (s t : Storm) (w : World P) (e : Event) (packets : ℕ) (idle : List Bool) → packets ≡ length w.packets → idle ≡ idle_of w → (e, t) ≡ next_of packets idle s

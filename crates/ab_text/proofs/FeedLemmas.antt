@@ -28,10 +28,10 @@ use Rattle.ab_text.proofs.HexLemmas.{encoded_lower}
 use Rattle.ab_text.proofs.PartLemmas.{Lacks-append, Lacks-cons, Lacks-decimal}
 use Rattle.ab_text.specs.Texts.{text_of, schedule_text}
 
-abbrev HasNoFeed : List ℕ → Type 0
+abbrev pub HasNoFeed : List ℕ → Type 0
 HasNoFeed l = Lacks 10 l
 
-abbrev HaveNoFeed : List (List ℕ) → Type 0
+abbrev pub HaveNoFeed : List (List ℕ) → Type 0
 HaveNoFeed ls = AllByRecursion HasNoFeed ls
 
 first_line : (l rest : List ℕ) → HasNoFeed l → lines_of ((l ++ 10 ∷ []) ++ rest) ≡ l ∷ lines_of rest
@@ -41,19 +41,19 @@ first_line (b ∷ l) rest none =
     ap (λ t. if t then [] ∷ lines_of ((l ++ 10 ∷ []) ++ rest) else onto_first b (lines_of ((l ++ 10 ∷ []) ++ rest))) other
     ∙ ap (onto_first b) (first_line l rest (λ k d lt. none (suc k) d (omega arith)))
 
-lines_of-text_of : (ls : List (List ℕ)) → HaveNoFeed ls → lines_of (text_of ls) ≡ ls
+pub lines_of-text_of : (ls : List (List ℕ)) → HaveNoFeed ls → lines_of (text_of ls) ≡ ls
 lines_of-text_of [] none = refl
 lines_of-text_of (l ∷ ls) none = first_line l (text_of ls) none.0 ∙ ap (λ t. l ∷ t) (lines_of-text_of ls none.1)
 
-both : (a b : List (List ℕ)) → HaveNoFeed a → HaveNoFeed b → HaveNoFeed (a ++ b)
+pub both : (a b : List (List ℕ)) → HaveNoFeed a → HaveNoFeed b → HaveNoFeed (a ++ b)
 both [] b first second = second
 both (x ∷ a) b first second = (first.0, both a b first.1 second)
 
 -- the test of a literal
-abbrev has_no_feed : List ℕ → Bool
+abbrev pub has_no_feed : List ℕ → Bool
 has_no_feed l = list_all (λ b. not (eqb b 10)) l
 
-tested : (l : List ℕ) → has_no_feed l ≡ true → HasNoFeed l
+pub tested : (l : List ℕ) → has_no_feed l ≡ true → HasNoFeed l
 tested [] h = λ k d lt. absurd (omega arith)
 tested (b ∷ l) h =
     let parts = and_parts (not (eqb b 10)) (has_no_feed l) h in
@@ -61,7 +61,7 @@ tested (b ∷ l) h =
 
 -- ---- events
 
-no_feed_in_digits : (bytes : List ℕ) → All (λ b. b < 256) bytes → HasNoFeed (encode_lower bytes)
+pub no_feed_in_digits : (bytes : List ℕ) → All (λ b. b < 256) bytes → HasNoFeed (encode_lower bytes)
 no_feed_in_digits bytes small k d lt e = elim (encoded_lower bytes small k d lt) [
   | inl low ↦ (let a = low.0 in omega (arith, a, e))
   | inr high ↦ (let a = high.0 in omega (arith, a, e))
@@ -120,7 +120,7 @@ no_feed_in_faulty f clients done (x ∷ faulty) events few small next good =
 
 -- ---- the head
 
-no_feed_in_plan : (p : Plan) → HasNoFeed (plan_line p)
+pub no_feed_in_plan : (p : Plan) → HasNoFeed (plan_line p)
 no_feed_in_plan AZyzzyva = tested (codes "plan azyzzyva") refl
 no_feed_in_plan Aliph = tested (codes "plan aliph") refl
 no_feed_in_plan Quorum = tested (codes "plan quorum") refl
@@ -128,11 +128,11 @@ no_feed_in_plan ZLight = tested (codes "plan zlight") refl
 no_feed_in_plan Chain = tested (codes "plan chain") refl
 no_feed_in_plan Backup = tested (codes "plan backup") refl
 
-no_feed_in_service : (v : ServiceName) → HasNoFeed (service_line v)
+pub no_feed_in_service : (v : ServiceName) → HasNoFeed (service_line v)
 no_feed_in_service Echo = tested (codes "service echo") refl
 no_feed_in_service Kv = tested (codes "service kv") refl
 
-no_feed_in_height : (h : Height) → HasNoFeed (lms_line h)
+pub no_feed_in_height : (h : Height) → HasNoFeed (lms_line h)
 no_feed_in_height Five = tested (codes "lms 5") refl
 no_feed_in_height Ten = tested (codes "lms 10") refl
 

@@ -5,6 +5,7 @@ use Rattle.std.specs.Str.Parse.{digits_value}
 use Rattle.std.proofs.lemmas.Bool.{cases_Bool, and_parts, leb-true, le-leb}
 use Rattle.std.proofs.lemmas.Bool.Decides.{Decides-eqb}
 use Rattle.std.proofs.lemmas.Slice.Eq.{bytes_eq-Decides}
+use Rattle.std.proofs.lemmas.Option.{same_Some, none-some}
 use Rattle.ab_num.specs.Bounds.{IsInBounds}
 use Rattle.ab_num.specs.declared.plan.Plan.{Plan}
 use Rattle.ab_num.specs.declared.plan.Plan.TheVariants.{AZyzzyva, Aliph, Quorum, ZLight, Chain, Backup}
@@ -19,12 +20,6 @@ use Rattle.ab_text.specs.Heads.{◌>>=◌, Script, line_at, number_at, number_af
 use Rattle.ab_text.specs.Spelling.{head_lines}
 use Rattle.ab_text.proofs.WordLemmas.{stripped-is}
 use Rattle.ab_text.proofs.NumberLemmas.{is_some_number}
-
-some_is : {A : Type 0} (x y : A) → Some x ≡ Some y → x ≡ y
-some_is x y e = cc
-
-none_is : {A : Type 0} (y : A) → None ≡ Some y → ⊥
-none_is y e = cc
 
 pub bind_ok : {A B : Type 0} → (r : Result A TextFault) (f : A → Result B TextFault) (y : B) → (r >>= f) ≡ Ok y → (x : A) × (r ≡ Ok x) × (f x ≡ Ok y)
 bind_ok (Ok x) f y h = (x, refl, h)
@@ -57,9 +52,9 @@ number_says : (text : List ℕ) (k : ℕ) → number_of text ≡ Some k → text
 unfolding number_of is_number
 number_says text k h = elim (cases_Bool (is_number text)) [
   | inl yes' ↦
-      let value : digits_value 10 text ≡ k = some_is _ _ (sym (ap (λ b. if b then Some (digits_value 10 text) else None) yes') ∙ h) in
+      let value : digits_value 10 text ≡ k = same_Some _ _ (sym (ap (λ b. if b then Some (digits_value 10 text) else None) yes') ∙ h) in
       (bytes_eq-Decides text (decimal (digits_value 10 text))).0 (and_parts _ _ yes').0 ∙ ap decimal value
-  | inr no' ↦ absurd (none_is _ (sym (ap (λ b. if b then Some (digits_value 10 text) else None) no') ∙ h))
+  | inr no' ↦ absurd (none-some _ (sym (ap (λ b. if b then Some (digits_value 10 text) else None) no') ∙ h))
 ]
 
 in_bounds : (low high n : ℕ) (ls rest : List (List ℕ)) (o : Option ℕ) (k : ℕ) → within low high n ls o ≡ Ok (k, rest) → (o ≡ Some k) × (ls ≡ rest) × (low ≤ k) × (k ≤ high)
@@ -86,7 +81,7 @@ number_is word low high n (l ∷ ls) rest k h =
 found_says : {A : Type 0} (p : A → Bool) (xs : List A) (x : A) → find p xs ≡ Some x → p x ≡ true
 found_says p [] x h = absurd (cc)
 found_says p (y ∷ ys) x h = elim (cases_Bool (p y)) [
-  | inl yes' ↦ (let same : y ≡ x = some_is _ _ (sym (ap (λ b. if b then Some y else find p ys) yes') ∙ h) in ap p (sym same) ∙ yes')
+  | inl yes' ↦ (let same : y ≡ x = same_Some _ _ (sym (ap (λ b. if b then Some y else find p ys) yes') ∙ h) in ap p (sym same) ∙ yes')
   | inr no' ↦ found_says p ys x (sym (ap (λ b. if b then Some y else find p ys) no') ∙ h)
 ]
 
@@ -204,7 +199,7 @@ number_reads word low high n ls k above below small =
 name_reads : {A : Type 0} (spell : A → List ℕ) (all : List A) (n : ℕ) (ls : Rest) (a : A) → spelled_in spell all (spell a) ≡ Some a → name_at spell all n (spell a ∷ ls) ≡ Ok (a, ls)
 name_reads spell all n ls a e = ap (taken n ls) e
 
-plan_read : (p : Plan) → spelled_in plan_line plans (plan_line p) ≡ Some p
+pub plan_read : (p : Plan) → spelled_in plan_line plans (plan_line p) ≡ Some p
 unfolding spelled_in
 plan_read AZyzzyva = refl
 plan_read Aliph = refl
@@ -213,12 +208,12 @@ plan_read ZLight = refl
 plan_read Chain = refl
 plan_read Backup = refl
 
-service_read : (v : ServiceName) → spelled_in service_line services (service_line v) ≡ Some v
+pub service_read : (v : ServiceName) → spelled_in service_line services (service_line v) ≡ Some v
 unfolding spelled_in
 service_read Echo = refl
 service_read Kv = refl
 
-height_read : (h : Height) → spelled_in lms_line heights (lms_line h) ≡ Some h
+pub height_read : (h : Height) → spelled_in lms_line heights (lms_line h) ≡ Some h
 unfolding spelled_in
 height_read Five = refl
 height_read Ten = refl

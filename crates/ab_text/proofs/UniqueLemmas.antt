@@ -1,8 +1,7 @@
 -- A line spells one event, and a text gives one result.
 use Rattle.std.proofs.Common.{◌≡◌, ℕ, ◌+◌, ◌^◌, ◌<◌, List, [], ◌∷◌, ◌++◌, Option, None, Some, IfSome, Result, Ok, Err, get_or, drop, ◌≤◌, codes, decimal, refl, sym, ap, ◌∙◌, subst, arith, inl, inr, append-nil}
-use Rattle.std.specs.Str.Parse.{digits_value}
 use Rattle.std.specs.Result.{result_unwrap_or}
-use Rattle.std.proofs.lemmas.Fmt.{decimal_is_IsNumeral}
+use Rattle.std.proofs.lemmas.Fmt.{decimal_injective}
 use Rattle.hex.specs.Hex.{encode_lower}
 use Rattle.ab_num.specs.declared.party.Party.{Party}
 use Rattle.ab_num.specs.declared.party.Party.TheVariants.{Replica, Client}
@@ -19,12 +18,9 @@ use Rattle.ab_text.proofs.CoreLemmas.{Lacks-party, Lacks-core}
 use Rattle.ab_text.proofs.HeadLemmas.{head_is}
 use Rattle.ab_text.proofs.HexLemmas.{decodes}
 
-same_decimal : (m n : ℕ) → m < 2 ^ 64 → n < 2 ^ 64 → decimal m ≡ decimal n → m ≡ n
-same_decimal m n low high e = sym (decimal_is_IsNumeral m low).1 ∙ ap (digits_value 10) e ∙ (decimal_is_IsNumeral n high).1
-
 same_party : (p q : Party) → IsParty p → IsParty q → party_text p ≡ party_text q → p ≡ q
-same_party (Replica r) (Replica s) good fine is = (let said : decimal r ≡ decimal s = cc in ap Replica (same_decimal r s (omega arith) (omega arith) said))
-same_party (Client c) (Client d) good fine is = (let said : decimal c ≡ decimal d = cc in ap Client (same_decimal c d (omega arith) (omega arith) said))
+same_party (Replica r) (Replica s) good fine is = (let said : decimal r ≡ decimal s = cc in ap Replica (decimal_injective r s (omega arith) (omega arith) said))
+same_party (Client c) (Client d) good fine is = (let said : decimal c ≡ decimal d = cc in ap Client (decimal_injective c d (omega arith) (omega arith) said))
 same_party (Replica r) (Client d) good fine is = let first : 114 ≡ 99 = ap (λ xs. get_or xs 0 0) is in absurd (omega (arith, first))
 same_party (Client c) (Replica s) good fine is = let first : 99 ≡ 114 = ap (λ xs. get_or xs 0 0) is in absurd (omega (arith, first))
 
@@ -40,7 +36,7 @@ same_twin p q (Some t) (Some u) good fine one other is =
     let parts = same_parts 46 (party_text p) (decimal t) (party_text q) (decimal u) (Lacks-party 46 p (omega arith) good) (Lacks-party 46 q (omega arith) fine) is in
     let low = one.few in
     let high = other.few in
-    (same_party p q good fine parts.0, ap Some (same_decimal t u (omega (arith, low)) (omega (arith, high)) parts.1))
+    (same_party p q good fine parts.0, ap Some (decimal_injective t u (omega (arith, low)) (omega (arith, high)) parts.1))
 
 same_core : (c d : Core) → IsCore c → IsCore d → core_text c ≡ core_text d → c ≡ d
 same_core c d good fine is =
@@ -48,12 +44,12 @@ same_core c d good fine is =
     λ j. record { party = both.0 j; twin = both.1 j }
 
 same_delivery : (k m : ℕ) (c d : Option Core) → k < 2 ^ 64 → m < 2 ^ 64 → IfSome c IsCore → IfSome d IsCore → delivery_text k c ≡ delivery_text m d → (k ≡ m) × (c ≡ d)
-same_delivery k m None None low high good fine is = (same_decimal k m low high is, refl)
+same_delivery k m None None low high good fine is = (decimal_injective k m low high is, refl)
 same_delivery k m None (Some d) low high good fine is = absurd (unsplit 32 (decimal k) (decimal m) (core_text d) (Lacks-decimal 32 k (omega arith) low) is)
 same_delivery k m (Some c) None low high good fine is = absurd (unsplit 32 (decimal m) (decimal k) (core_text c) (Lacks-decimal 32 m (omega arith) high) (sym is))
 same_delivery k m (Some c) (Some d) low high good fine is =
     let parts = same_parts 32 (decimal k) (core_text c) (decimal m) (core_text d) (Lacks-decimal 32 k (omega arith) low) (Lacks-decimal 32 m (omega arith) high) is in
-    (same_decimal k m low high parts.0, ap Some (same_core c d good fine parts.1))
+    (decimal_injective k m low high parts.0, ap Some (same_core c d good fine parts.1))
 
 same_injected : (a b : List ℕ) → IsInjected a → IsInjected b → encode_lower a ≡ encode_lower b → a ≡ b
 same_injected a b good fine is =
@@ -128,7 +124,7 @@ same_faulty : (x y : Party × ℕ) → IsParty x.0 → IsParty y.0 → x.1 ≤ 4
 same_faulty x y good fine low high is =
     let said : party_text x.0 ++ 32 ∷ decimal x.1 ≡ party_text y.0 ++ 32 ∷ decimal y.1 = ap (drop 7) is in
     let parts = same_parts 32 (party_text x.0) (decimal x.1) (party_text y.0) (decimal y.1) (Lacks-party 32 x.0 (omega arith) good) (Lacks-party 32 y.0 (omega arith) fine) said in
-    λ j. (same_party x.0 y.0 good fine parts.0 j, same_decimal x.1 y.1 (omega (arith, low)) (omega (arith, high)) parts.1 j)
+    λ j. (same_party x.0 y.0 good fine parts.0 j, decimal_injective x.1 y.1 (omega (arith, low)) (omega (arith, high)) parts.1 j)
 
 pub faulty_once : (ls : List (List ℕ)) (n : ℕ) (s : Script) (r q : Outcome) → s.f ≤ 2 → s.clients ≤ 16 → ReadsFaulty n s ls r → ReadsFaulty n s ls q → r ≡ q
 faulty_once [] n s r q few small a b = a ∙ sym b

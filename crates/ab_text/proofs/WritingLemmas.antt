@@ -10,7 +10,3 @@ text_of-append (a ∷ front) back = ap (λ t. (a ++ 10 ∷ []) ++ t) (text_of-ap
 pub added : (old one two : List ℕ) (front back : List (List ℕ)) → one ≡ old ++ text_of front → two ≡ one ++ text_of back → two ≡ old ++ text_of (front ++ back)
 added old one two front back first second =
     second ∙ ap (λ t. t ++ text_of back) first ∙ append_assoc old (text_of front) (text_of back) ∙ ap (λ t. old ++ t) (sym (text_of-append front back))
-
--- the parts of a schedule's lines
-pub five_parts : (a b c d e : List (List ℕ)) → (((a ++ b) ++ c) ++ d) ++ e ≡ a ++ (b ++ (c ++ (d ++ e)))
-five_parts a b c d e = simp append_assoc

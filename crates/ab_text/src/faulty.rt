@@ -6,9 +6,9 @@ ghost use Rattle.ab_text.specs.Cores.{IsParty, party_text};
 ghost use Rattle.ab_text.specs.Schedules.{IsBefore, IsInside, IsNextFaulty, faulty_line};
 
 use crate::cores::party_of;
+use crate::head_lines::HeadLines;
 use crate::numbers::number;
 use crate::parts::{after, split_first};
-use crate::setting::Setting;
 use ab_num::{Cluster, Party};
 
 /// Whether a party comes before another: replicas first, then by their numbers.
@@ -74,7 +74,7 @@ fn faulty_of(text: &[u8]) -> Option<(Party, u8)>
 }
 
 /// Whether a party may come next among the faulty ones.
-fn may_come_next(setting: Setting, faulty: &[(Party, u8)], party: Party) -> bool
+fn may_come_next(setting: HeadLines, faulty: &[(Party, u8)], party: Party) -> bool
     ensures { IsTrue result ↔ (IsInside setting.cluster.f setting.cluster.clients party × All (λ y. IsBefore y.0 party) faulty.now) }
 {
     is_inside(setting.cluster, party) && is_after_all(faulty, party)
@@ -82,7 +82,7 @@ fn may_come_next(setting: Setting, faulty: &[(Party, u8)], party: Party) -> bool
 
 /// The faulty party of a line that may come next.
 pub(crate) fn next_faulty(
-    setting: Setting,
+    setting: HeadLines,
     faulty: &[(Party, u8)],
     line: &[u8],
 ) -> Option<(Party, u8)>

@@ -6,10 +6,10 @@ ghost use Rattle.ab_text.specs.Heads.{Gives, line_at, number_at, name_at, head_a
 ghost use Rattle.ab_text.specs.Settings.{set_up};
 
 use crate::fault::TextFault;
+use crate::head_lines::{HeadLines, cluster_of};
 use crate::lines::next_line;
 use crate::numbers::number;
 use crate::parts::after;
-use crate::setting::{Setting, cluster_of};
 use ab_num::{Height, Plan, ServiceName};
 
 /// What comes after line `n`, which has this form.
@@ -199,7 +199,7 @@ fn height_at(text: &[u8], n: u32) -> Result<(Height, &[u8]), TextFault>
 
 /// What six lines set up, and what comes after them.
 #[tactic(auto, unfolding(crate::specs::Heads::head_at))]
-pub(crate) fn head_of(text: &[u8]) -> Result<(Setting, &[u8]), TextFault>
+pub(crate) fn head_of(text: &[u8]) -> Result<(HeadLines, &[u8]), TextFault>
     ensures reads { Gives (λ p. (set_up p.0 [], lines_of p.1.now)) result (head_at (lines_of text.now)) }
     ensures shorter { IfOk result (λ p. length p.1.now ≤ length text.now) }
 {
@@ -210,7 +210,7 @@ pub(crate) fn head_of(text: &[u8]) -> Result<(Setting, &[u8]), TextFault>
     let (service, rest) = service_at(rest, 5)?;
     let (lms, rest) = height_at(rest, 6)?;
     let cluster = cluster_of(f as u8, clients as u16, plan);
-    let setting = Setting {
+    let setting = HeadLines {
         cluster,
         service,
         lms,

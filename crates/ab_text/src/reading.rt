@@ -14,10 +14,10 @@ use crate::event_lines::event_of;
 use crate::fault::TextFault;
 use crate::faulty::next_faulty;
 use crate::head::head_of;
+use crate::head_lines::HeadLines;
 use crate::items::Items;
 use crate::lines::next_line;
 use crate::schedule::{Head, Schedule};
-use crate::setting::Setting;
 use ab_num::Party;
 use std::alloc::Global;
 
@@ -63,7 +63,7 @@ fn events_after(alloc: Global, head: Head, text: &[u8], first: u32) -> Result<Sc
 }
 
 /// The head of this setting and these faulty parties.
-fn head_with(setting: Setting, faulty: Items<(Party, u8)>) -> Head
+fn head_with(setting: HeadLines, faulty: Items<(Party, u8)>) -> Head
     ensures { script_of result [] ≡ set_up setting faulty }
 {
     Head {
@@ -77,7 +77,7 @@ fn head_with(setting: Setting, faulty: Items<(Party, u8)>) -> Head
 /// The schedule of this setting, whose faulty parties begin in line `first`.
 fn faulty_after(
     alloc: Global,
-    setting: Setting,
+    setting: HeadLines,
     text: &[u8],
     first: u32,
 ) -> Result<Schedule, TextFault>

@@ -3,7 +3,7 @@
 ghost use Rattle.std.specs.Prelude.{◌≡◌, IfOk, length};
 
 use ab_num::{Cluster, OutOfMemory, Party, Plan};
-use ab_picture::{Parcel, Picture, Told, compose};
+use ab_picture::{Picture, SentPacket, Tale, compose};
 use ab_text::{Core, Event, Items, Line, Premise};
 use arrayvec::ArrayVec;
 use std::alloc::Global;
@@ -59,20 +59,20 @@ fn picture(alloc: Global) -> Option<Picture> {
     let lines = lines(alloc).ok()?;
     let cluster = Cluster::new(1, 1, Plan::Quorum)?;
     let parcels = [
-        Parcel {
+        SentPacket {
             to: Party::Replica(0),
             code: 1,
         },
-        Parcel {
+        SentPacket {
             to: Party::Replica(1),
             code: 5,
         },
-        Parcel {
+        SentPacket {
             to: Party::Client(0),
             code: 3,
         },
     ];
-    let told = Told {
+    let told = Tale {
         events: events.as_slice(),
         counts: &[2, 3, 3, 3],
         parcels: &parcels,

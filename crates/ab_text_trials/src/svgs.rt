@@ -3,7 +3,7 @@
 ghost use Rattle.std.specs.Prelude.{◌≡◌, IfOk, length};
 
 use ab_num::{Cluster, OutOfMemory, Party, Plan};
-use ab_picture::{Parcel, Picture, Told, compose, svg};
+use ab_picture::{Picture, SentPacket, Tale, compose, svg};
 use ab_text::{Breach, Core, Event, Line, Premise};
 use arrayvec::ArrayVec;
 use std::alloc::Global;
@@ -49,11 +49,11 @@ fn picture(alloc: Global) -> Result<Picture, Fail>
     let events = events(alloc)?;
     let lines = lines(alloc)?;
     let cluster = Cluster::new(1, 1, Plan::Quorum).ok_or("bounds")?;
-    let parcels = [Parcel {
+    let parcels = [SentPacket {
         to: Party::Replica(0),
         code: 1,
     }];
-    let told = Told {
+    let told = Tale {
         events: events.as_slice(),
         counts: &[1, 1],
         parcels: &parcels,

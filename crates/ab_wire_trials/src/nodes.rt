@@ -7,7 +7,8 @@ ghost use Rattle.ab_wire_trials.specs.Toys.{asks};
 use ab_hist::array_of;
 use ab_io::{MemClock, MemLink, SureSink};
 use ab_loop::{
-    Commands, Commit, Input, Job, PartyCore, Reaction, ServeFault, Served, Setting, serve,
+    Commands, Commit, Job, NodeEventRef, NodeSetting, PartyCore, Reaction, ServeFault, Served,
+    serve,
 };
 use ab_msg::Packet;
 use ab_num::{OutOfMemory, Party};
@@ -55,9 +56,9 @@ impl PartyCore for ToyCore {
 
     ghost rules = { toy };
 
-    fn step(&mut self, alloc: Global, input: &Input<'_>) -> Result<Reaction, OutOfMemory> {
+    fn step(&mut self, alloc: Global, input: &NodeEventRef<'_>) -> Result<Reaction, OutOfMemory> {
         match input {
-            Input::Invoke(_) => {
+            NodeEventRef::Invoke(_) => {
                 let sends = asks(alloc)?;
                 self.stamp = self.stamp.saturating_add(1);
                 self.votes = 0;
@@ -67,7 +68,7 @@ impl PartyCore for ToyCore {
                     spent: false,
                 })
             }
-            Input::Message(_) => {
+            NodeEventRef::Message(_) => {
                 self.votes = self.votes.saturating_add(1);
                 let commit = if self.votes == 4 {
                     Some(Commit {
@@ -85,7 +86,7 @@ impl PartyCore for ToyCore {
                     spent: false,
                 })
             }
-            Input::Timeout => Ok(Reaction {
+            NodeEventRef::Timeout => Ok(Reaction {
                 sends: Vec::new(alloc),
                 commit: None,
                 spent: false,
@@ -105,7 +106,7 @@ fn job(alloc: Global, turns: u64, trace: bool) -> Option<Job<ToyCore>>
     commands.push(array_of(b"put a 1")).ok()?;
     Some(Job {
         core: ToyCore { stamp: 0, votes: 0 },
-        setting: Setting {
+        setting: NodeSetting {
             me: Party::Client(0),
             base: 9000,
             wait: 50,

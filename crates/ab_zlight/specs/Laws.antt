@@ -13,6 +13,7 @@ use Rattle.ab_num.specs.declared.plan.Kind.TheVariants as kind
 use Rattle.ab_num.specs.declared.party.Party.{Party}
 use Rattle.ab_num.specs.declared.party.Party.TheVariants.{Replica, Client}
 use Rattle.ab_num.specs.Parties.{party_eq}
+use Rattle.ab_num.proofs.Lists.{Contains-head, Contains-filter_cases, flat_map_cases, Contains-one, Contains-none}
 use Rattle.ab_hist.specs.declared.request.Request.{Request}
 use Rattle.ab_hist.specs.Histories.{place_in, can_push}
 use Rattle.ab_svc.specs.Machines.{Machine, serve}
@@ -43,9 +44,6 @@ use Rattle.ab_abs.specs.Ensembles.{begin_of, asked_of, halt_of, statements_of, M
 use Rattle.ab_abs.specs.FormLaws.{KeepsForm, Belongs, begun, called, halted, Arises, from_entry, by_call, by_stop}
 use Rattle.ab_abs.specs.Answers.{answer_to, logged, logged_at}
 use Rattle.ab_abs.specs.Members.{Member, member_state, respond, IsAt}
-use Rattle.ab_abs.proofs.Counting.{Contains-head}
-use Rattle.ab_abs.proofs.Lists.{Contains-filter_cases, flat_map_cases}
-use Rattle.ab_abs.proofs.Statements.{one_of, none_of}
 use Rattle.ab_abs.proofs.Drafts.{IsBounded, written_unless, few_replicas, drafts_answer}
 use Rattle.ab_abs.proofs.Steps.{IsOwn, found_at, takes_request, responds_own, responds_unsigned, GoesTo, begins_at, rests_at, stops_at, others_sound}
 use Rattle.ab_zlight.specs.Rules.{Light, is_zlight, primary_at, is_primary, follows, Task, idle, ordered, asked, task_of, task, answer_of, log_with, log_after, to_others, order_msg, orders_at, orders, sends_with, moved, zlight}
@@ -155,13 +153,13 @@ written_with q (asked m tags) fits was = written_unless q.stopped q.log m (fits 
 -- ---- ORDERs
 
 other_out : (n me : ℕ) (says : ℕ → Msg) (o : Out) → Contains (to_others n me says) o → (r : ℕ) × (o.msg ≡ says r)
-other_out zero me says o has = absurd (none_of o has)
+other_out zero me says o has = absurd (Contains-none o has)
 other_out (suc n) me says o has =
     elim (Contains-append_cases (to_others n me says) (if n == me then [] else record { to = Replica n; msg = says n } ∷ []) o has) [
       | inl before ↦ other_out n me says o before
       | inr last ↦ elim (cases_Bool (n == me)) [
-        | inl own ↦ absurd (none_of o (rw own at last))
-        | inr differ ↦ let one : Out = record { to = Replica n; msg = says n } in let e = one_of one o (rw differ at last) in (n, ap (λ (z : Out). z.msg) (sym e))
+        | inl own ↦ absurd (Contains-none o (rw own at last))
+        | inr differ ↦ let one : Out = record { to = Replica n; msg = says n } in let e = Contains-one one o (rw differ at last) in (n, ap (λ (z : Out). z.msg) (sym e))
       ]
     ]
 
@@ -173,13 +171,13 @@ record IsOrderOut (q : Member) (m : Request) (tags : List (ℕ × List ℕ)) (o 
   says : o.msg ≡ order_msg q m x tags to
 
 placed_out : (f : ℕ) (q : Member) (m : Request) (tags : List (ℕ × List ℕ)) (place : Option ℕ) (o : Out) → place_in (log_with q m) m ≡ place → Contains (orders_at f q m tags place) o → IsOrderOut q m tags o
-placed_out f q m tags None o is has = absurd (none_of o has)
+placed_out f q m tags None o is has = absurd (Contains-none o has)
 placed_out f q m tags (Some x) o is has =
     let found = other_out (3 * f + 1) q.me (order_msg q m x tags) o has in
     record { x = x; to = found.0; placed = is; says = found.1 }
 
 order_out : (f : ℕ) (q : Member) (m : Request) (tags : List (ℕ × List ℕ)) (answer : Option Vote) (o : Out) → Contains (orders f q m tags answer) o → IsOrderOut q m tags o
-order_out f q m tags None o has = absurd (none_of o has)
+order_out f q m tags None o has = absurd (Contains-none o has)
 order_out f q m tags (Some vote) o has = placed_out f q m tags (place_in (log_with q m) m) o refl has
 
 -- each is the primary's own
@@ -187,7 +185,7 @@ order_own : (f : ℕ) (q : Member) (m : Request) (tags : List (ℕ × List ℕ))
     → IsTrue (is_inner s) × ((maker_of s ≡ Replica q.me) × (instance_of s ≡ q.instance))
 order_own f q m tags o s is has =
     let in_order : Contains (Order (Replica q.me) q.instance is.x m ∷ []) s = subst (λ (z : Msg). Contains (fresh f (Replica q.me) z) s) is.says has in
-    let e = one_of (Order (Replica q.me) q.instance is.x m) s in_order in
+    let e = Contains-one (Order (Replica q.me) q.instance is.x m) s in_order in
     (subst (λ (z : Content). IsTrue (is_inner z)) e refl, (ap maker_of (sym e), ap instance_of (sym e)))
 
 -- and has bytes
@@ -213,11 +211,11 @@ order_draft q m tags o b fits formed is =
 -- a response, as a statement
 response_out : (f i me : ℕ) (m : Request) (answer : Option Vote) (o : Out) (s : Content) → Contains (respond i me m answer) o → Contains (fresh f (Replica me) o.msg) s
     → (vote : Vote) × (answer ≡ Some vote) × (s ≡ Resp (Replica me) i m.client m.stamp vote.n vote.d vote.reply)
-response_out f i me m None o s sent has = absurd (none_of o sent)
+response_out f i me m None o s sent has = absurd (Contains-none o sent)
 response_out f i me m (Some vote) o s sent has =
-    let is = one_of (record { to = Client m.client; msg = msg.Resp (Resp (Replica me) i m.client m.stamp vote.n vote.d vote.reply) (replicate 32 0) }) o sent in
+    let is = Contains-one (record { to = Client m.client; msg = msg.Resp (Resp (Replica me) i m.client m.stamp vote.n vote.d vote.reply) (replicate 32 0) }) o sent in
     let has' = subst (λ (p : Out). Contains (fresh f (Replica me) p.msg) s) (sym is) has in
-    (vote, refl, sym (one_of (Resp (Replica me) i m.client m.stamp vote.n vote.d vote.reply) s has'))
+    (vote, refl, sym (Contains-one (Resp (Replica me) i m.client m.stamp vote.n vote.d vote.reply) s has'))
 
 fresh_of : (f r : ℕ) (outs : List Out) (s : Content) → Contains (statements_of f r outs) s → (o : Out) × Contains outs o × Contains (fresh f (Replica r) o.msg) s
 fresh_of f r outs s has =
@@ -232,7 +230,7 @@ module _ {S : Type 0} (machine : Machine S) where
       ap (λ b. orders f q m tags (if b then None else answer_to machine (length q.base) q.log m) ++ respond q.instance q.me m (if b then None else answer_to machine (length q.base) q.log m)) stopped
 
   own_with : (f g : ℕ) (q : Member) (t : Task) (o : Out) (s : Content) → Contains (sends_with machine g q t) o → Contains (fresh f (Replica q.me) o.msg) s → (maker_of s ≡ Replica q.me) × (instance_of s ≡ q.instance)
-  own_with f g q idle o s sent has = absurd (none_of o sent)
+  own_with f g q idle o s sent has = absurd (Contains-none o sent)
   own_with f g q (ordered m) o s sent has = responds_own f q.instance q.me m (answer_of machine q m) o s sent has
   own_with f g q (asked m tags) o s sent has =
       elim (Contains-append_cases (orders g q m tags (answer_of machine q m)) (respond q.instance q.me m (answer_of machine q m)) o sent) [
@@ -241,11 +239,11 @@ module _ {S : Type 0} (machine : Machine S) where
       ]
 
   unsigned_with : (g : ℕ) (q : Member) (t : Task) (o : Out) (v : Signed) → Contains (sends_with machine g q t) o → Contains (signed_in o.msg) v → ⊥
-  unsigned_with g q idle o v sent has = none_of o sent
+  unsigned_with g q idle o v sent has = Contains-none o sent
   unsigned_with g q (ordered m) o v sent has = responds_unsigned q.instance q.me m (answer_of machine q m) o v sent has
   unsigned_with g q (asked m tags) o v sent has =
       elim (Contains-append_cases (orders g q m tags (answer_of machine q m)) (respond q.instance q.me m (answer_of machine q m)) o sent) [
-        | inl order ↦ let is = order_out g q m tags (answer_of machine q m) o order in none_of v (subst (λ (z : Msg). Contains (signed_in z) v) is.says has)
+        | inl order ↦ let is = order_out g q m tags (answer_of machine q m) o order in Contains-none v (subst (λ (z : Msg). Contains (signed_in z) v) is.says has)
         | inr response ↦ responds_unsigned q.instance q.me m (answer_of machine q m) o v response has
       ]
 
@@ -275,7 +273,7 @@ module _ {S : Type 0} (machine : Machine S) where
   module _ (short : (h : List Request) (m : Request) → length (machine.answer (serve machine h) m).items ≤ 72) where
     drafts_with : (f : ℕ) (q : Member) (t : Task) → IsBounded q → ((m : Request) → request_in t ≡ Some m → IsRequest 0 15 m) → ((tags : List (ℕ × List ℕ)) → tags_of t ≡ Some tags → AreTags tags)
         → (o : Out) → Contains (sends_with machine f q t) o → IsDraft o.msg
-    drafts_with f q idle b fits formed o sent = absurd (none_of o sent)
+    drafts_with f q idle b fits formed o sent = absurd (Contains-none o sent)
     drafts_with f q (ordered m) b fits formed o sent = drafts_answer machine short q m b (fits m refl) o sent
     drafts_with f q (asked m tags) b fits formed o sent =
         elim (Contains-append_cases (orders f q m tags (answer_of machine q m)) (respond q.instance q.me m (answer_of machine q m)) o sent) [
@@ -294,9 +292,9 @@ module _ {S : Type 0} (machine : Machine S) where
       entered_stays = λ pen q call. refl;
       entered_rests = λ q. refl;
       own = own_law;
-      silent = λ c i r pen q call o s was stopped sent has. absurd (none_of o (subst (λ (outs : List Out). Contains outs o) (silent_with q.f q.at (task q call) stopped) sent));
+      silent = λ c i r pen q call o s was stopped sent has. absurd (Contains-none o (subst (λ (outs : List Out). Contains outs o) (silent_with q.f q.at (task q call) stopped) sent));
       signed = λ pen q call o v sent has. absurd (unsigned_with q.f q.at (task q call) o v sent has);
-      sent = λ pen q call s has. absurd (none_of s has);
+      sent = λ pen q call s has. absurd (Contains-none s has);
       settles = λ c i r pen q call cert was is formed. inl refl;
       written = λ c i r q was. (bounded c i r q was).written;
       drafts = λ c i r pen q call signs was formed o sent. drafts_with q.f q.at (task q call) (bounded c i r q was) (request_formed q call formed) (tags_formed q call formed) o sent;

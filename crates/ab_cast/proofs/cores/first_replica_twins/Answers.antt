@@ -1,8 +1,9 @@
 use Rattle.std.proofs.Common.{map, ap, ◌∙◌, arith}
+use Rattle.std.proofs.lemmas.List.{take_all}
 use Rattle.ab_num.specs.declared.party.Party.TheVariants.{Replica}
 use Rattle.ab_cast.specs.Casts.{first_site}
 use Rattle.ab_cast.specs.Setups.{replica_twins}
-use Rattle.ab_cast.proofs.StepLemmas.{next_replica, other_replica, take_past}
+use Rattle.ab_cast.proofs.StepLemmas.{next_replica, other_replica}
 use Rattle.ab_cast.proofs.cores.first_replica_twins.Goals.{in-Replica+in_ok-add_replicas, in_default}
 use Rattle.ab_cast.proofs.cores.first_replica_twins.Goals as goal
 
@@ -19,4 +20,4 @@ loop-entry-preserved g c =
 
 pub returns : goal.returns
 returns g c =
-    c.loop-entry.invariant ∙ ap (λ xs. map (λ k. first_site c.args.setup.now g.P.Protocol.proto k.0) (replica_twins xs)) (take_past c.loop-entry.entry-index c.faulty-entry-items.result.now c.loop-entry-test.false ∙ c.faulty-entry-items.ensures.list)
+    c.loop-entry.invariant ∙ ap (λ xs. map (λ k. first_site c.args.setup.now g.P.Protocol.proto k.0) (replica_twins xs)) (take_all c.loop-entry.entry-index c.faulty-entry-items.result.now c.loop-entry-test.false ∙ c.faulty-entry-items.ensures.list)

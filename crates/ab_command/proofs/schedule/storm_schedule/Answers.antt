@@ -1,6 +1,6 @@
+use Rattle.ab_num.proofs.Results.{kept_err}
 use Rattle.ab_replay.proofs.TextLemmas.{all_served}
 use Rattle.ab_storm.specs.Runs.{StormCause}
-use Rattle.ab_storm.proofs.StormLemmas.{kept_err}
 use Rattle.ab_command.specs.Statuses.{kv}
 use Rattle.ab_command.proofs.OfStorm.{of_storm}
 use Rattle.ab_command.proofs.schedule.storm_schedule.Goals as goal

@@ -1,9 +1,9 @@
 use Rattle.std.proofs.Common.{List, ℕ, subst, sym}
+use Rattle.ab_num.proofs.Results.{kept_err}
 use Rattle.ab_text.specs.Schedules.{script_of}
 use Rattle.ab_text.specs.Spelling.{IsSpelled}
 use Rattle.ab_storm.specs.declared.running.StormFault.TheVariants.{OutOfMemory}
 use Rattle.ab_storm.specs.Runs.{StormCause}
-use Rattle.ab_storm.proofs.StormLemmas.{kept_err}
 use Rattle.ab_command.specs.Statuses.{kv}
 use Rattle.ab_command.proofs.schedule.storm_text.Goals as goal
 

@@ -1,5 +1,6 @@
 use Rattle.std.proofs.Common.{◌≡◌, ◌⊎◌, ◌≤◌, ℕ, Ok, Result, length, sym, subst, inr}
 use Rattle.std.specs.Prelude.{IfErr}
+use Rattle.ab_num.proofs.Results.{on_ok_then}
 use Rattle.ab_text.specs.Schedules.{script_of}
 use Rattle.ab_world.specs.declared.fault.WorldFault.{WorldFault}
 use Rattle.ab_world.specs.Runs.{outcome}
@@ -8,7 +9,6 @@ use Rattle.ab_replay.specs.Protocols.{Any, any}
 use Rattle.ab_replay.specs.Replays.{run_in, EventsCause}
 use Rattle.ab_replay.proofs.RunLemmas.{begins_so, runs_schedule}
 use Rattle.ab_draw.specs.Draws.{most_drawn}
-use Rattle.ab_draw.proofs.Fronts.{on_ok_then}
 use Rattle.ab_draw.proofs.drawing.check.Goals as goal
 
 pub returns-clause-ok : goal.returns-clause-ok

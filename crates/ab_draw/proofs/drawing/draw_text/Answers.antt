@@ -1,14 +1,14 @@
 use Rattle.std.proofs.Common.{◌+◌, ℕ, length, arith, ap, sym, subst}
+use Rattle.std.proofs.lemmas.Result.{IfErr-weaker, IfOk-weaker}
 use Rattle.ab_num.specs.declared.plan.ServiceName.{ServiceName}
 use Rattle.ab_svc.specs.Echoes.{echo_machine}
 use Rattle.ab_kv.specs.KvMachines.{kv_machine}
 use Rattle.ab_replay.specs.Protocols.{any}
 use Rattle.ab_replay.specs.Replays.{run_in, proto_of, EventsCause, TextCause}
-use Rattle.ab_replay.proofs.RunLemmas.{if_err_then, sized_so, stops_text}
+use Rattle.ab_replay.proofs.RunLemmas.{sized_so, stops_text}
 use Rattle.ab_text.specs.Schedules.{script_of}
 use Rattle.ab_replay.proofs.TextLemmas.{all_served}
 use Rattle.ab_draw.specs.Draws.{Draws, DrawsRun}
-use Rattle.ab_draw.proofs.Fronts.{if_ok_then}
 use Rattle.ab_draw.proofs.drawing.draw_text.Goals as goal
 
 pub perform-requires-clause-served : goal.perform-requires-clause-served
@@ -24,7 +24,7 @@ returns-in-Echo-clause-cause c =
     let events = c.in-Ok.schedule.events in
     let s = script_of head events in
     let line : ℕ = 7 + length c.as_slice-2.result.now in
-    if_err_then c.perform.result (λ e. EventsCause e line (run_in (any echo_machine) head.cluster s)) (λ e. TextCause e text)
+    IfErr-weaker c.perform.result (λ e. EventsCause e line (run_in (any echo_machine) head.cluster s)) (λ e. TextCause e text)
     (λ e at. stops_text e text s head.cluster line (sized_so head events) c.in-Ok.ensures (omega (arith, c.if-as_slice-gt-MOST_EVENTS.false, ap length c.as_slice.ensures)) (ap (λ l. 7 + length l) c.as_slice-2.ensures)
     (subst (λ (v : ServiceName). EventsCause e line (run_in (proto_of v) head.cluster s)) (sym c.in-Echo.is) at)) c.perform.ensures.cause
 
@@ -35,14 +35,14 @@ returns-clause-cause c =
     let events = c.in-Ok.schedule.events in
     let s = script_of head events in
     let line : ℕ = 7 + length c.as_slice-2.result.now in
-    if_err_then c.perform-in-Kv.result (λ e. EventsCause e line (run_in (any kv_machine) head.cluster s)) (λ e. TextCause e text)
+    IfErr-weaker c.perform-in-Kv.result (λ e. EventsCause e line (run_in (any kv_machine) head.cluster s)) (λ e. TextCause e text)
     (λ e at. stops_text e text s head.cluster line (sized_so head events) c.in-Ok.ensures (omega (arith, c.if-as_slice-gt-MOST_EVENTS.false, ap length c.as_slice.ensures)) (ap (λ l. 7 + length l) c.as_slice-2.ensures)
     (subst (λ (v : ServiceName). EventsCause e line (run_in (proto_of v) head.cluster s)) (sym c.in-Kv.is) at)) c.perform-in-Kv.ensures.cause
 
 pub returns-in-Echo-clause-ok : goal.returns-in-Echo-clause-ok
 returns-in-Echo-clause-ok c =
     let s = script_of c.in-Ok.schedule.head c.in-Ok.schedule.events in
-    if_ok_then c.perform.result (λ v. DrawsRun (any echo_machine) s v.items) (λ v. Draws c.args.text.now v.items)
+    IfOk-weaker c.perform.result (λ v. DrawsRun (any echo_machine) s v.items) (λ v. Draws c.args.text.now v.items)
     (λ v draws. record {
       schedule = s;
       reads = c.in-Ok.ensures;
@@ -52,7 +52,7 @@ returns-in-Echo-clause-ok c =
 pub returns-clause-ok : goal.returns-clause-ok
 returns-clause-ok c =
     let s = script_of c.in-Ok.schedule.head c.in-Ok.schedule.events in
-    if_ok_then c.perform-in-Kv.result (λ v. DrawsRun (any kv_machine) s v.items) (λ v. Draws c.args.text.now v.items)
+    IfOk-weaker c.perform-in-Kv.result (λ v. DrawsRun (any kv_machine) s v.items) (λ v. Draws c.args.text.now v.items)
     (λ v draws. record {
       schedule = s;
       reads = c.in-Ok.ensures;

@@ -1,7 +1,7 @@
+use Rattle.ab_num.proofs.Results.{kept_err}
 use Rattle.ab_replay.specs.Protocols.{any}
 use Rattle.ab_replay.specs.declared.running.ReplayFault.TheVariants.{OutOfMemory}
 use Rattle.ab_replay.specs.Replays.{run_in, EventsCause}
-use Rattle.ab_replay.proofs.RunLemmas.{kept_err}
 use Rattle.ab_text.specs.Schedules.{script_of}
 use Rattle.ab_draw.proofs.Fronts.{whole_run}
 use Rattle.ab_draw.proofs.drawing.perform.Goals as goal

@@ -1,4 +1,5 @@
 use Rattle.std.proofs.Common.{◌≡◌, ◌+◌, Ok, Err, arith, sym, ◌∙◌, drop, subst}
+use Rattle.ab_num.proofs.Results.{kept_err}
 use Rattle.ab_world.specs.declared.fault.WorldFault.{WorldFault}
 use Rattle.ab_world.specs.declared.fault.WorldFault.TheVariants.{PacketLimit}
 use Rattle.ab_world.specs.Steps.{WorldCause, stepped}
@@ -6,7 +7,7 @@ use Rattle.ab_world.specs.Runs.{outcome}
 use Rattle.ab_replay.specs.Protocols.{any}
 use Rattle.ab_replay.specs.declared.running.ReplayFault.TheVariants.{OutOfMemory}
 use Rattle.ab_replay.specs.Replays.{EventsCause}
-use Rattle.ab_replay.proofs.RunLemmas.{kept_err, next_event, no_limit, refused_at, step_steps, steps_to}
+use Rattle.ab_replay.proofs.RunLemmas.{next_event, no_limit, refused_at, step_steps, steps_to}
 use Rattle.ab_draw.specs.Draws.{counts_of}
 use Rattle.ab_draw.proofs.Walks.{counted}
 use Rattle.ab_draw.proofs.walking.walk.Goals as goal

@@ -1,7 +1,8 @@
+use Rattle.ab_num.proofs.Results.{if_ok_map, if_err_map}
 use Rattle.ab_loop.specs.Outside.{outside, counts}
 use Rattle.ab_loop.specs.Runs.{HasServed, HasFaultOf}
 use Rattle.ab_loop.proofs.FollowsLemmas.{rises_same}
-use Rattle.ab_loop.proofs.ServeLemmas.{nothing_done, not_opened, answers_opened, fails_opened, same_start, if_ok_map, if_err_map}
+use Rattle.ab_loop.proofs.ServeLemmas.{nothing_done, not_opened, answers_opened, fails_opened, same_start}
 use Rattle.ab_loop.proofs.serving.serve.Goals as goal
 
 pub returns-in_default-clause-err : goal.returns-in_default-clause-err

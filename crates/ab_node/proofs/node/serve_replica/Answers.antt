@@ -1,4 +1,4 @@
-use Rattle.ab_node.proofs.PartyLemmas.{all_served}
+use Rattle.ab_replay.proofs.TextLemmas.{all_served}
 use Rattle.ab_node.proofs.node.serve_replica.Goals as goal
 
 pub new-requires-clause-served : goal.new-requires-clause-served

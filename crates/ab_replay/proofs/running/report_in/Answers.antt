@@ -1,11 +1,12 @@
 use Rattle.std.proofs.Common.{◌≡◌, ◌↔◌, IsTrue, Ok, subst}
+use Rattle.ab_num.proofs.Results.{kept_err}
 use Rattle.ab_world.specs.Runs.{outcome}
 use Rattle.ab_text.specs.declared.line.Premise.{Premise}
 use Rattle.ab_text.specs.declared.line.Premise.TheVariants.{Held}
 use Rattle.ab_text.specs.Schedules.{script_of}
 use Rattle.ab_replay.specs.declared.running.ReplayFault.TheVariants.{OutOfMemory}
 use Rattle.ab_replay.specs.Replays.{run_in, setup_in, EventsCause}
-use Rattle.ab_replay.proofs.RunLemmas.{all_replicas, caused_as, kept_err, runs_schedule, sized_so}
+use Rattle.ab_replay.proofs.RunLemmas.{all_replicas, caused_as, runs_schedule, sized_so}
 use Rattle.ab_replay.proofs.running.report_in.Goals as goal
 
 pub report-requires : goal.report-requires

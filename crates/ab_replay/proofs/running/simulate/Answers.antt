@@ -1,10 +1,11 @@
 use Rattle.std.proofs.Common.{◌+◌, ℕ, length, arith, ap, sym, subst}
+use Rattle.std.proofs.lemmas.Result.{IfErr-weaker}
 use Rattle.ab_num.specs.declared.plan.ServiceName.{ServiceName}
 use Rattle.ab_svc.specs.Echoes.{echo_machine}
 use Rattle.ab_kv.specs.KvMachines.{kv_machine}
 use Rattle.ab_replay.specs.Protocols.{any}
 use Rattle.ab_replay.specs.Replays.{run_in, proto_of, EventsCause, TextCause}
-use Rattle.ab_replay.proofs.RunLemmas.{if_err_then, sized_so, stops_text}
+use Rattle.ab_replay.proofs.RunLemmas.{sized_so, stops_text}
 use Rattle.ab_text.specs.Schedules.{script_of}
 use Rattle.ab_replay.proofs.TextLemmas.{all_served}
 use Rattle.ab_replay.proofs.running.simulate.Goals as goal
@@ -22,7 +23,7 @@ returns-in-Echo-clause-cause c =
     let events = c.in-Ok.schedule.events in
     let s = script_of head events in
     let line : ℕ = 7 + length c.as_slice-2.result.now in
-    if_err_then c.perform.result (λ e. EventsCause e line (run_in (any echo_machine) head.cluster s)) (λ e. TextCause e text)
+    IfErr-weaker c.perform.result (λ e. EventsCause e line (run_in (any echo_machine) head.cluster s)) (λ e. TextCause e text)
     (λ e at. stops_text e text s head.cluster line (sized_so head events) c.in-Ok.ensures (omega (arith, c.if-as_slice-gt-MOST_EVENTS.false, ap length c.as_slice.ensures)) (ap (λ l. 7 + length l) c.as_slice-2.ensures)
     (subst (λ (v : ServiceName). EventsCause e line (run_in (proto_of v) head.cluster s)) (sym c.in-Echo.is) at)) c.perform.ensures.cause
 
@@ -33,6 +34,6 @@ returns-clause-cause c =
     let events = c.in-Ok.schedule.events in
     let s = script_of head events in
     let line : ℕ = 7 + length c.as_slice-2.result.now in
-    if_err_then c.perform-in-Kv.result (λ e. EventsCause e line (run_in (any kv_machine) head.cluster s)) (λ e. TextCause e text)
+    IfErr-weaker c.perform-in-Kv.result (λ e. EventsCause e line (run_in (any kv_machine) head.cluster s)) (λ e. TextCause e text)
     (λ e at. stops_text e text s head.cluster line (sized_so head events) c.in-Ok.ensures (omega (arith, c.if-as_slice-gt-MOST_EVENTS.false, ap length c.as_slice.ensures)) (ap (λ l. 7 + length l) c.as_slice-2.ensures)
     (subst (λ (v : ServiceName). EventsCause e line (run_in (proto_of v) head.cluster s)) (sym c.in-Kv.is) at)) c.perform-in-Kv.ensures.cause

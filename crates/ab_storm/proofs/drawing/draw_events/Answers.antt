@@ -1,9 +1,10 @@
 use Rattle.std.proofs.Common.{◌≡◌, ◌∙◌, All, arith, subst, sym}
 use Rattle.std.proofs.lemmas.List.Elements.{All-push}
+use Rattle.ab_num.proofs.Results.{kept_err}
 use Rattle.ab_text.specs.EventLines.{IsEvent}
 use Rattle.ab_world.specs.Runs.{outcome}
 use Rattle.ab_storm.specs.Runs.{drawn_at, drawn_events, EndCause}
-use Rattle.ab_storm.proofs.StormLemmas.{ends_run, goes_next, kept_err, run_done}
+use Rattle.ab_storm.proofs.StormLemmas.{ends_run, goes_next, run_done}
 use Rattle.ab_storm.proofs.Keeping.{keeps_all, keeps_on}
 use Rattle.ab_storm.proofs.drawing.draw_events.Goals as goal
 

@@ -1,11 +1,12 @@
 use Rattle.std.proofs.Common.{◌≡◌, ◌∷◌, ◌++◌, [], ◌∙◌, Ok, arith, ap, subst}
+use Rattle.ab_num.proofs.Results.{on_ok_then}
 use Rattle.ab_text.specs.declared.event.Event.{Event}
 use Rattle.ab_text.specs.EventLines.{IsEvent}
 use Rattle.ab_storm.specs.Storms.{next_of}
 use Rattle.ab_world.specs.Steps.{WorldCause, stepped}
 use Rattle.ab_storm.specs.Runs.{drawn_at}
 use Rattle.ab_storm.proofs.StormLemmas.{drawn_so, end_caused, fault_ends}
-use Rattle.ab_storm.proofs.Keeping.{memory_ends, on_ok, on_ok_so}
+use Rattle.ab_storm.proofs.Keeping.{memory_ends, on_ok}
 use Rattle.ab_storm.proofs.Printing.{next_has_line}
 use Rattle.ab_storm.proofs.drawing.step.Goals as goal
 
@@ -32,7 +33,7 @@ returns-in-Ok-clause-kept g c =
     let kept = c.args.kept.now in
     let e = c.next-event.result in
     let so = drawn_so s c.next-event.new.self w e c.packets.result c.idle_clients.result c.packets.ensures c.idle_clients.ensures c.next-event.ensures in
-    on_ok_so c.keep.result (c.keep.new.kept ≡ kept ++ e ∷ []) (c.keep.new.kept ≡ kept ++ (drawn_at s w).0 ∷ []) (λ is. is ∙ ap (λ (x : Event). kept ++ x ∷ []) so.0) c.keep.ensures.ok
+    on_ok_then c.keep.result (c.keep.new.kept ≡ kept ++ e ∷ []) (c.keep.new.kept ≡ kept ++ (drawn_at s w).0 ∷ []) (λ is. is ∙ ap (λ (x : Event). kept ++ x ∷ []) so.0) c.keep.ensures.ok
 
 pub returns-in-Ok-clause-line : goal.returns-in-Ok-clause-line
 returns-in-Ok-clause-line g c =

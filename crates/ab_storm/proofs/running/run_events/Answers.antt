@@ -1,7 +1,8 @@
 use Rattle.std.proofs.Common.{◌≡◌, ◌-◌, ◌∙◌, arith, subst, sym}
+use Rattle.ab_num.proofs.Results.{kept_err}
 use Rattle.ab_world.specs.Runs.{outcome}
 use Rattle.ab_storm.specs.Runs.{drawn_events, EndCause}
-use Rattle.ab_storm.proofs.StormLemmas.{ends_run, goes_next, kept_err, run_done}
+use Rattle.ab_storm.proofs.StormLemmas.{ends_run, goes_next, run_done}
 use Rattle.ab_storm.proofs.running.run_events.Goals as goal
 
 pub loop-done-preserved : goal.loop-done-preserved

@@ -1,6 +1,7 @@
 use Rattle.std.proofs.Common.{◌≡◌, ◌↔◌, IsTrue, Ok, refl, sym, subst}
 use Rattle.ab_num.specs.Places.{kind_of}
 use Rattle.ab_num.specs.declared.plan.Plan.{Plan}
+use Rattle.ab_num.proofs.Results.{kept_err}
 use Rattle.ab_text.specs.declared.line.Premise.{Premise}
 use Rattle.ab_text.specs.declared.line.Premise.TheVariants.{Held}
 use Rattle.ab_world.specs.Runs.{outcome}
@@ -8,7 +9,7 @@ use Rattle.ab_world.specs.Worlds.{start}
 use Rattle.ab_abs.specs.Promises.{ServesAll}
 use Rattle.ab_storm.specs.declared.running.StormFault.TheVariants.{OutOfMemory}
 use Rattle.ab_storm.specs.Runs.{drawn_events, storm_of, storm_setup, events_in, EndCause, StormCause}
-use Rattle.ab_storm.proofs.StormLemmas.{all_drawn, begins_early, begins_going, ends_storm, kept_err, runs_storm}
+use Rattle.ab_storm.proofs.StormLemmas.{all_drawn, begins_early, begins_going, ends_storm, runs_storm}
 use Rattle.ab_storm.proofs.running.summary_in.Goals as goal
 
 pub run_events-requires-clause-goes : goal.run_events-requires-clause-goes

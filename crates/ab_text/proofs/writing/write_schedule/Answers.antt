@@ -1,9 +1,10 @@
 use Rattle.std.proofs.Common.{◌≡◌, ℕ, List, [], ◌∷◌, ◌++◌, codes, map, ap, ◌∙◌}
+use Rattle.ab_num.proofs.Lists.{five_parts}
 use Rattle.ab_text.specs.EventLines.{event_line}
 use Rattle.ab_text.specs.Schedules.{faulty_line, script_of}
 use Rattle.ab_text.specs.Spelling.{head_lines}
 use Rattle.ab_text.specs.Texts.{text_of}
-use Rattle.ab_text.proofs.WritingLemmas.{added, five_parts}
+use Rattle.ab_text.proofs.WritingLemmas.{added}
 use Rattle.ab_text.proofs.writing.write_schedule.Goals as goal
 
 pub returns : goal.returns

@@ -1,10 +1,11 @@
 use Rattle.std.proofs.Common.{◌≡◌, ◌<◌, ◌+◌, List, [], ◌∷◌, IsOkAnd, arith, sym, ap, ◌∙◌, subst}
+use Rattle.ab_num.proofs.Results.{on_err}
 use Rattle.ab_replica.specs.Sites.{Site}
 use Rattle.ab_client.specs.Clients.{Seat}
 use Rattle.ab_cast.specs.declared.place.Place.TheVariants as place
 use Rattle.ab_cast.specs.Hearing.{cue_of}
 use Rattle.ab_cast.specs.Casts.{Cast, IsCast, IsTaken}
-use Rattle.ab_cast.proofs.CastLemmas.{on_err, WhereCommits, no_replica_commits, client_commits, at_core, at_there, replica_core, client_core, replica_stays, replica_taken, replica_twin_stays, replica_twin_taken, twin_of, client_stays, client_taken, client_twin_stays, client_twin_taken, client_twin_within}
+use Rattle.ab_cast.proofs.CastLemmas.{WhereCommits, no_replica_commits, client_commits, at_core, at_there, replica_core, client_core, replica_stays, replica_taken, replica_twin_stays, replica_twin_taken, twin_of, client_stays, client_taken, client_twin_stays, client_twin_taken, client_twin_within}
 use Rattle.ab_cast.proofs.cast.Cast.give.Goals as goal
 
 pub invariant_of-self-in-Replica : goal.invariant_of-self-in-Replica

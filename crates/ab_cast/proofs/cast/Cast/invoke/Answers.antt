@@ -1,10 +1,11 @@
 use Rattle.std.proofs.Common.{◌≡◌, ◌<◌, ◌+◌, List, None, Some, arith, refl, sym, ap, ◌∙◌, subst}
+use Rattle.ab_num.proofs.Results.{on_err}
 use Rattle.ab_client.specs.Clients.{Seat}
 use Rattle.ab_cast.specs.declared.fault.CommandFault.TheVariants.{NoClient}
 use Rattle.ab_run.specs.Local.{cue_command}
 use Rattle.ab_cast.specs.declared.place.Place.TheVariants as place
 use Rattle.ab_cast.specs.Casts.{Cast, IsCast, IsTaken, command_refusal}
-use Rattle.ab_cast.proofs.CastLemmas.{on_err, replica_core, at_core, at_there, client_core, client_stays, client_taken, client_twin_stays, client_twin_taken, seat_at, is_free_core}
+use Rattle.ab_cast.proofs.CastLemmas.{replica_core, at_core, at_there, client_core, client_stays, client_taken, client_twin_stays, client_twin_taken, seat_at, is_free_core}
 use Rattle.ab_cast.proofs.cast.Cast.invoke.Goals as goal
 
 pub invariant_of-self-in-Client : goal.invariant_of-self-in-Client

@@ -5,7 +5,7 @@ use Rattle.ab_num.specs.Places.{kind_of}
 use Rattle.ab_msg.specs.declared.signed.Signed.{Signed}
 use Rattle.ab_msg.specs.declared.message.Msg.TheVariants as msg
 use Rattle.ab_wire.specs.Views.{signed}
-use Rattle.ab_run.specs.Clients.{Move, move_keep, own_cert, taking}
+use Rattle.ab_run.specs.Clients.{CliAction, move_keep, own_cert, taking}
 use Rattle.ab_run.specs.Local.{cue_message}
 use Rattle.ab_client.specs.Clients.{Seat, alone, moves_on}
 use Rattle.ab_client.specs.Moved.{IsMoved}
@@ -31,7 +31,7 @@ returns-clause-ok c =
     sym (ap (λ (t : Seat). list_any (λ w. w.maker == v.maker) t.cli.kept) c.self.view_is)
     ∙ ap (list_any (λ w. w.maker == v.maker)) (sym c.deref.ensures.value) ∙ sym c.is_kept.ensures ∙ c.if-is_kept.false in
     let here = sym c.instance.ensures ∙ c.if-instance-self.false ∙ ap (λ (t : Seat). t.cli.at) c.self.view_is in
-    let taken : List Move = move_keep v ∷ taking (alone s.cluster) s.cli m s.cli.at (own_cert (kind_of s.cluster.plan s.cli.at) v s.cli.kept) in
+    let taken : List CliAction = move_keep v ∷ taking (alone s.cluster) s.cli m s.cli.at (own_cert (kind_of s.cluster.plan s.cli.at) v s.cli.kept) in
     let got : IfOk c.take_abort.result (λ x. IsMoved s (move_keep v ∷ taking (alone s.cluster) s.cli m s.cli.at (own_cert (kind_of s.cluster.plan s.cli.at) v s.cli.kept)) c.take_abort.new.self x.0 x.1.items) =
     subst (λ (w : Signed). IfOk c.take_abort.result (λ x. IsMoved s (move_keep w ∷ taking (alone s.cluster) s.cli m s.cli.at (own_cert (kind_of s.cluster.plan s.cli.at) w s.cli.kept)) c.take_abort.new.self x.0 x.1.items))
     c.in_ok-v.ensures c.take_abort.ensures.ok in

@@ -5,7 +5,7 @@ use Rattle.ab_hist.specs.declared.request.Request.{Request}
 use Rattle.ab_msg.specs.declared.signed.Signed.{Signed}
 use Rattle.ab_msg.specs.Certs.{AreAborts}
 use Rattle.ab_abs.specs.Certificates.{history_of}
-use Rattle.ab_run.specs.Clients.{Move, move_keep, move_take, own_cert, taking}
+use Rattle.ab_run.specs.Clients.{CliAction, move_keep, move_take, own_cert, taking}
 use Rattle.ab_client.specs.Clients.{Seat, alone}
 use Rattle.ab_client.proofs.MovedLemmas.{moved_ok, abort_taken, abort_kept}
 use Rattle.ab_client.proofs.client.Client.take_abort.Goals as goal
@@ -24,8 +24,8 @@ returns-in-Some-clause-ok c =
     let made = at_some (λ x. (x.0 ≡ own) × AreAborts 1 7 x.0) c.in_ok-cert.field-0 (cert, h) c.in-Some.is c.in_ok-cert.ensures.cert in
     let history : history_of s.cluster s.cli.at own ≡ Some h = at_some (λ x. history_of s.cluster s.cli.at own ≡ Some x.1) c.in_ok-cert.field-0 (cert, h) c.in-Some.is c.in_ok-cert.ensures.history in
     let below : s.cli.at < 4294967295 = c.in_ok-cert.ensures.below (ap is_some c.in-Some.is) in
-    let entered : List Move = move_take c.enter.inside.instance cert h m ∷ [] in
-    let kept : List Move = move_keep v ∷ taking (alone s.cluster) s.cli m s.cli.at own in
+    let entered : List CliAction = move_take c.enter.inside.instance cert h m ∷ [] in
+    let kept : List CliAction = move_keep v ∷ taking (alone s.cluster) s.cli m s.cli.at own in
     moved_ok s entered kept c.enter-in-Some.new.self c.enter-in-Some.result
     (λ sent shown is. abort_taken s v m own c.enter.inside.instance cert h c.enter-in-Some.new.self sent shown (ap (λ (t : Seat). t.cli.at) c.enter.view_is) made.0 history below is)
     c.enter-in-Some.ensures.ok

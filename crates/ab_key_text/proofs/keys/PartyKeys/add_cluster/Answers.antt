@@ -1,7 +1,7 @@
 use Rattle.std.proofs.Common.{◌≡◌, ℕ, List, [], ◌∷◌, ◌++◌, codes, decimal, ap, ◌∙◌, rules}
 use Rattle.ab_text.specs.Cores.{party_text}
-use Rattle.ab_key_text.specs.Spelling.{text_of}
-use Rattle.ab_key_text.proofs.WritingLemmas.{added}
+use Rattle.ab_text.specs.Texts.{text_of}
+use Rattle.ab_text.proofs.WritingLemmas.{added}
 use Rattle.ab_key_text.proofs.keys.PartyKeys.add_cluster.Goals as goal
 
 pub returns : goal.returns

@@ -1,6 +1,7 @@
 use Rattle.std.proofs.Common.{◌≡◌, ◌++◌, take}
 use Rattle.std.specs.Prelude.{flat_map}
-use Rattle.ab_key_text.specs.Spelling.{peer_lines, text_of}
+use Rattle.ab_key_text.specs.Spelling.{peer_lines}
+use Rattle.ab_text.specs.Texts.{text_of}
 use Rattle.ab_key_text.proofs.keys.PartyKeys.add_peers.Given as goal
 
 abbrev pub invariant-loop-peer : goal.invariant-loop-peer

@@ -1,7 +1,9 @@
 use Rattle.std.proofs.Common.{◌≡◌, ◌<◌, [], ◌∷◌, ◌++◌, codes, take, get_or, length, sym, ap, ◌∙◌, rules}
 use Rattle.ab_num.specs.declared.party.Party.TheVariants.{Replica}
-use Rattle.ab_key_text.specs.Spelling.{key_line, public_lines, text_of}
-use Rattle.ab_key_text.proofs.WritingLemmas.{added, public_lines_more}
+use Rattle.ab_key_text.specs.Spelling.{key_line, public_lines}
+use Rattle.ab_key_text.proofs.WritingLemmas.{public_lines_more}
+use Rattle.ab_text.specs.Texts.{text_of}
+use Rattle.ab_text.proofs.WritingLemmas.{added}
 use Rattle.ab_key_text.proofs.keys.PartyKeys.add_publics.Goals as goal
 
 pub loop-r-preserved : goal.loop-r-preserved

@@ -1,5 +1,6 @@
 use Rattle.std.proofs.Common.{◌≡◌, ◌++◌, take}
-use Rattle.ab_key_text.specs.Spelling.{public_lines, text_of}
+use Rattle.ab_key_text.specs.Spelling.{public_lines}
+use Rattle.ab_text.specs.Texts.{text_of}
 use Rattle.ab_key_text.proofs.keys.PartyKeys.add_publics.Given as goal
 
 abbrev pub invariant-loop-r : goal.invariant-loop-r

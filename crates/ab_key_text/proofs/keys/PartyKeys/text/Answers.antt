@@ -1,7 +1,9 @@
 use Rattle.std.proofs.Common.{◌≡◌, [], ◌++◌, ap, ◌∙◌}
 use Rattle.std.specs.Prelude.{flat_map}
-use Rattle.ab_key_text.specs.Spelling.{cluster_lines, name_lines, secret_lines, peer_lines, public_lines, text_of}
-use Rattle.ab_key_text.proofs.WritingLemmas.{added, five_parts}
+use Rattle.ab_num.proofs.Lists.{five_parts}
+use Rattle.ab_key_text.specs.Spelling.{cluster_lines, name_lines, secret_lines, peer_lines, public_lines}
+use Rattle.ab_text.specs.Texts.{text_of}
+use Rattle.ab_text.proofs.WritingLemmas.{added}
 use Rattle.ab_key_text.proofs.keys.PartyKeys.text.Goals as goal
 
 pub returns : goal.returns

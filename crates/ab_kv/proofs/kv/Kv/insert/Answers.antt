@@ -2,9 +2,10 @@ use Rattle.std.proofs.Common.{ap, sym, ◌∙◌, cond, is_some, ◌+◌, ◌≡
 use Rattle.std.specs.FinMap.{get, insert}
 use Rattle.std.specs.Option.{option_map}
 use Rattle.std.specs.BTreeMap.{btree_map_len}
+use Rattle.ab_num.proofs.Results.{on_err}
 use Rattle.ab_kv.specs.Stores.{is_full}
 use Rattle.ab_kv.specs.Contents.{store_of}
-use Rattle.ab_kv.proofs.StoreLemmas.{get_shown, bytes_of, store-insert, few-insert, on_err}
+use Rattle.ab_kv.proofs.StoreLemmas.{get_shown, bytes_of, store-insert, few-insert}
 use Rattle.ab_kv.proofs.kv.Kv.insert.Goals as goal
 
 pub returns-in_err-insert-clause-new : goal.returns-in_err-insert-clause-new

@@ -1,0 +1,118 @@
+//! Lines 1 to 7 of a key text.
+
+ghost use Rattle.std.specs.Prelude.{◌≡◌, ◌≤◌, IfOk, length};
+ghost use Rattle.ab_keys.specs.Keys.{is_party};
+ghost use Rattle.ab_text.specs.Lines.{lines_of};
+ghost use Rattle.ab_key_text.specs.Lines.{Gives};
+ghost use Rattle.ab_key_text.specs.Reading.{put_together, setting_at};
+
+use crate::fault::NodeFault;
+use crate::keys::PartyKeys;
+use crate::lines::{form_at, height_at, number_at, party_at, plan_at, service_at};
+use crate::secret::Secret;
+use crate::shared::Shared;
+use ab_keys::is_party;
+use ab_num::{Cluster, Height, Party, Plan, ServiceName};
+use ab_text::cluster_of;
+use std::marker::Model;
+
+/// A party of a cluster, the cluster's service and the height of its signers' trees.
+#[derive(Drop)]
+pub(crate) struct KeyLines {
+    me: Party,
+    cluster: Cluster,
+    service: ServiceName,
+    lms: Height,
+}
+
+impl Model for KeyLines {
+    ghost use Rattle.std.specs.Prelude.{IsTrue};
+    ghost use Rattle.ab_keys.specs.Keys.{is_party as is_member};
+    ghost use Rattle.ab_key_text.specs.Reading.{KeyLines as SettingValue};
+
+    ghost Value = { SettingValue };
+
+    ghost view = { λ s. record {
+      me = s.me;
+      f = s.cluster.f;
+      clients = s.cluster.clients;
+      plan = s.cluster.plan;
+      service = s.service;
+      lms = s.lms;
+    } };
+
+    ghost invariant = { λ s. IsTrue (is_member s.cluster.f s.cluster.clients s.me) };
+}
+
+/// What seven lines set up, and what comes after them.
+#[tactic(auto, unfolding(crate::specs::Reading::setting_at))]
+pub(crate) fn setting_of(text: &[u8]) -> Result<(KeyLines, &[u8]), NodeFault>
+    ensures reads { Gives (λ p. (p.0, lines_of p.1.now)) result (setting_at (lines_of text.now)) }
+    ensures shorter { IfOk result (λ p. length p.1.now ≤ length text.now) }
+{
+    let rest = form_at(text, b"keys 1", 1)?;
+    let (me, rest) = party_at(rest, 2)?;
+    let (f, rest) = number_at(rest, b"f ", 1, 2, 3)?;
+    let (clients, rest) = number_at(rest, b"clients ", 1, 16, 4)?;
+    let size = cluster_of(f as u8, clients as u16, Plan::Quorum);
+    if !is_party(&size, me) {
+        return Err(NodeFault::BadLine(2));
+    }
+    let (plan, rest) = plan_at(rest, 5)?;
+    let (service, rest) = service_at(rest, 6)?;
+    let (lms, rest) = height_at(rest, 7)?;
+    let cluster = cluster_of(f as u8, clients as u16, plan);
+    Ok((
+        KeyLines {
+            me,
+            cluster,
+            service,
+            lms,
+        },
+        rest,
+    ))
+}
+
+impl KeyLines {
+    /// The cluster.
+    pub(crate) fn cluster(&self) -> &Cluster
+        ensures f { result.now.f ≡ self.now.f }
+        ensures clients { result.now.clients ≡ self.now.clients }
+        ensures plan { result.now.plan ≡ self.now.plan }
+    {
+        &self.cluster
+    }
+
+    /// The party.
+    pub(crate) fn me(&self) -> Party
+        ensures { result ≡ self.now.me }
+    {
+        self.me
+    }
+
+    /// The keys of the party that is set up so.
+    pub(crate) fn with(
+        self,
+        secret: Option<Secret>,
+        peers: Vec<Shared>,
+        publics: Vec<[u8; 56]>,
+    ) -> PartyKeys
+        ensures { result ≡ put_together self secret peers.items publics.items }
+    {
+        let KeyLines {
+            me,
+            cluster,
+            service,
+            lms,
+        } = self;
+        PartyKeys {
+            cluster,
+            service,
+            lms,
+            me,
+            secret,
+            peers,
+            publics,
+        }
+    }
+}

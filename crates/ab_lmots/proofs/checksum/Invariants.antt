@@ -1,6 +1,0 @@
-use Rattle.std.proofs.Common.{◌≡◌, ◌*◌, ◌≤◌}
-use Rattle.ab_lmots.specs.OneTime.{checksum}
-use Rattle.ab_lmots.proofs.checksum.Given as goal
-
-abbrev pub invariant-digits : goal.invariant-digits
-invariant-digits l = (l.sum ≡ checksum l.digest l.i) × (l.sum ≤ 15 * l.i)

@@ -1,0 +1,10 @@
+use Rattle.std.proofs.Common.{arith, ◌≡◌, ◌++◌, ◌∷◌, ℕ, subst}
+use Rattle.sha2.specs.Hashers.{Holds256}
+use Rattle.ab_lms.specs.OneTime.{whole_chains, leaf}
+use Rattle.ab_lms.proofs.one_time.key_once.Goals as goal
+
+pub returns : goal.returns
+returns c =
+    let e : c.chains.i ≡ 67 = omega arith in
+    let P : ℕ → Type 0 = λ n. Holds256 c.chains.hasher (leaf c.args.id.now c.args.q ++ 0x80 ∷ 0x80 ∷ whole_chains c.args.id.now c.args.q c.args.seed.now n) in
+    c.finalize.ensures _ (subst P e c.chains.invariant)

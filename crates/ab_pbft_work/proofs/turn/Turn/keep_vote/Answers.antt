@@ -1,9 +1,0 @@
-use Rattle.std.proofs.Common.{refl}
-use Rattle.ab_pbft_work.proofs.TurnLemmas.{votes_does}
-use Rattle.ab_pbft_work.specs.Turns.{memory_of}
-use Rattle.ab_pbft_work.proofs.turn.Turn.keep_vote.Goals as goal
-
-pub returns : goal.returns
-returns c =
-    let b = memory_of c.args.self.now.memory in
-    votes_does c.args.self.now _ c.args.vote (λ j. record b { peer = record b.peer { votes = c.in_ok-keep.ensures j } }) refl

@@ -1,0 +1,24 @@
+//! What the head of a schedule sets up, but for faulty parties.
+
+ghost use Rattle.std.specs.Prelude.{◌≡◌};
+ghost use Rattle.ab_num.specs.Bounds.{IsInBounds};
+
+use ab_num::{Cluster, Height, Plan, ServiceName};
+
+/// A cluster, its service and the height of its signers' trees.
+#[derive(Clone, Copy)]
+pub(crate) struct HeadLines {
+    pub(crate) cluster: Cluster,
+    pub(crate) service: ServiceName,
+    pub(crate) lms: Height,
+}
+
+/// The cluster of these numbers, which are within its bounds.
+pub fn cluster_of(f: u8, clients: u16, plan: Plan) -> Cluster
+    requires { IsInBounds f clients }
+    ensures f { result.f ≡ f }
+    ensures clients { result.clients ≡ clients }
+    ensures plan { result.plan ≡ plan }
+{
+    Cluster { f, clients, plan }
+}
