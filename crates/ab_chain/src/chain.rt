@@ -40,6 +40,7 @@ pub struct Chain<S: Service> {
     stopped: bool,
 }
 
+// Written out, so that no crate above makes and proves it anew.
 impl<S: Service> Drop for Chain<S> {
     fn drop(self) {
         let Chain {

@@ -5,8 +5,8 @@ ghost use Rattle.ab_form.specs.Readers.{listed};
 
 use ab_form::{ListRef, Part};
 
-/// The same value once more. A `*x` of a type with a lifetime isn't covered where the function has
-/// others.
+/// The same value, without the loan. It takes the place of `*x`: the borrow checker has no rule for that where `T` has a
+/// lifetime and the function that wants the copy has others.
 pub fn copy_of<T: Copy>(x: &T) -> T
     ensures { result ≡ x.now }
 {

@@ -11,7 +11,7 @@ ghost use Rattle.ab_msg.specs.Contents.{IsContent, IsOrder, IsPrePrepare};
 ghost use Rattle.ab_msg.specs.Messages.{IsMessage, IsOffer, slot_in};
 ghost use Rattle.ab_content.specs.Views.{content as shown, request};
 ghost use Rattle.ab_check.specs.Checks.{aborts_checks, all_checks, checks_of, offer_checks, proof_checks, tag_of, tagged};
-ghost use Rattle.ab_check.specs.Chains.{IsPlaced, asked_at, passed_to, said_before};
+ghost use Rattle.ab_check.specs.Chains.{IsPlaced, asked_at, passed_to};
 ghost use Rattle.ab_wire.specs.Views.{IsReceived, Spells, aborts as shown_aborts, chain_tags, message, offered, proof, proofs, reply_of, tags as shown_tags};
 ghost use Rattle.ab_check.specs.Listing.{IsClaim, checked, one_left};
 
@@ -86,7 +86,8 @@ fn tag_of<'a>(me: Party, tags: ListRef<'a, TagRef<'a>>) -> Option<&'a Tag>
     }
 }
 
-/// A client's request, where position `p` is one of the first f + 1.
+/// The check of a client's request at position `p` of a chain. Only the first f + 1 positions have a tag of the
+/// client, so behind them there is none.
 fn front<'a>(
     k: &Cluster,
     me: Party,
@@ -328,7 +329,8 @@ fn new_view<'a>(
     )
 }
 
-/// What a party checks of a message, in order. They take no memory.
+/// All that party `me` checks of a message, in the order in which a fault is told: what is stated, and the tag or signature
+/// that stands for it. The list reads the message's bytes as it goes on, so it takes no memory.
 #[tactic(auto, using(ab_wire::proofs::KindLemmas::req_content, ab_wire::proofs::KindLemmas::resp_content, ab_wire::proofs::KindLemmas::panic_content, ab_wire::proofs::KindLemmas::abort_content, ab_wire::proofs::KindLemmas::prepare_content, ab_wire::proofs::KindLemmas::commit_content, ab_wire::proofs::KindLemmas::new_view_content))]
 pub fn checks_in<'a>(k: &Cluster, me: Party, m: MsgRef<'a>) -> Checks<'a>
     requires received { IsReceived m }

@@ -24,16 +24,21 @@ use ab_wire::MsgRef;
 use arrayvec::ArrayVec;
 use std::alloc::Global;
 use std::marker::Model;
+use thiserror::Error;
 
 /// Why a client took no command.
-#[derive(Clone, Copy, Debug, PartialEq, Eq)]
+#[derive(Clone, Copy, Debug, PartialEq, Eq, Error)]
 pub enum InvokeFault {
     /// A request is open.
+    #[error("a request is open")]
     Busy,
     /// The command has over 128 bytes.
+    #[error("the command has over 128 bytes")]
     TooLong,
     /// The command has no bytes.
+    #[error("the command has no bytes")]
     Empty,
+    #[error("out of memory")]
     OutOfMemory,
 }
 
@@ -62,6 +67,7 @@ pub struct Client {
     kept: Vec<Signed>,
 }
 
+// Written out, so that no crate above makes and proves it anew.
 impl Drop for Client {
     fn drop(self) {
         let Client {

@@ -2,27 +2,19 @@
 use Rattle.std.proofs.Common.{append_assoc, map, ◌≡◌, ℕ, zero, suc, ◌^◌, ◌<◌, ◌≤◌, eqb, Bool, true, false, List, [], ◌∷◌, ◌++◌, length, All, Result, Ok, Err, Option, None, Some, refl, sym, ap, subst, ◌∙◌, arith, lit<}
 use Rattle.std.specs.Prelude.{slice_index_or}
 use Rattle.std.proofs.lemmas.List.{length-map}
-use Rattle.std.specs.Int.{w8, w16}
+use Rattle.std.specs.Int.{w8}
 use Rattle.std.proofs.lemmas.Bool.{eqb-true, eqb-false}
 use Rattle.std.proofs.lemmas.List.Elements.{All-map, All-nil, All-cons, All-head, All-tail}
 use Rattle.ab_form.specs.declared.bad.Bad.{Bad}
 use Rattle.ab_form.specs.declared.bad.Bad.TheVariants.{BadLength, BadField}
 use Rattle.ab_form.specs.Readers.{listed, ◌>>=◌, Reader, ranged_at, made, either}
-use Rattle.ab_form.specs.Formats.{Takes, Stays, IsFormat, IsWithin, EachFits, u8_bytes, u16_bytes, spell_each}
+use Rattle.ab_form.specs.Formats.{Takes, Stays, IsFormat, IsWithin, EachFits, u8_bytes, spell_each}
 use Rattle.ab_form.proofs.StepLemmas.{done_is, bind_ok}
 use Rattle.ab_form.proofs.FormatLemmas.{after-stays, format, same-format, after-format, inject-format, either-format, many-stays, many-format, made-stays, IsMany}
-use Rattle.ab_form.proofs.PartLemmas.{u8-format, u16-format}
-use Rattle.ab_form.specs.Lists.{nothing, along, times, AreTimes, counted, u8_list, u16_list, AreCounted, flag_of, spell_inside, optional_at, spell_optional, FitsInside}
+use Rattle.ab_form.proofs.PartLemmas.{u8-format}
+use Rattle.ab_form.specs.Lists.{nothing, along, times, AreTimes, counted, u8_list, AreCounted, flag_of, spell_inside, optional_at, spell_optional, FitsInside}
 
 -- ---- no bytes
-
-pub nothing-format : {A : Type 0} (x : A) → IsFormat (nothing x) (λ _. []) (λ y. y ≡ x)
-nothing-format {A} x = format (nothing x) (λ _. []) (λ y. y ≡ x)
-    (λ bytes rest y fits e.
-    let P : A × List ℕ → Type 0 = λ p. Takes bytes [] p.1 × (p.0 ≡ x) in
-    subst P (done_is (x, bytes) (y, rest) e) (record { parts = refl; rest_fits = fits }, refl))
-    (λ y rest h. ap (λ (z : A). Ok (z, rest)) (sym h))
-    (λ bytes more h. refl)
 
 -- ---- n values
 
@@ -50,12 +42,6 @@ pub u8_counted-format : {A : Type 0} (low high : ℕ) (r : Reader A) (s : A → 
 u8_counted-format low high r s F lt one =
     after-format length (ranged_at w8 low high BadLength) u8_bytes (IsWithin low high) (times r) (spell_each s) (All F)
     (u8-format low high BadLength lt) (λ n _. times-format r s F one n) (times-stays r one.stays)
-
-pub u16_counted-format : {A : Type 0} (low high : ℕ) (r : Reader A) (s : A → List ℕ) (F : A → Type 0) → high < 2 ^ 16 → IsFormat r s F
-    → IsFormat (counted w16 low high r) (u16_list s) (AreCounted low high F)
-u16_counted-format low high r s F lt one =
-    after-format length (ranged_at w16 low high BadLength) u16_bytes (IsWithin low high) (times r) (spell_each s) (All F)
-    (u16-format low high BadLength lt) (λ n _. times-format r s F one n) (times-stays r one.stays)
 
 -- ---- a part that is there by a flag
 

@@ -20,6 +20,7 @@ pub(crate) struct Entries {
     index: Index,
 }
 
+// Written out, so that no crate above makes and proves it anew.
 impl Drop for Entries {
     fn drop(self) {
         let Entries {

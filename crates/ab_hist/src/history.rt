@@ -12,15 +12,19 @@ use ab_num::OutOfMemory;
 use std::alloc::{AllocError, Global};
 use std::marker::Model;
 use std::rc::Rc;
+use thiserror::Error;
 
 /// How many requests a history may hold.
 const CAPACITY: usize = 1024;
 
 /// Why a request was not added.
-#[derive(Clone, Copy, Debug, PartialEq, Eq)]
+#[derive(Clone, Copy, Debug, PartialEq, Eq, Error)]
 pub enum PushFault {
+    #[error("the history is full")]
     Full,
+    #[error("the request's stamp isn't above its client's last")]
     Repeat,
+    #[error("out of memory")]
     OutOfMemory,
 }
 

@@ -2,22 +2,28 @@
 
 use ab_num::OutOfMemory;
 use std::alloc::AllocFailed;
+use thiserror::Error;
 
 /// What is wrong with a key text. Lines are numbered from 1.
-#[derive(Clone, Copy, Debug, PartialEq, Eq)]
+#[derive(Clone, Copy, Debug, PartialEq, Eq, Error)]
 pub enum KeyFault {
     /// The first line that is out of form or missing.
+    #[error("line {0} is out of form or missing")]
     BadLine(u32),
+    #[error("out of memory")]
     OutOfMemory,
 }
 
 /// What is wrong with the text of a node. Lines are numbered from 1.
-#[derive(Clone, Copy, Debug, PartialEq, Eq)]
+#[derive(Clone, Copy, Debug, PartialEq, Eq, Error)]
 pub enum NodeFault {
     /// The first line that is out of form.
+    #[error("line {0} is out of form")]
     BadLine(u32),
     /// The text ends before this line, which is wanted.
+    #[error("the text ends before line {0}")]
     NoEnd(u32),
+    #[error("out of memory")]
     OutOfMemory,
 }
 

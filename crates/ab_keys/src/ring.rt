@@ -19,6 +19,7 @@ pub struct KeyRing {
     peers: Vec<Peer>,
 }
 
+// Written out, so that no crate above makes and proves it anew.
 impl Drop for KeyRing {
     fn drop(self) {
         let KeyRing {

@@ -36,6 +36,7 @@ pub struct Kv {
     values: BTreeMap<Key, Value>,
 }
 
+// Written out, so that no crate above makes and proves it anew.
 impl Drop for Kv {
     fn drop(self) {
         let Kv { values: _ } = self;
@@ -66,6 +67,7 @@ fn found(value: &[u8]) -> Reply
     let mut reply = array_of(b"val ");
     match reply.try_extend_from_slice(value) {
         Ok(()) => {}
+        // A reply has room for the longest value.
         Err(_) => unreachable!(),
     }
     reply

@@ -92,9 +92,6 @@ module _ {V X : Type 0} (digest : V → X) (f : ℕ) (faulty : List Party) (trac
           let same : digest b.cert.value ≡ digest value = before b.cert.at le good.0 t value there (digest b.cert.value) good.1 in
           sym b.value_is ∙ p.apart t b.cert.value value (in_change r w vcs chosen b.change b.cert ok is_in b.is_in b.stands refl) (in_prepared holder.0 v h holder.1 holder.2 there) same
 
-      Reaches : ℕ → Type 0
-      Reaches t = (t ≤ length chosen) × (take t chosen ≡ take t h)
-
       longer : (t : ℕ) (value : V) → slice_get h t ≡ Some value → (t ≤ length chosen) → (take t chosen ≡ take t h) → t < length chosen
       longer t value there le same =
           elim (cases_lt t (length chosen)) [

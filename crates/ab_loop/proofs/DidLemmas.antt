@@ -1,5 +1,5 @@
 -- What is done outside by both objects.
-use Rattle.std.proofs.Common.{◌≡◌, ℕ, ◌+◌, List, [], ◌++◌, Option, Bool, not, if◌then◌else◌, refl, ap, sym, ◌∙◌, append_assoc, append-nil, length-append, arith}
+use Rattle.std.proofs.Common.{◌≡◌, ℕ, ◌+◌, List, [], ◌++◌, Option, Bool, not, if◌then◌else◌, refl, ap, sym, ◌∙◌, append_assoc, length-append, arith}
 use Rattle.std.specs.List.{count_by}
 use Rattle.std.proofs.lemmas.List.Sums.{sum_by-append}
 use Rattle.ab_loop.specs.Outside.{capped, Datagram, Effects, nothing, writing, sending, both, Outside, outside, grown, those_gone, Did, DidAll, DidPart, SaysPart, SentAll, SentPart}
@@ -7,9 +7,6 @@ use Rattle.ab_loop.proofs.OutsideLemmas.{grown_nil, grown_then, those_append, ca
 
 both_assoc : (a b c : Effects) → both (both a b) c ≡ both a (both b c)
 both_assoc a b c = (λ i. record { text = append_assoc a.text b.text c.text i; datagrams = append_assoc a.datagrams b.datagrams c.datagrams i })
-
-pub both_nothing : (a : Effects) → both a nothing ≡ a
-both_nothing a = (λ i. record { text = append-nil a.text i; datagrams = append-nil a.datagrams i })
 
 pub did_then : (o1 o2 o3 : Outside) (a b : Effects) (w v : List Bool) → Did o1 o2 a w → Did o2 o3 b v → Did o1 o3 (both a b) (w ++ v)
 did_then o1 o2 o3 a b w v first second = record {
@@ -53,10 +50,6 @@ part_then o1 o2 o3 a b l first p = record {
   parts = ap (λ x. both a x) p.parts ∙ sym (both_assoc a p.done p.left);
   did = did_then o1 o2 o3 a p.done first.went p.went first.did p.did;
 }
-
--- all of it is a part of more
-pub all_is_part : (o1 o2 : Outside) (a b : Effects) (l : ℕ) → DidAll o1 o2 a l → DidPart o1 o2 (both a b)
-all_is_part o1 o2 a b l first = record { done = a; left = b; went = first.went; parts = refl; did = first.did }
 
 -- ---- one object
 

@@ -1,8 +1,8 @@
 -- Code that goes along a definition, one step after the other.
-use Rattle.std.proofs.Common.{◌≡◌, ℕ, ◌+◌, ◌≤◌, List, [], ◌∷◌, take, Option, None, Some, Result, Ok, Err, OnOk, IfSome, refl, sym, subst, ◌∙◌, arith}
+use Rattle.std.proofs.Common.{◌≡◌, ℕ, ◌+◌, ◌≤◌, List, [], ◌∷◌, Option, None, Some, Result, Ok, Err, OnOk, IfSome, refl, sym, subst, arith}
 use Rattle.ab_io.specs.Causes.{Rose}
 use Rattle.ab_io.specs.Datagrams.{given_of, Gives}
-use Rattle.ab_io.specs.declared.link.Got.TheVariants.{Bytes, Quiet}
+use Rattle.ab_io.specs.declared.link.Got.TheVariants.{Quiet}
 use Rattle.ab_loop.specs.declared.fault.ServeFault.{ServeFault}
 use Rattle.ab_loop.specs.declared.fault.ServeFault.TheVariants as fault
 use Rattle.ab_loop.specs.Outside.{capped, Datagram, Effects, writing, sending, both, Outside, outside, grown, DidAll, DidPart, SaysPart, Sends, Does, Counts, counts, Rises, FaultCause, Counted, SayFault, SendCause, SendFault}
@@ -185,12 +185,6 @@ follows_failed n h s0 s1 f0 f1 o l0 l1 out s f rose l = record {
   did = subst (λ (x : Option (List Datagram)). DidPart (outside h s0) (outside h x) out.effects) (sym s) (part_none (outside h s0) out.effects);
   counted = (record { link = f; out = omega arith; later = omega (arith, l); losses = omega (arith, l) }, rose);
 }
-
-pub bytes_next : (known : Option (List (List ℕ))) (n : ℕ) (buf bytes : List ℕ) → bytes ≡ take n buf → IfSome known (λ datagrams. Gives datagrams (Bytes n) buf)
-    → IfSome known (λ datagrams. IsNext datagrams (Some bytes))
-bytes_next None n buf bytes e h = tt
-bytes_next (Some []) n buf bytes e h = absurd h
-bytes_next (Some (d ∷ ds)) n buf bytes e h = e ∙ h.1
 
 pub quiet_next : (known : Option (List (List ℕ))) (buf : List ℕ) → IfSome known (λ datagrams. Gives datagrams Quiet buf) → IfSome known (λ datagrams. IsNext datagrams None)
 quiet_next None buf h = tt

@@ -58,9 +58,6 @@ those_append (false ∷ w) v (d ∷ x) y e = those_append w v x y (omega arith)
 pub capped_sum : (a b x y : ℕ) → a ≡ capped x → b ≡ capped y → capped (a + b) ≡ capped (x + y)
 capped_sum a b x y e f = omega arith
 
-pub sent_none : (a : Option (List Datagram)) → SentAll a a [] 0
-sent_none a = record { went = []; each = refl; sent = grown_nil a; lost_are = refl }
-
 pub sent_then : (a b c : Option (List Datagram)) (ds es : List Datagram) (l m : ℕ) → SentAll a b ds l → SentAll b c es m → SentAll a c (ds ++ es) (capped (l + m))
 sent_then a b c ds es l m first second = record {
   went = first.went ++ second.went;

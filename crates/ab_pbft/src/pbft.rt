@@ -35,6 +35,7 @@ pub struct Pbft {
     left: u32,
 }
 
+// Written out, so that no crate above makes and proves it anew.
 impl Drop for Pbft {
     fn drop(self) {
         let Pbft {

@@ -97,6 +97,7 @@ fn put(f: u8, shelf: &mut Shelf, m: Msg, input: &Reading) -> Result<(), OutOfMem
         Msg::Prepare { prepare } => put_ballot(shelf, prepare, input),
         Msg::ViewChange { change } => put_proof(f, shelf, change, input),
         other => {
+            // As in `receive`.
             drop(other);
             Ok(())
         }

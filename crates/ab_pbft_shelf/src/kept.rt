@@ -15,6 +15,7 @@ pub struct SignedVote {
     pub sig: Sig,
 }
 
+// Written out, so that no crate above makes and proves it anew.
 impl Drop for SignedVote {
     fn drop(self) {
         let SignedVote {
@@ -82,6 +83,7 @@ fn copy_tags(tags: &[(u8, Tag)]) -> Tags
     let mut made = ArrayVec::new();
     match made.try_extend_from_slice(tags) {
         Ok(()) => made,
+        // There is room for the tags of all replicas.
         Err(_) => unreachable!(),
     }
 }
@@ -102,6 +104,7 @@ fn copy_certified(
 ) -> Result<Option<Certified>, OutOfMemory>
     ensures { IfOk result (λ c. c ≡ certified.now) }
 {
+    // A copy may fail, which `map` has no way to tell.
     match certified {
         Some(certified) => {
             let certified = certified.copy(alloc)?;

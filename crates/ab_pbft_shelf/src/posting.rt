@@ -327,7 +327,7 @@ impl Shelf {
         }
     }
 
-    /// The same for each of these deeds, one after another.
+    /// Signs, keeps and sends what each of these deeds wants, one after another. After an `Err` some of them may be done.
     fn post_each<N: Notary>(
         &mut self,
         alloc: Global,
@@ -346,7 +346,8 @@ impl Shelf {
         Ok(())
     }
 
-    /// The same, if `n` can sign each of them. Else it is Spent, and nothing is signed.
+    /// Signs, keeps and sends what these deeds want, if `n` has signatures left for all of them. Else it is Spent, and
+    /// nothing is signed.
     pub fn post_all<N: Notary>(
         &mut self,
         alloc: Global,

@@ -78,11 +78,6 @@ module _ (f : ℕ) (entries : List (ℕ × List ℕ)) (values : List Value) (sig
           let rest : Option (List ProvedSlot) = slots_of f (t + 1) (drop (t + 1) entries) (drop (t + 1) values) (drop (t + 1) signed) in
           sym (before-next made slot rest) ∙ ap (λ o. before made (with_next o rest)) gives ∙ here
 
-      pub slot_is_wrong : None ≡ slot_of f t e v by → None ≡ slots_of f 0 entries values signed
-      slot_is_wrong gives =
-          let rest : Option (List ProvedSlot) = slots_of f (t + 1) (drop (t + 1) entries) (drop (t + 1) values) (drop (t + 1) signed) in
-          ap (λ o. before made (with_next o rest)) gives ∙ here
-
 -- ---- VIEW-CHANGEs
 
 change_next : (o : Option ChangeReading) (rest : Option (List ChangeReading)) → with_change o rest ≡ with_next o rest

@@ -38,6 +38,7 @@ pub struct Memory {
     pub(crate) requests: Vec<Request>,
 }
 
+// Written out, so that no crate above makes and proves it anew.
 impl Drop for Memory {
     fn drop(self) {
         let Memory {

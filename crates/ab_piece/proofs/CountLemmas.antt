@@ -56,10 +56,6 @@ fails-front p (y ∷ front) behind (suc k) d none lt =
 
 -- ---- sums over two lists
 
-sum_by-zeros : {K : Type 0} (ks : List K) → sum_by (λ k. 0) ks ≡ 0
-sum_by-zeros [] = refl
-sum_by-zeros (k ∷ ks) = let sum = sum_by-cons (λ k. 0) k ks in let rest = sum_by-zeros ks in omega arith
-
 sum_by-plus : {K : Type 0} (f g : K → ℕ) (ks : List K) → sum_by (λ k. f k + g k) ks ≡ sum_by f ks + sum_by g ks
 sum_by-plus f g [] = refl
 sum_by-plus f g (k ∷ ks) =

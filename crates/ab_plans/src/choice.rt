@@ -14,6 +14,7 @@ pub enum Choice<P, Q> {
     Second(Q),
 }
 
+// Written out, so that no crate above makes and proves it anew.
 impl<P: Drop, Q: Drop> Drop for Choice<P, Q> {
     fn drop(self) {
         match self {

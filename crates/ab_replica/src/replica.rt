@@ -46,6 +46,7 @@ pub struct Replica<S: Service, P: Protocol<S>> {
     of: PhantomData<S>,
 }
 
+// Written out, so that no crate above makes and proves it anew.
 impl<S: Service, P: Protocol<S>> Drop for Replica<S, P> {
     fn drop(self) {
         let Replica {
@@ -284,6 +285,7 @@ impl<S: Service, P: Protocol<S>> Replica<S, P> {
     fn settle(&mut self, other: Self)
         ensures { self.new ≡ other }
     {
+        // A plain `*self = other` would take the old one apart in place.
         drop(replace(self, other));
     }
 

@@ -1,7 +1,8 @@
-//! Reads lines of a mark and hexadecimal bytes. Where the mark is a digit it tells whether the bytes give another answer: 0 is a
-//! message, which is also owned and written again, and 1 to 5 the first defect. `m` is a message too; then each of its proper
-//! prefixes is too short, a byte more trails, and with a first byte of 0 it has no code. `r` reads the bytes 10,000 times and `c`
-//! copies them as often, for a script that takes the time; `n` does neither.
+//! Reads rows, each a mark and bytes in hexadecimal, and tells of each row whose bytes give another answer than its mark says:
+//! - `0`: a message. It is also owned, and written again as the same bytes.
+//! - `1` to `5`: no message, with this defect as the first.
+//! - `m`: a message. Each of its proper prefixes is too short, one byte more trails, and with a first byte of 0 it has no code.
+//! - `r`, `c` and `n`: the bytes are read 10,000 times, copied as often, or neither, for a script that takes the time.
 #![tactic(auto)]
 
 ghost use Rattle.ab_wire.specs.Views.{IsReceived};

@@ -14,6 +14,7 @@ pub enum SignKey {
     Public([u8; 56]),
 }
 
+// Written out, so that no crate above makes and proves it anew.
 impl Drop for SignKey {
     fn drop(self) {
         match self {

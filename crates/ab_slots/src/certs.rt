@@ -88,6 +88,7 @@ pub fn entries_of(alloc: Global, certs: &[Cert]) -> Result<ViewEntries, OutOfMem
 fn copy_cert(alloc: Global, cert: &Option<Cert>) -> Result<Option<Cert>, OutOfMemory>
     ensures { IfOk result (λ c. c ≡ cert.now) }
 {
+    // A copy may fail, which `map` has no way to tell.
     match cert {
         Some(cert) => {
             let copy = cert.copy(alloc)?;

@@ -13,6 +13,7 @@ pub struct Cert {
     value: Value,
 }
 
+// Written out, so that no crate above makes and proves it anew.
 impl Drop for Cert {
     fn drop(self) {
         let Cert { at: _, value: _ } = self;

@@ -12,6 +12,7 @@ pub struct Items<T> {
     values: Vec<T>,
 }
 
+// Written out, so that no crate above makes and proves it anew.
 impl<T: Drop> Drop for Items<T> {
     fn drop(self) {
         let Items { values: _ } = self;

@@ -190,10 +190,6 @@ pub name-walk : (names : List Text) (rows : List Row) (p : Option (Text × List 
     → walk_of names (held rows p) x (Some (full_as false n)) None ≡ waits_for n (settled_rows (rules names) p rows)
 name-walk names rows p x n = refl
 
--- a flag with a value
-pub valued-flag : (names : List Text) (h : Held) (x n v : Text) → turn_of names h x (Some (full_as true n)) (Some v) ≡ kind.TooManyValues ∷ []
-valued-flag names h x n v = refl
-
 -- where a name waits, a word with another name fails
 pub long-fails : (names : List Text) (rows : List Row) (n m : Text) (v : Option Text) → has n names ≡ true → is_flag n ≡ false
     → long_fault (rules names) false (found (has m names) m) v (held rows (Some (n, []))) ≡ [] → ⊥

@@ -1,6 +1,6 @@
 //! The uses of options, as clap reads them.
 
-ghost use Rattle.std.specs.Prelude.{◌≡◌, IfOk, MatchOption, IsTrue, None, Some, codes, false, not, true};
+ghost use Rattle.std.specs.Prelude.{◌≡◌, IfOk, MatchOption, None, Some, codes, false, true};
 ghost use Rattle.std.specs.List.{list_any};
 ghost use Rattle.std.specs.Str.{bytes_eq};
 ghost use Rattle.clap.specs.Words.{app_of, rule_of};
