@@ -16,12 +16,12 @@ use Rattle.ab_replay.specs.declared.refusal.Refusal.{Refusal}
 use Rattle.ab_replay.specs.Streams.{IsInput}
 use Rattle.ab_node.specs.declared.stop.Stop.{Stop}
 use Rattle.ab_node.specs.declared.stop.Stop.TheVariants as stop
-use Rattle.ab_node.specs.Nodes.{IsRefused, IsStopped, Meeting, PartyStopped, StopCause}
+use Rattle.ab_node.specs.Nodes.{IsRefused, IsStopped, NodeCall, PartyStopped, StopCause}
 use Rattle.ab_command.specs.declared.status.Bound.TheVariants.{Bytes, Events, Packets}
 use Rattle.ab_command.specs.declared.status.Status.{Status}
 use Rattle.ab_command.specs.declared.status.Status.TheVariants.{Done, Broken, Usage, Refused, ReadFault, WriteFault, LinkFault, Limit, TurnsSpent, OutOfMemory}
 use Rattle.ab_command.specs.Texts.{code_of, stop_status}
-use Rattle.ab_command.specs.Calls.{Call, meeting_of}
+use Rattle.ab_command.specs.Calls.{Call, call_of}
 use Rattle.ab_command.specs.Commands.{AsksNode}
 use Rattle.ab_command.specs.Endings.{Says, Settles}
 use Rattle.ab_command.specs.Statuses.{HasFront, IsClearForNode, IsServedOut, StatusCause}
@@ -29,27 +29,27 @@ use Rattle.ab_command.proofs.StatusLemmas.{keys_or_node, not_none, not_too_long,
 
 -- ---- whose counts rose, whatever the party
 
-link_rose : (me : Party) (k : PartyKeys) (commands : List (List ℕ)) (x : Meeting) → PartyStopped me k commands x LinkFailed → Rose x.before.link x.after.link
+link_rose : (me : Party) (k : PartyKeys) (commands : List (List ℕ)) (x : NodeCall) → PartyStopped me k commands x LinkFailed → Rose x.old.link.faults x.new.link.faults
 link_rose (Replica r) k commands x stopped = stopped.fault.counted.1
 link_rose (Client c) k commands x stopped = stopped.fault.counted.1
 
-out_rose : (me : Party) (k : PartyKeys) (commands : List (List ℕ)) (x : Meeting) → PartyStopped me k commands x WriteFailed → Rose x.before.out x.after.out
+out_rose : (me : Party) (k : PartyKeys) (commands : List (List ℕ)) (x : NodeCall) → PartyStopped me k commands x WriteFailed → Rose x.old.out.faults x.new.out.faults
 out_rose (Replica r) k commands x stopped = stopped.fault.counted.1
 out_rose (Client c) k commands x stopped = stopped.fault.counted.1
 
 -- only a client leaves commands
-leaves_as_client : (me : Party) (k : PartyKeys) (commands : List (List ℕ)) (x : Meeting) (n : ℕ) → PartyStopped me k commands x (Unanswered n) → is_client me ≡ true
+leaves_as_client : (me : Party) (k : PartyKeys) (commands : List (List ℕ)) (x : NodeCall) (n : ℕ) → PartyStopped me k commands x (Unanswered n) → is_client me ≡ true
 leaves_as_client (Replica r) k commands x n stopped = stopped.fault.client
 leaves_as_client (Client c) k commands x n stopped = refl
 
 module _ (c : Call) (k : NodeCommand) (clear : IsClearForNode c k) where
-  read_as : (text : List ℕ) (r : Result NodeText NodeFault) → IsInput c.left text → node_in (lines_of text) ≡ r → Ok clear.node ≡ r
-  read_as text r input reads = sym clear.reads ∙ (ap (λ (t : List ℕ). node_in (lines_of t)) (sym (same_input c.left clear.text text clear.input input)) ∙ reads)
+  read_as : (text : List ℕ) (r : Result NodeText NodeFault) → IsInput c.met.input.before.left text → node_in (lines_of text) ≡ r → Ok clear.node ≡ r
+  read_as text r input reads = sym clear.reads ∙ (ap (λ (t : List ℕ). node_in (lines_of t)) (sym (same_input c.met.input.before.left clear.text text clear.input input)) ∙ reads)
 
-  not_refused : (text : List ℕ) (r : Refusal) → IsInput c.left text → IsRefused text r → ⊥
+  not_refused : (text : List ℕ) (r : Refusal) → IsInput c.met.input.before.left text → IsRefused text r → ⊥
   not_refused text r input refused = let e : ◌≡◌ {A = Result NodeText NodeFault} (Ok clear.node) (Err refused.fault) = read_as text (Err refused.fault) input refused.reads in cc
 
-  is_clients : (text : List ℕ) (n : ℕ) (x : Meeting) → IsInput c.left text → IsStopped text x (Unanswered n) → is_client clear.node.keys.me ≡ true
+  is_clients : (text : List ℕ) (n : ℕ) (x : NodeCall) → IsInput c.met.input.before.left text → IsStopped text x (Unanswered n) → is_client clear.node.keys.me ≡ true
   is_clients text n x input stopped =
       let e : ◌≡◌ {A = Result NodeText NodeFault} (Ok clear.node) (Ok stopped.node) = read_as text (Ok stopped.node) input stopped.reads in
       let same : stopped.node ≡ clear.node = cc in
@@ -74,33 +74,33 @@ module _ (c : Call) (k : NodeCommand) (clear : IsClearForNode c k) where
   ]
   node_status LinkFault ((j, asks, (text, input, stopped)), said) =
       let node = stopped.node in
-      absurd (clear.link (link_rose node.keys.me node.keys node.commands (meeting_of j c) stopped.fault))
+      absurd (clear.link (link_rose node.keys.me node.keys node.commands (call_of j c) stopped.fault))
   node_status (Limit Bytes) (inl (words, long, kept), said) = absurd (replay_or_node c.words k words clear.words)
-  node_status (Limit Bytes) (inr (j, asks, (long, untouched)), said) = absurd (not_too_long c.left clear.text clear.input clear.short long)
+  node_status (Limit Bytes) (inr (j, asks, (long, untouched)), said) = absurd (not_too_long c.met.input.before.left clear.text clear.input clear.short long)
   node_status (Limit Events) (words, input, kept, said) = absurd (replay_or_node c.words k words clear.words)
   node_status (Limit Packets) (inl (words, input), kept, said) = absurd (replay_or_node c.words k words clear.words)
   node_status (Limit Packets) (inr (j, asks, passes), kept, said) = absurd (storm_or_node c.words j k asks clear.words)
   node_status (TurnsSpent n) ((j, asks, (text, input, stopped)), said) =
-      inr (inl (refl, is_clients text n (meeting_of j c) input stopped, (n, (j, asks, (text, input, stopped)))))
+      inr (inl (refl, is_clients text n (call_of j c) input stopped, (n, (j, asks, (text, input, stopped)))))
   node_status OutOfMemory cause = inr (inr refl)
 
 -- ---- a node that stopped
 
-stopped_status : (c : Call) (k : NodeCommand) (why : Stop) → AsksNode c.words k → StopCause why c.left c.read_before c.read_now (meeting_of k c) → HasFront c → Says (stop_status why) c.err → StatusCause (stop_status why) c
+stopped_status : (c : Call) (k : NodeCommand) (why : Stop) → AsksNode c.words k → StopCause why c.met.input (call_of k c) → HasFront c → Says (stop_status why) c.met.err → StatusCause (stop_status why) c
 stopped_status c k stop.Read asks cause front said = (inr (k, asks, cause), said)
 stopped_status c k stop.TooLong asks cause front said = (inr (k, asks, cause), said)
 stopped_status c k (stop.Refused r) asks cause front said = (inr (k, asks, cause), said)
 stopped_status c k (stop.Serving serving.LinkFailed) asks cause front said = ((k, asks, cause), said)
 stopped_status c k (stop.Serving serving.WriteFailed) asks (text, input, stopped) front said =
     let node = stopped.node in
-    (inl (out_rose node.keys.me node.keys node.commands (meeting_of k c) stopped.fault, said), front)
+    (inl (out_rose node.keys.me node.keys node.commands (call_of k c) stopped.fault, said), front)
 stopped_status c k (stop.Serving serving.OutOfMemory) asks cause front said = (front, inl said)
 stopped_status c k (stop.Serving (serving.TurnsSpent n)) asks cause front said = ((k, asks, cause), said)
 stopped_status c k stop.OutOfMemory asks cause front said = (front, inl said)
 
 -- and that was to be said
-pub stop_settled : (c : Call) (k : NodeCommand) (r : Status) (why : Stop) → Settles r (stop_status why) c.err → AsksNode c.words k
-    → StopCause why c.left c.read_before c.read_now (meeting_of k c) → StatusCause r c
+pub stop_settled : (c : Call) (k : NodeCommand) (r : Status) (why : Stop) → Settles r (stop_status why) c.met.err → AsksNode c.words k
+    → StopCause why c.met.input (call_of k c) → StatusCause r c
 stop_settled c k r why how asks cause =
     let front : HasFront c = inr (inr (inr (inr (why, (k, asks, cause))))) in
     settled c r (stop_status why) how (stopped_status c k why asks cause front) front

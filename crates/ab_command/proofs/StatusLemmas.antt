@@ -3,6 +3,7 @@ use Rattle.std.proofs.Common.{◌≡◌, ◌↔◌, ℕ, ◌<◌, ◌≤◌, ◌
 use Rattle.std.proofs.Common.{Option, None, Some}
 use Rattle.ab_num.specs.declared.plan.ServiceName.{ServiceName}
 use Rattle.ab_num.specs.declared.plan.ServiceName.TheVariants.{Echo, Kv}
+use Rattle.ab_io.specs.States.{Change, SinkState}
 use Rattle.ab_svc.specs.Machines.{Machine}
 use Rattle.ab_text.specs.declared.fault.TextFault.{TextFault}
 use Rattle.ab_text.specs.declared.line.Premise.{Premise}
@@ -14,7 +15,7 @@ use Rattle.ab_command.specs.declared.status.Bound.TheVariants.{Bytes, Events, Pa
 use Rattle.ab_command.specs.declared.status.Status.{Status}
 use Rattle.ab_command.specs.declared.status.Status.TheVariants.{Done, Broken, Usage, Refused, ReadFault, WriteFault, LinkFault, Limit, TurnsSpent, OutOfMemory}
 use Rattle.ab_command.specs.Texts.{code_of, fault_status}
-use Rattle.ab_replay.specs.Streams.{IsAllOf, IsInput, IsTooLong}
+use Rattle.ab_replay.specs.Streams.{IsAllOf, IsInput, IsTooLong, most_bytes}
 use Rattle.ab_words.specs.declared.command.Command.{Command}
 use Rattle.ab_words.specs.declared.command.Command.TheVariants.{Replay, Keys, Storm, Node}
 use Rattle.ab_words.specs.Commands.{KeysCommand, NodeCommand, StormCommand}
@@ -32,7 +33,7 @@ use Rattle.ab_replay.specs.declared.running.ReplayFault.{ReplayFault}
 use Rattle.ab_replay.specs.declared.running.ReplayFault.TheVariants as replaying
 use Rattle.ab_storm.specs.Runs.{Storms}
 use Rattle.ab_command.specs.Endings.{HasInput, Says, SaysNoMemory, Settles, WritesOrSays}
-use Rattle.ab_command.specs.Outputs.{Output, Gets, GetsFront, HasFailed, IsKept}
+use Rattle.ab_command.specs.Outputs.{Gets, GetsFront, HasFailed, IsKept}
 use Rattle.ab_command.specs.Statuses.{StatusCause, HasFront, HasReport, HasSummary, IsToldWhole, Passes, kv, IsClear, IsClearForKeys, IsClearForStorm, premise_code}
 use Rattle.ab_command.proofs.Settled.{settled_as, written_or_said}
 
@@ -88,12 +89,12 @@ pub same_input : (left : Option (List ℕ)) (told text : List ℕ) → left ≡ 
 same_input left told text is input = sym (subst (λ l. IsAllOf l text) is input.all)
 
 -- it tells no more than a program reads
-pub not_too_long : (left : Option (List ℕ)) (told : List ℕ) → left ≡ Some told → length told ≤ 67108864 → IsTooLong left → ⊥
-not_too_long left told is short long = let above : 67108864 < length told = subst IsTooLong is long in omega (arith, above, short)
+pub not_too_long : (left : Option (List ℕ)) (told : List ℕ) → left ≡ Some told → length told ≤ most_bytes → IsTooLong left → ⊥
+not_too_long left told is short long = let above : most_bytes < length told = subst IsTooLong is long in omega (arith, above, short)
 
 module _ (one : (text : List ℕ) (r q : Result Script TextFault) → ReadsText text r → ReadsText text q → r ≡ q) (c : Call) (clear : IsClear c) where
-  same_text : (text : List ℕ) → IsInput c.left text → text ≡ clear.text
-  same_text text input = same_input c.left clear.text text clear.input input
+  same_text : (text : List ℕ) → IsInput c.met.input.before.left text → text ≡ clear.text
+  same_text text input = same_input c.met.input.before.left clear.text text clear.input input
 
   not_ended : (text : List ℕ) (s : Script) (n : ℕ) (f : WorldFault) → text ≡ clear.text → ReadsText text (Ok s) → Runs s (Err (n, f)) → ⊥
   not_ended text s n f same reads ends =
@@ -133,7 +134,7 @@ module _ (one : (text : List ℕ) (r q : Result Script TextFault) → ReadsText 
     | inr err ↦ absurd (clear.err err)
   ]
   clear_status LinkFault ((k, asks, why), said) = absurd (replay_or_node c.words k clear.words asks)
-  clear_status (Limit Bytes) (inl (words, long, kept), said) = absurd (not_too_long c.left clear.text clear.input clear.short long)
+  clear_status (Limit Bytes) (inl (words, long, kept), said) = absurd (not_too_long c.met.input.before.left clear.text clear.input clear.short long)
   clear_status (Limit Bytes) (inr (k, asks, why), said) = absurd (replay_or_node c.words k clear.words asks)
   clear_status (Limit Events) (words, (text, input, (s, reads, many)), kept, said) =
       absurd (let e : Ok s ≡ Ok clear.schedule = one clear.text (Ok s) (Ok clear.schedule) (subst (λ t. ReadsText t (Ok s)) (same_text text input) reads) clear.reads in
@@ -147,14 +148,14 @@ module _ (one : (text : List ℕ) (r q : Result Script TextFault) → ReadsText 
 
 -- where keys are asked for
 module _ (c : Call) (k : KeysCommand) (clear : IsClearForKeys c k) where
-  pub keys_status : (s : Status) → StatusCause s c → ((code_of s ≡ 0) × Gets c.out (key_text k)) ⊎ (code_of s ≡ 9)
+  pub keys_status : (s : Status) → StatusCause s c → ((code_of s ≡ 0) × Gets c.met.out (key_text k)) ⊎ (code_of s ≡ 9)
   keys_status Done (inl (words, report), kept) = absurd (replay_or_keys c.words k words clear.words)
   keys_status Done (inr (inr (inl (s, summary, asks, storms, written))), kept) = absurd (keys_or_storm c.words k s clear.words asks)
   keys_status Done (inr (inr (inr (n, asks, served))), kept) = absurd (keys_or_node c.words k n clear.words asks)
   keys_status Done (inr (inl (j, asks, written)), kept) =
       let e : ◌≡◌ {A = Option Command} (Some (Keys j)) (Some (Keys k)) = sym asks ∙ clear.words in
       let same : j ≡ k = cc in
-      inl (refl, subst (λ (x : KeysCommand). Gets c.out (key_text x)) same written)
+      inl (refl, subst (λ (x : KeysCommand). Gets c.met.out (key_text x)) same written)
   keys_status Broken (inl (words, report), kept) = absurd (replay_or_keys c.words k words clear.words)
   keys_status Broken (inr (s, summary, asks, storms, written), kept) = absurd (keys_or_storm c.words k s clear.words asks)
   keys_status Usage (none, kept, said) = absurd (not_none c.words (Keys k) clear.words none)
@@ -187,7 +188,7 @@ module _ (c : Call) (k : StormCommand) (clear : IsClearForStorm c k) where
         end = ours.end;
         runs = record { cluster = ours.cluster; sized = ours.sized; runs = ours.runs };
         code = is ∙ held_code held (premise_of ours.end) ours.says;
-        whole = subst (λ (text : List ℕ). Gets c.out text) ours.sums written;
+        whole = subst (λ (text : List ℕ). Gets c.met.out text) ours.sums written;
       })
 
   pub storm_status : (s : Status) → StatusCause s c → Told (code_of s)
@@ -215,36 +216,36 @@ module _ (c : Call) (k : StormCommand) (clear : IsClearForStorm c k) where
   storm_status (TurnsSpent m) ((n, asks, why), said) = absurd (storm_or_node c.words k n clear.words asks)
   storm_status OutOfMemory cause = inr (inr refl)
 
-written_whole : (c : Call) (held : Bool) → IsReplay c.words → HasReport held c → IsKept c.err → StatusCause (if held then Done else Broken) c
+written_whole : (c : Call) (held : Bool) → IsReplay c.words → HasReport held c → IsKept c.met.err → StatusCause (if held then Done else Broken) c
 written_whole c true words report kept = (inl (words, report), kept)
 written_whole c false words report kept = (inl (words, report), kept)
 
-summed_whole : (c : Call) (held : Bool) → HasSummary held c → IsKept c.err → StatusCause (if held then Done else Broken) c
+summed_whole : (c : Call) (held : Bool) → HasSummary held c → IsKept c.met.err → StatusCause (if held then Done else Broken) c
 summed_whole c true summary kept = (inr (inr (inl summary)), kept)
 summed_whole c false summary kept = (inr summary, kept)
 
 -- a text that was to be written has its cause
-text_told : (c : Call) (r s : Status) (text : List ℕ) → WritesOrSays r s text c.out c.err → (Gets c.out text → IsKept c.err → StatusCause s c) → (GetsFront c.out text → HasFront c) → StatusCause r c
+text_told : (c : Call) (r s : Status) (text : List ℕ) → WritesOrSays r s text c.met.out c.met.err → (Gets c.met.out text → IsKept c.met.err → StatusCause s c) → (GetsFront c.met.out text → HasFront c) → StatusCause r c
 text_told c r s text how whole front =
-    written_or_said (λ x. StatusCause x c) r s text c.out c.err how whole (λ part fails. (fails, front part)) (λ part says. (front part, says))
+    written_or_said (λ x. StatusCause x c) r s text c.met.out c.met.err how whole (λ part fails. (fails, front part)) (λ part says. (front part, says))
 
 -- a report that was to be written
-pub report_told : (c : Call) (r s : Status) (report : List ℕ) (held : Bool) → WritesOrSays r s report c.out c.err → s ≡ (if held then Done else Broken) → IsReplay c.words
-    → HasInput (λ text. Replays text report held) c.left → StatusCause r c
+pub report_told : (c : Call) (r s : Status) (report : List ℕ) (held : Bool) → WritesOrSays r s report c.met.out c.met.err → s ≡ (if held then Done else Broken) → IsReplay c.words
+    → HasInput (λ text. Replays text report held) c.met.input.before.left → StatusCause r c
 report_told c r s report held how is words input =
     text_told c r s report how
     (λ got kept. subst (λ (x : Status). StatusCause x c) (sym is) (written_whole c held words (report, input, got) kept))
     (λ part. inr (inl (report, held, input, part)))
 
 -- a key text
-pub keys_told : (c : Call) (k : KeysCommand) (r : Status) (text : List ℕ) → WritesOrSays r Done text c.out c.err → text ≡ key_text k → AsksKeys c.words k → StatusCause r c
+pub keys_told : (c : Call) (k : KeysCommand) (r : Status) (text : List ℕ) → WritesOrSays r Done text c.met.out c.met.err → text ≡ key_text k → AsksKeys c.words k → StatusCause r c
 keys_told c k r text how is asks =
     text_told c r Done text how
-    (λ got kept. (inr (inl (k, asks, subst (Gets c.out) is got)), kept))
-    (λ part. inr (inr (inl (k, asks, subst (GetsFront c.out) is part))))
+    (λ got kept. (inr (inl (k, asks, subst (Gets c.met.out) is got)), kept))
+    (λ part. inr (inr (inl (k, asks, subst (GetsFront c.met.out) is part))))
 
 -- a summary
-pub summary_told : (c : Call) (k : StormCommand) (r s : Status) (summary : List ℕ) (held : Bool) → WritesOrSays r s summary c.out c.err → s ≡ (if held then Done else Broken) → AsksStorm c.words k
+pub summary_told : (c : Call) (k : StormCommand) (r s : Status) (summary : List ℕ) (held : Bool) → WritesOrSays r s summary c.met.out c.met.err → s ≡ (if held then Done else Broken) → AsksStorm c.words k
     → Storms kv_machine kv k summary held → StatusCause r c
 summary_told c k r s summary held how is asks storms =
     text_told c r s summary how
@@ -252,10 +253,10 @@ summary_told c k r s summary held how is asks storms =
     (λ part. inr (inr (inr (inl (k, summary, held, asks, storms, part)))))
 
 -- a status that was to be said has its cause, where it has it once it is said
-pub settled : (c : Call) (r s : Status) → Settles r s c.err → (Says s c.err → StatusCause s c) → HasFront c → StatusCause r c
-settled c r s how make front = settled_as (λ x. StatusCause x c) r s c.err how make (λ rose. (inr rose, front)) (λ says. (front, says))
+pub settled : (c : Call) (r s : Status) → Settles r s c.met.err → (Says s c.met.err → StatusCause s c) → HasFront c → StatusCause r c
+settled c r s how make front = settled_as (λ x. StatusCause x c) r s c.met.err how make (λ rose. (inr rose, front)) (λ says. (front, says))
 
-fault_said : (c : Call) (fault : ReplayFault) → IsReplay c.words → ReplayCause fault c.left c.read_before c.read_now → IsKept c.out → Says (fault_status fault) c.err → StatusCause (fault_status fault) c
+fault_said : (c : Call) (fault : ReplayFault) → IsReplay c.words → ReplayCause fault c.met.input.before.left c.met.input.before.faults c.met.input.after.faults → IsKept c.met.out → Says (fault_status fault) c.met.err → StatusCause (fault_status fault) c
 fault_said c replaying.Read replay rose kept said = (inl (replay, rose, kept), said)
 fault_said c replaying.TooLong replay long kept said = (inl (replay, long, kept), said)
 fault_said c (replaying.Refused r) replay refused kept said = (inl (replay, refused, kept), said)
@@ -264,12 +265,12 @@ fault_said c replaying.TooManyPackets replay many kept said = (inl (replay, many
 fault_said c replaying.OutOfMemory replay cause kept said = (inl kept, inl said)
 
 -- why a schedule isn't replayed
-pub replay_settled : (c : Call) (r : Status) (fault : ReplayFault) → Settles r (fault_status fault) c.err → IsReplay c.words
-    → ReplayCause fault c.left c.read_before c.read_now → IsKept c.out → StatusCause r c
+pub replay_settled : (c : Call) (r : Status) (fault : ReplayFault) → Settles r (fault_status fault) c.met.err → IsReplay c.words
+    → ReplayCause fault c.met.input.before.left c.met.input.before.faults c.met.input.after.faults → IsKept c.met.out → StatusCause r c
 replay_settled c r fault how replay cause kept = settled c r (fault_status fault) how (fault_said c fault replay cause kept) (inl kept)
 
 -- an allocation failed before the command began
-pub refused_memory : (r : Status) (err : Output) → Settles r OutOfMemory err → ((code_of r ≡ 9) × SaysNoMemory err) ⊎ ((code_of r ≡ 5) × HasFailed err)
+pub refused_memory : (r : Status) (err : Change SinkState) → Settles r OutOfMemory err → ((code_of r ≡ 9) × SaysNoMemory err) ⊎ ((code_of r ≡ 5) × HasFailed err)
 refused_memory r err (inl (e, said)) = inl (ap code_of e, inl said)
 refused_memory r err (inr (inl (e, rose))) = inr (ap code_of e, rose)
 refused_memory r err (inr (inr (e, says))) = inl (ap code_of e, says)

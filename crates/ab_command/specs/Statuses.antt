@@ -11,7 +11,7 @@ use Rattle.ab_loop.specs.Nodes.{is_client}
 use Rattle.ab_node.specs.declared.stop.Stop.{Stop}
 use Rattle.ab_node.specs.declared.stop.Stop.TheVariants as stop
 use Rattle.ab_node.specs.Nodes.{IsServed, StopCause}
-use Rattle.ab_replay.specs.Streams.{IsTooLong}
+use Rattle.ab_replay.specs.Streams.{IsTooLong, most_bytes}
 use Rattle.ab_text.specs.Heads.{Script}
 use Rattle.ab_text.specs.Lines.{lines_of}
 use Rattle.ab_text.specs.Schedules.{ReadsText}
@@ -24,7 +24,7 @@ use Rattle.ab_words.specs.Commands.{KeysCommand, NodeCommand, StormCommand}
 use Rattle.ab_abs.specs.Ensembles.{Proto}
 use Rattle.ab_kv.specs.KvMachines.{kv_machine}
 use Rattle.ab_replay.specs.Protocols.{Any, any}
-use Rattle.ab_command.specs.Calls.{Call, meeting_of}
+use Rattle.ab_command.specs.Calls.{Call, call_of}
 use Rattle.ab_command.specs.Commands.{AsksKeys, AsksNode, AsksStorm, IsNoCommand, IsReplay, key_text}
 use Rattle.ab_command.specs.Endings.{HasInput, FailsToWrite, Says, SaysNoMemory}
 use Rattle.ab_command.specs.Outputs.{Gets, GetsFront, HasFailed, IsKept}
@@ -34,15 +34,15 @@ use Rattle.ab_storm.specs.Summaries.{summary_of}
 
 -- out got the report of the run that the input spells, and nothing else. Its premise line says `held` or `broken`
 abbrev pub HasReport : Bool → Call → Type 0
-HasReport held c = (report : List ℕ) × HasInput (λ text. Replays text report held) c.left × Gets c.out report
+HasReport held c = (report : List ℕ) × HasInput (λ text. Replays text report held) c.met.input.before.left × Gets c.met.out report
 
 -- out got the key text that the words ask for, and nothing else
 abbrev pub HasKeys : Call → Type 0
-HasKeys c = (k : KeysCommand) × AsksKeys c.words k × Gets c.out (key_text k)
+HasKeys c = (k : KeysCommand) × AsksKeys c.words k × Gets c.met.out (key_text k)
 
 -- out got a front of it
 abbrev pub HasKeysFront : Call → Type 0
-HasKeysFront c = (k : KeysCommand) × AsksKeys c.words k × GetsFront c.out (key_text k)
+HasKeysFront c = (k : KeysCommand) × AsksKeys c.words k × GetsFront c.met.out (key_text k)
 
 -- the protocol of a storm's replicas, over the store of keys and values
 abbrev pub kv : Proto Any
@@ -50,11 +50,12 @@ kv = any kv_machine
 
 -- out got the summary of the storm that the words ask for, and nothing else. Its premise line says `held` or `broken`
 abbrev pub HasSummary : Bool → Call → Type 0
-HasSummary held c = (k : StormCommand) × (summary : List ℕ) × AsksStorm c.words k × Storms kv_machine kv k summary held × Gets c.out summary
+HasSummary held c = (k : StormCommand) × (summary : List ℕ) × AsksStorm c.words k × Storms kv_machine kv k summary held × Gets c.met.out summary
 
 -- out got a front of it
 abbrev pub HasSummaryFront : Call → Type 0
-HasSummaryFront c = (k : StormCommand) × (summary : List ℕ) × (held : Bool) × AsksStorm c.words k × Storms kv_machine kv k summary held × GetsFront c.out summary
+HasSummaryFront c =
+    (k : StormCommand) × (summary : List ℕ) × (held : Bool) × AsksStorm c.words k × Storms kv_machine kv k summary held × GetsFront c.met.out summary
 
 -- the packets of an event of this storm would have more bytes than a world keeps
 abbrev pub Passes : StormCommand → Type 0
@@ -67,33 +68,38 @@ StormPasses c = (k : StormCommand) × AsksStorm c.words k × Passes k
 -- the words ask for a node, the input sets up a party, and it was served to the end: its turns, its text and its datagrams are
 -- those of its core
 abbrev pub ServesNode : Call → Type 0
-ServesNode c = (k : NodeCommand) × AsksNode c.words k × HasInput (λ text. (served : Served) × IsServed text (meeting_of k c) served) c.left
+ServesNode c = (k : NodeCommand) × AsksNode c.words k × HasInput (λ text. (served : Served) × IsServed text (call_of k c) served) c.met.input.before.left
 
 -- the words ask for a node, and it stopped for this: what was written and sent until then is a front of what its core says
 abbrev pub StopsNode : Stop → Call → Type 0
-StopsNode why c = (k : NodeCommand) × AsksNode c.words k × StopCause why c.left c.read_before c.read_now (meeting_of k c)
+StopsNode why c = (k : NodeCommand) × AsksNode c.words k × StopCause why c.met.input (call_of k c)
 
 -- out got a front of the report, of the key text, of the summary or of a node's lines, or nothing
 abbrev pub HasFront : Call → Type 0
 HasFront c =
-    IsKept c.out
-    ⊎ (((report : List ℕ) × (held : Bool) × HasInput (λ text. Replays text report held) c.left × GetsFront c.out report)
+    IsKept c.met.out
+    ⊎ (((report : List ℕ) × (held : Bool) × HasInput (λ text. Replays text report held) c.met.input.before.left × GetsFront c.met.out report)
     ⊎ (HasKeysFront c ⊎ (HasSummaryFront c ⊎ ((why : Stop) × StopsNode why c))))
 
 -- when each status comes, and what it leaves on out and err
 abbrev pub StatusCause : Status → Call → Type 0
-StatusCause Done c = ((IsReplay c.words × HasReport true c) ⊎ (HasKeys c ⊎ (HasSummary true c ⊎ ServesNode c))) × IsKept c.err
-StatusCause Broken c = ((IsReplay c.words × HasReport false c) ⊎ HasSummary false c) × IsKept c.err
-StatusCause Usage c = IsNoCommand c.words × IsKept c.out × Says Usage c.err
-StatusCause (Refused r) c = ((IsReplay c.words × HasInput (λ text. IsRefused text r) c.left × IsKept c.out) ⊎ StopsNode (stop.Refused r) c) × Says (Refused r) c.err
-StatusCause ReadFault c = ((IsReplay c.words × Rose c.read_before c.read_now × IsKept c.out) ⊎ StopsNode stop.Read c) × Says ReadFault c.err
-StatusCause WriteFault c = FailsToWrite c.out c.err × HasFront c
-StatusCause LinkFault c = StopsNode (stop.Serving serving.LinkFailed) c × Says LinkFault c.err
-StatusCause (Limit Bytes) c = ((IsReplay c.words × IsTooLong c.left × IsKept c.out) ⊎ StopsNode stop.TooLong c) × Says (Limit Bytes) c.err
-StatusCause (Limit Packets) c = ((IsReplay c.words × HasInput HasTooManyBytes c.left) ⊎ StormPasses c) × IsKept c.out × Says (Limit Packets) c.err
-StatusCause (Limit Events) c = IsReplay c.words × HasInput HasTooManyEvents c.left × IsKept c.out × Says (Limit Events) c.err
-StatusCause (TurnsSpent n) c = StopsNode (stop.Serving (serving.TurnsSpent n)) c × Says (TurnsSpent n) c.err
-StatusCause OutOfMemory c = HasFront c × SaysNoMemory c.err
+StatusCause Done c = ((IsReplay c.words × HasReport true c) ⊎ (HasKeys c ⊎ (HasSummary true c ⊎ ServesNode c))) × IsKept c.met.err
+StatusCause Broken c = ((IsReplay c.words × HasReport false c) ⊎ HasSummary false c) × IsKept c.met.err
+StatusCause Usage c = IsNoCommand c.words × IsKept c.met.out × Says Usage c.met.err
+StatusCause (Refused r) c =
+    ((IsReplay c.words × HasInput (λ text. IsRefused text r) c.met.input.before.left × IsKept c.met.out) ⊎ StopsNode (stop.Refused r) c)
+    × Says (Refused r) c.met.err
+StatusCause ReadFault c =
+    ((IsReplay c.words × Rose c.met.input.before.faults c.met.input.after.faults × IsKept c.met.out) ⊎ StopsNode stop.Read c) × Says ReadFault c.met.err
+StatusCause WriteFault c = FailsToWrite c.met.out c.met.err × HasFront c
+StatusCause LinkFault c = StopsNode (stop.Serving serving.LinkFailed) c × Says LinkFault c.met.err
+StatusCause (Limit Bytes) c =
+    ((IsReplay c.words × IsTooLong c.met.input.before.left × IsKept c.met.out) ⊎ StopsNode stop.TooLong c) × Says (Limit Bytes) c.met.err
+StatusCause (Limit Packets) c =
+    ((IsReplay c.words × HasInput HasTooManyBytes c.met.input.before.left) ⊎ StormPasses c) × IsKept c.met.out × Says (Limit Packets) c.met.err
+StatusCause (Limit Events) c = IsReplay c.words × HasInput HasTooManyEvents c.met.input.before.left × IsKept c.met.out × Says (Limit Events) c.met.err
+StatusCause (TurnsSpent n) c = StopsNode (stop.Serving (serving.TurnsSpent n)) c × Says (TurnsSpent n) c.met.err
+StatusCause OutOfMemory c = HasFront c × SaysNoMemory c.met.err
 
 -- nothing stands in the way of a call: the input tells that it is a schedule within the limits, of which no event is refused,
 -- and no object has counted a fault
@@ -102,14 +108,14 @@ pub record IsClear (c : Call) : Type 0 where
   pub text : List ℕ
   pub schedule : Script
   pub end : World Any
-  pub input : c.left ≡ Some text
-  pub short : length text ≤ 67108864
+  pub input : c.met.input.before.left ≡ Some text
+  pub short : length text ≤ most_bytes
   pub reads : ReadsText text (Ok schedule)
   pub few : length schedule.events ≤ 100000
   pub runs : Runs schedule (Ok end)
-  pub read : Rose c.read_before c.read_now → ⊥
-  pub out : HasFailed c.out → ⊥
-  pub err : HasFailed c.err → ⊥
+  pub read : Rose c.met.input.before.faults c.met.input.after.faults → ⊥
+  pub out : HasFailed c.met.out → ⊥
+  pub err : HasFailed c.met.err → ⊥
 
 -- 0 where the premise line says `held`, 1 where it says `broken`
 abbrev pub premise_code : Premise → ℕ
@@ -119,34 +125,34 @@ premise_code (premise.Broken e breach p) = 1
 -- the words ask for keys, and neither out nor err has counted a fault
 pub record IsClearForKeys (c : Call) (k : KeysCommand) : Type 0 where
   pub words : AsksKeys c.words k
-  pub out : HasFailed c.out → ⊥
-  pub err : HasFailed c.err → ⊥
+  pub out : HasFailed c.met.out → ⊥
+  pub err : HasFailed c.met.err → ⊥
 
 -- the words ask for a storm, and neither out nor err has counted a fault
 pub record IsClearForStorm (c : Call) (k : StormCommand) : Type 0 where
   pub words : AsksStorm c.words k
-  pub out : HasFailed c.out → ⊥
-  pub err : HasFailed c.err → ⊥
+  pub out : HasFailed c.met.out → ⊥
+  pub err : HasFailed c.met.err → ⊥
 
 -- out got the summary of this storm, and nothing else, and the number is that of its premise line
 pub record IsToldWhole (n : ℕ) (k : StormCommand) (c : Call) : Type 0 where
   pub end : World Any
   pub runs : StormsTo kv k (Ok end)
   pub code : n ≡ premise_code (premise_of end)
-  pub whole : Gets c.out (summary_of end)
+  pub whole : Gets c.met.out (summary_of end)
 
 -- the words ask for a node, the input tells that it sets up a party, and no object has counted a fault. Datagrams may be lost
 pub record IsClearForNode (c : Call) (k : NodeCommand) : Type 0 where
   pub words : AsksNode c.words k
   pub text : List ℕ
   pub node : NodeText
-  pub input : c.left ≡ Some text
-  pub short : length text ≤ 67108864
+  pub input : c.met.input.before.left ≡ Some text
+  pub short : length text ≤ most_bytes
   pub reads : node_in (lines_of text) ≡ Ok node
-  pub read : Rose c.read_before c.read_now → ⊥
-  pub out : HasFailed c.out → ⊥
-  pub err : HasFailed c.err → ⊥
-  pub link : Rose c.network.link_before c.network.link_now → ⊥
+  pub read : Rose c.met.input.before.faults c.met.input.after.faults → ⊥
+  pub out : HasFailed c.met.out → ⊥
+  pub err : HasFailed c.met.err → ⊥
+  pub link : Rose c.met.link.before.faults c.met.link.after.faults → ⊥
 
 -- the party was served to the end; or it is a client whose turns were used before its commands were answered; or an allocation
 -- failed
@@ -165,6 +171,6 @@ pub record HasCauseOf (n : ℕ) (c : Call) : Type 0 where
   pub code : n ≡ code_of status
   pub cause : StatusCause status c
   pub complete : (clear : IsClear c) → (n ≡ premise_code (premise_of clear.end)) ⊎ (n ≡ 9)
-  pub keys : (k : KeysCommand) → IsClearForKeys c k → ((n ≡ 0) × Gets c.out (key_text k)) ⊎ (n ≡ 9)
+  pub keys : (k : KeysCommand) → IsClearForKeys c k → ((n ≡ 0) × Gets c.met.out (key_text k)) ⊎ (n ≡ 9)
   pub storm : (k : StormCommand) → IsClearForStorm c k → IsToldWhole n k c ⊎ ((Passes k × (n ≡ 7)) ⊎ (n ≡ 9))
   pub node : (k : NodeCommand) → (clear : IsClearForNode c k) → IsServedOut n clear.node c

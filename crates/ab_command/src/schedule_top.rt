@@ -3,7 +3,7 @@
 ghost use Rattle.std.specs.Prelude.{◌≡◌, ◌≤◌, ◌∷◌, List, ℕ, IfOk, IfSome, None, codes, map};
 ghost use Rattle.ab_words.specs.Uses.{texts};
 ghost use Rattle.ab_words.specs.Commands.{StormCommand as TheStorm};
-ghost use Rattle.ab_command.specs.Outputs.{output};
+ghost use Rattle.ab_io.specs.States.{change};
 ghost use Rattle.ab_command.specs.ScheduleEndings.{Asks, ScheduleCause};
 
 use crate::saying::{say, say_no_memory, say_usage, write_or_say};
@@ -52,11 +52,8 @@ fn serve_storm<O: Sink, E: Sink>(
     err: &mut E,
 ) -> Status
     requires few { asked.now.events ≤ 100000 }
-    ensures cause { (options : List (List ℕ)) → Asks options asked.now → ScheduleCause result (record {
-      options = options;
-      out = output (O.contents out.old) (O.contents out.new) (O.faults out.old) (O.faults out.new);
-      err = output (E.contents err.old) (E.contents err.new) (E.faults err.old) (E.faults err.new);
-    }) }
+    ensures cause { (options : List (List ℕ)) → Asks options asked.now
+        → ScheduleCause result options (change (O.state out.old) (O.state out.new)) (change (E.state err.old) (E.state err.new)) }
 {
     let text = match storm_text(alloc, asked) {
         Ok(text) => text,
@@ -71,11 +68,8 @@ fn serve_storm<O: Sink, E: Sink>(
 /// Writes to `out` the schedule of the storm for which the options ask, which are those of the command `storm`, and tells how
 /// it ended. What went wrong is said on `err`.
 pub fn serve<O: Sink, E: Sink>(alloc: Global, options: &[&str], out: &mut O, err: &mut E) -> Status
-    ensures cause { ScheduleCause result (record {
-      options = map (λ w. w.now) options.now;
-      out = output (O.contents out.old) (O.contents out.new) (O.faults out.old) (O.faults out.new);
-      err = output (E.contents err.old) (E.contents err.new) (E.faults err.old) (E.faults err.new);
-    }) }
+    ensures cause { ScheduleCause result (map (λ w. w.now) options.now)
+        (change (O.state out.old) (O.state out.new)) (change (E.state err.old) (E.state err.new)) }
 {
     match storm_in(alloc, options) {
         Ok(Some(asked)) => serve_storm(alloc, &asked, out, err),

@@ -2,11 +2,11 @@
 
 ghost use Rattle.std.specs.Prelude.{◌≡◌, ◌≤◌, ◌⊎◌, ℕ, List, Option, if◌then◌else◌, map};
 ghost use Rattle.ab_io.specs.Causes.{Rose};
+ghost use Rattle.ab_io.specs.States.{Change, ClockState, LinkState, SourceState, change, outside};
 ghost use Rattle.ab_command.specs.Texts.{status_of, stop_status};
-ghost use Rattle.ab_command.specs.Calls.{Network};
+ghost use Rattle.ab_command.specs.Calls.{call};
 ghost use Rattle.ab_command.specs.Commands.{AsksKeys, AsksNode, AsksStorm, IsNode, IsReplay, TakesInput};
 ghost use Rattle.ab_command.specs.Endings.{SaysNoMemory, Settles};
-ghost use Rattle.ab_command.specs.Outputs.{output};
 ghost use Rattle.ab_command.specs.Statuses.{StatusCause, HasCauseOf};
 
 use crate::keys::key_text;
@@ -38,15 +38,9 @@ fn serve_replay<I: Source, O: Sink, E: Sink>(
     out: &mut O,
     err: &mut E,
 ) -> Status
-    ensures cause { (words : List (List ℕ)) (network : Network) → IsReplay words → StatusCause result (record {
-      words = words;
-      left = I.left input.old;
-      read_before = I.faults input.old;
-      read_now = I.faults input.new;
-      out = output (O.contents out.old) (O.contents out.new) (O.faults out.old) (O.faults out.new);
-      err = output (E.contents err.old) (E.contents err.new) (E.faults err.old) (E.faults err.new);
-      network = network;
-    }) }
+    ensures cause { (words : List (List ℕ)) (link : Change LinkState) (clock : Change ClockState) → IsReplay words
+        → StatusCause result (call words (outside (change (I.state input.old) (I.state input.new))
+        (change (O.state out.old) (O.state out.new)) (change (E.state err.old) (E.state err.new)) link clock)) }
 {
     let replayed = match replay(alloc, input) {
         Ok(replayed) => replayed,
@@ -63,15 +57,9 @@ fn serve_keys<O: Sink, E: Sink>(
     out: &mut O,
     err: &mut E,
 ) -> Status
-    ensures cause { (words : List (List ℕ)) (left : Option (List ℕ)) (read_before read_now : ℕ) (network : Network) → AsksKeys words asked.now → StatusCause result (record {
-      words = words;
-      left = left;
-      read_before = read_before;
-      read_now = read_now;
-      out = output (O.contents out.old) (O.contents out.new) (O.faults out.old) (O.faults out.new);
-      err = output (E.contents err.old) (E.contents err.new) (E.faults err.old) (E.faults err.new);
-      network = network;
-    }) }
+    ensures cause { (words : List (List ℕ)) (input : Change SourceState) (link : Change LinkState) (clock : Change ClockState) → AsksKeys words asked.now
+        → StatusCause result (call words (outside input
+        (change (O.state out.old) (O.state out.new)) (change (E.state err.old) (E.state err.new)) link clock)) }
 {
     let Ok(text) = key_text(alloc, asked) else {
         return say_no_memory(err);
@@ -87,15 +75,9 @@ fn serve_storm<O: Sink, E: Sink>(
     err: &mut E,
 ) -> Status
     requires few { asked.now.events ≤ 100000 }
-    ensures cause { (words : List (List ℕ)) (left : Option (List ℕ)) (read_before read_now : ℕ) (network : Network) → AsksStorm words asked.now → StatusCause result (record {
-      words = words;
-      left = left;
-      read_before = read_before;
-      read_now = read_now;
-      out = output (O.contents out.old) (O.contents out.new) (O.faults out.old) (O.faults out.new);
-      err = output (E.contents err.old) (E.contents err.new) (E.faults err.old) (E.faults err.new);
-      network = network;
-    }) }
+    ensures cause { (words : List (List ℕ)) (input : Change SourceState) (link : Change LinkState) (clock : Change ClockState) → AsksStorm words asked.now
+        → StatusCause result (call words (outside input
+        (change (O.state out.old) (O.state out.new)) (change (E.state err.old) (E.state err.new)) link clock)) }
 {
     let stormed = match run_storm::<Kv, AnyProtocol<Kv>>(alloc, asked) {
         Ok(stormed) => stormed,
@@ -110,8 +92,8 @@ fn serve_storm<O: Sink, E: Sink>(
 
 /// Says why a node stopped that was served.
 fn say_fault<E: Sink>(alloc: Global, err: &mut E, fault: ServeFault) -> Status
-    ensures status { Settles result (status_of fault) (output (E.contents err.old) (E.contents err.new) (E.faults err.old) (E.faults err.new)) }
-    ensures later { E.faults err.old ≤ E.faults err.new }
+    ensures status { Settles result (status_of fault) (change (E.state err.old) (E.state err.new)) }
+    ensures later { (E.state err.old).faults ≤ (E.state err.new).faults }
 {
     match fault {
         ServeFault::LinkFailed => say(err, "link fault\n", Status::LinkFault),
@@ -126,8 +108,8 @@ fn say_fault<E: Sink>(alloc: Global, err: &mut E, fault: ServeFault) -> Status
 
 /// Says why a node stopped.
 fn say_stop<E: Sink>(alloc: Global, err: &mut E, stop: Stop) -> Status
-    ensures status { Settles result (stop_status stop) (output (E.contents err.old) (E.contents err.new) (E.faults err.old) (E.faults err.new)) }
-    ensures later { E.faults err.old ≤ E.faults err.new }
+    ensures status { Settles result (stop_status stop) (change (E.state err.old) (E.state err.new)) }
+    ensures later { (E.state err.old).faults ≤ (E.state err.new).faults }
 {
     match stop {
         Stop::Read => say(err, "read fault\n", Status::ReadFault),
@@ -148,24 +130,10 @@ fn serve_node<I: Source, O: Sink, E: Sink, L: Link, C: Clock>(
     link: &mut L,
     clock: &mut C,
 ) -> Status
-    ensures cause { (words : List (List ℕ)) → AsksNode words asked.now → StatusCause result (record {
-      words = words;
-      left = I.left input.old;
-      read_before = I.faults input.old;
-      read_now = I.faults input.new;
-      out = output (O.contents out.old) (O.contents out.new) (O.faults out.old) (O.faults out.new);
-      err = output (E.contents err.old) (E.contents err.new) (E.faults err.old) (E.faults err.new);
-      network = record {
-        clock = C.readings clock.old;
-        to_come = L.to_come link.old;
-        sent_old = L.sent link.old;
-        sent_new = L.sent link.new;
-        link_before = L.faults link.old;
-        link_now = L.faults link.new;
-        losses_before = L.losses link.old;
-        losses_now = L.losses link.new;
-      };
-    }) }
+    ensures cause { (words : List (List ℕ)) → AsksNode words asked.now
+        → StatusCause result (call words (outside (change (I.state input.old) (I.state input.new))
+        (change (O.state out.old) (O.state out.new)) (change (E.state err.old) (E.state err.new))
+        (change (L.state link.old) (L.state link.new)) (change (C.state clock.old) (C.state clock.new)))) }
 {
     match serve_text(alloc, asked, input, link, clock, out) {
         Ok(_) => Status::Done,
@@ -183,24 +151,9 @@ fn serve<I: Source, O: Sink, E: Sink, L: Link, C: Clock>(
     link: &mut L,
     clock: &mut C,
 ) -> Status
-    ensures cause { StatusCause result (record {
-      words = map (λ w. w.now) words.now;
-      left = I.left input.old;
-      read_before = I.faults input.old;
-      read_now = I.faults input.new;
-      out = output (O.contents out.old) (O.contents out.new) (O.faults out.old) (O.faults out.new);
-      err = output (E.contents err.old) (E.contents err.new) (E.faults err.old) (E.faults err.new);
-      network = record {
-        clock = C.readings clock.old;
-        to_come = L.to_come link.old;
-        sent_old = L.sent link.old;
-        sent_new = L.sent link.new;
-        link_before = L.faults link.old;
-        link_now = L.faults link.new;
-        losses_before = L.losses link.old;
-        losses_now = L.losses link.new;
-      };
-    }) }
+    ensures cause { StatusCause result (call (map (λ w. w.now) words.now) (outside (change (I.state input.old) (I.state input.new))
+        (change (O.state out.old) (O.state out.new)) (change (E.state err.old) (E.state err.new))
+        (change (L.state link.old) (L.state link.new)) (change (C.state clock.old) (C.state clock.new)))) }
     ensures untouched { (TakesInput (map (λ w. w.now) words.now) → ⊥) → input.new ≡ input.old }
     ensures link { (IsNode (map (λ w. w.now) words.now) → ⊥) → link.new ≡ link.old }
     ensures clock { (IsNode (map (λ w. w.now) words.now) → ⊥) → clock.new ≡ clock.old }
@@ -248,24 +201,9 @@ pub fn run<I: Source, O: Sink, E: Sink, L: Link, C: Clock>(
     link: &mut L,
     clock: &mut C,
 ) -> u8
-    ensures cause { HasCauseOf result (record {
-      words = map (λ w. w.now) words.now;
-      left = I.left input.old;
-      read_before = I.faults input.old;
-      read_now = I.faults input.new;
-      out = output (O.contents out.old) (O.contents out.new) (O.faults out.old) (O.faults out.new);
-      err = output (E.contents err.old) (E.contents err.new) (E.faults err.old) (E.faults err.new);
-      network = record {
-        clock = C.readings clock.old;
-        to_come = L.to_come link.old;
-        sent_old = L.sent link.old;
-        sent_new = L.sent link.new;
-        link_before = L.faults link.old;
-        link_now = L.faults link.new;
-        losses_before = L.losses link.old;
-        losses_now = L.losses link.new;
-      };
-    }) }
+    ensures cause { HasCauseOf result (call (map (λ w. w.now) words.now) (outside (change (I.state input.old) (I.state input.new))
+        (change (O.state out.old) (O.state out.new)) (change (E.state err.old) (E.state err.new))
+        (change (L.state link.old) (L.state link.new)) (change (C.state clock.old) (C.state clock.new)))) }
     ensures untouched { (TakesInput (map (λ w. w.now) words.now) → ⊥) → input.new ≡ input.old }
     ensures link { (IsNode (map (λ w. w.now) words.now) → ⊥) → link.new ≡ link.old }
     ensures clock { (IsNode (map (λ w. w.now) words.now) → ⊥) → clock.new ≡ clock.old }
@@ -277,7 +215,8 @@ pub fn run<I: Source, O: Sink, E: Sink, L: Link, C: Clock>(
 
 /// Says that an allocation failed before the command began, and returns the number of the status.
 pub fn refuse_memory<E: Sink>(err: &mut E) -> u8
-    ensures { ((result ≡ 9) × SaysNoMemory (output (E.contents err.old) (E.contents err.new) (E.faults err.old) (E.faults err.new))) ⊎ ((result ≡ 5) × Rose (E.faults err.old) (E.faults err.new)) }
+    ensures { ((result ≡ 9) × SaysNoMemory (change (E.state err.old) (E.state err.new)))
+        ⊎ ((result ≡ 5) × Rose (E.state err.old).faults (E.state err.new).faults) }
 {
     say_no_memory(err).code()
 }

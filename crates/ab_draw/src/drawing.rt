@@ -164,9 +164,9 @@ fn draw_text(alloc: Global, text: &[u8]) -> Result<Vec<u8>, ReplayFault>
 
 /// The text of the picture of the run that an input spells.
 pub fn draw<I: Source>(alloc: Global, input: &mut I) -> Result<Vec<u8>, ReplayFault>
-    ensures ok { IfOk result (λ v. (text : List ℕ) × IsInput (I.left input.old) text × Draws text v.items) }
-    ensures later { I.faults input.old ≤ I.faults input.new }
-    ensures cause { IfErr result (λ e. ReplayCause e (I.left input.old) (I.faults input.old) (I.faults input.new)) }
+    ensures ok { IfOk result (λ v. (text : List ℕ) × IsInput (I.state input.old).left text × Draws text v.items) }
+    ensures later { (I.state input.old).faults ≤ (I.state input.new).faults }
+    ensures cause { IfErr result (λ e. ReplayCause e (I.state input.old).left (I.state input.old).faults (I.state input.new).faults) }
 {
     match read_all(alloc, input) {
         Err(ReadFault::Failed) => Err(ReplayFault::Read),

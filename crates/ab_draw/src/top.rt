@@ -1,7 +1,7 @@
 //! What the program does.
 
 ghost use Rattle.std.specs.Prelude.{◌≡◌, IsTrue};
-ghost use Rattle.ab_command.specs.Outputs.{output};
+ghost use Rattle.ab_io.specs.States.{change};
 ghost use Rattle.ab_draw.specs.Endings.{DrawCause};
 
 use crate::drawing::draw;
@@ -19,14 +19,8 @@ pub fn serve<I: Source, O: Sink, E: Sink>(
     out: &mut O,
     err: &mut E,
 ) -> Status
-    ensures cause { DrawCause result (record {
-      words = is_called_with_words;
-      left = I.left input.old;
-      read_before = I.faults input.old;
-      read_now = I.faults input.new;
-      out = output (O.contents out.old) (O.contents out.new) (O.faults out.old) (O.faults out.new);
-      err = output (E.contents err.old) (E.contents err.new) (E.faults err.old) (E.faults err.new);
-    }) }
+    ensures cause { DrawCause result is_called_with_words (change (I.state input.old) (I.state input.new))
+        (change (O.state out.old) (O.state out.new)) (change (E.state err.old) (E.state err.new)) }
     ensures untouched { IsTrue is_called_with_words → input.new ≡ input.old }
 {
     if is_called_with_words {

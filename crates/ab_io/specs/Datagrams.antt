@@ -5,9 +5,17 @@ use Rattle.std.specs.Option.{option_map}
 use Rattle.ab_io.specs.declared.link.Got.{Got}
 use Rattle.ab_io.specs.declared.link.Got.TheVariants.{Bytes, Quiet, Failed}
 
--- what is given of a datagram: at most its first 8,209 bytes
+-- how many bytes of a datagram are given at most
+abbrev pub longest_datagram : ℕ
+longest_datagram = 8209
+
+-- a datagram that is sent: its port, and its bytes
+abbrev pub Datagram : Type 0
+Datagram = ℕ × List ℕ
+
+-- what is given of a datagram
 unfoldable pub given_of : List ℕ → List ℕ
-given_of datagram = take 8209 datagram
+given_of datagram = take longest_datagram datagram
 
 -- at most so many bytes are given
 abbrev pub FitsIn : ℕ → Got → Type 0
@@ -29,5 +37,5 @@ left_after Quiet known = known
 left_after Failed known = known
 
 -- what was sent, and then this
-abbrev pub with_sent : Option (List (ℕ × List ℕ)) → ℕ → List ℕ → Option (List (ℕ × List ℕ))
+abbrev pub with_sent : Option (List Datagram) → ℕ → List ℕ → Option (List Datagram)
 with_sent known port bytes = option_map (λ sent. sent ++ (port, bytes) ∷ []) known

@@ -2,4 +2,5 @@
 pub mod Causes
 pub mod Datagrams
 pub mod Readings
+pub mod States
 pub mod Told

@@ -1,9 +1,8 @@
 //! Datagrams that come and go.
 
-ghost use Rattle.std.specs.Prelude.{◌≡◌, ◌≤◌, ℕ, List, length, OnOk, OnErr, IfSome};
-ghost use Rattle.std.specs.declared.option.Option.{Option};
-ghost use Rattle.ab_io.specs.Causes.{HasCause, HasGotCause, HasRefusalCause};
-ghost use Rattle.ab_io.specs.Datagrams.{FitsIn, Gives, left_after, with_sent};
+ghost use Rattle.std.specs.Prelude.{◌≤◌, length};
+ghost use Rattle.ab_io.specs.Datagrams.{FitsIn, longest_datagram};
+ghost use Rattle.ab_io.specs.States.{LinkState, Opens, Receives, Sends};
 
 use crate::fault::{Failed, Refused};
 
@@ -24,42 +23,23 @@ pub enum Got {
 
 /// Datagrams from and to the ports of this machine.
 pub trait Link {
-    /// The datagrams that are to come, where they are told.
-    ghost to_come: { Self → Option (List (List ℕ)) };
-
-    /// The datagrams that were sent with their ports, where they are told.
-    ghost sent: { Self → Option (List (ℕ × List ℕ)) };
-
-    /// How often `open` and `recv` have failed.
-    ghost faults: { Self → ℕ };
-
-    /// How often `send` has failed.
-    ghost losses: { Self → ℕ };
+    /// The datagrams that are to come and those that were sent, where they are told, how often `open`
+    /// and `recv` have failed, and how often `send` has.
+    ghost state: { Self → LinkState };
 
     /// Opens the port at which datagrams come.
     fn open(&mut self, port: u16) -> Result<(), Failed>
-        ensures to_come { to_come self.new ≡ to_come self.old }
-        ensures sent { sent self.new ≡ sent self.old }
-        ensures cause { HasCause (faults self.old) (faults self.new) result }
-        ensures losses { losses self.new ≡ losses self.old };
+        ensures { Opens (state self.old) (state self.new) result };
 
     /// Waits for a datagram for at most so many milliseconds, and puts it at the front of the
     /// buffer. Of a datagram of more than 8,209 bytes the first 8,209 are given.
     fn recv(&mut self, buf: &mut [u8], wait_ms: u32) -> Got
-        requires { 8209 ≤ length buf.old }
-        ensures bound { FitsIn 8209 result }
-        ensures gives { IfSome (to_come self.old) (λ datagrams. Gives datagrams result buf.new) }
-        ensures to_come { to_come self.new ≡ left_after result (to_come self.old) }
-        ensures sent { sent self.new ≡ sent self.old }
-        ensures cause { HasGotCause (faults self.old) (faults self.new) result }
-        ensures losses { losses self.new ≡ losses self.old };
+        requires { longest_datagram ≤ length buf.old }
+        ensures bound { FitsIn longest_datagram result }
+        ensures receives { Receives (state self.old) (state self.new) result buf.new };
 
     /// Sends a datagram to a port. After `Failed` it is lost, after `OutOfMemory` nothing has
     /// changed.
     fn send(&mut self, port: u16, bytes: &[u8]) -> Result<(), Refused>
-        ensures to_come { to_come self.new ≡ to_come self.old }
-        ensures ok { OnOk result (sent self.new ≡ with_sent (sent self.old) port bytes.now) }
-        ensures err { OnErr result (sent self.new ≡ sent self.old) }
-        ensures faults { faults self.new ≡ faults self.old }
-        ensures cause { HasRefusalCause (losses self.old) (losses self.new) result };
+        ensures { Sends (state self.old) (state self.new) result port bytes.now };
 }

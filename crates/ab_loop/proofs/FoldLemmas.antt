@@ -12,7 +12,7 @@ use Rattle.ab_loop.specs.declared.party_core.Commit.{Commit}
 use Rattle.ab_loop.specs.declared.node_setting.NodeSetting.{NodeSetting}
 use Rattle.ab_loop.specs.Cores.{NodeEvent, Rules, invoke, message, timeout}
 use Rattle.ab_msg.specs.Packets.{Packet}
-use Rattle.ab_loop.specs.Outside.{capped}
+use Rattle.ab_loop.specs.Edges.{capped}
 use Rattle.ab_loop.specs.Texts.{reply_text}
 use Rattle.ab_loop.specs.Nodes.{Node, Out, Turn, after_reply, and_then, command_step, datagram_step, datagrams_in, event_step, first_step, has_expired, joined_step, latest, new_node, next_deadline, no_step, parcel_of, parcels_of, reply_step, run_after, text_step, timer_step, turn_step, with_deadline, with_joiner}
 use Rattle.ab_loop.specs.Folds.{IsOfCore, commits_in, core_after, printed, printed_in, sends_in, spent_in}

@@ -6,8 +6,11 @@ use Rattle.std.proofs.Math.Seq.{take-add}
 use Rattle.std.proofs.lemmas.List.{take-append-drop, take_more}
 use Rattle.std.proofs.lemmas.List.Sums.{sum_by-append}
 use Rattle.std.proofs.lemmas.Grind.{flat_map-append}
-use Rattle.ab_io.specs.Datagrams.{with_sent}
-use Rattle.ab_loop.specs.Outside.{capped, Datagram, grown, those_gone, SaysPart, SentAll, SentPart}
+use Rattle.ab_io.specs.Causes.{RefusalCause, Rose}
+use Rattle.ab_io.specs.Datagrams.{Datagram, with_sent}
+use Rattle.ab_io.specs.declared.fault.Refused.{Refused}
+use Rattle.ab_io.specs.declared.fault.Refused.TheVariants as refused
+use Rattle.ab_loop.specs.Edges.{capped, grown, those_gone, SaysPart, SentAll, SentPart}
 use Rattle.ab_loop.specs.Nodes.{datagrams_in}
 
 -- ---- what is known and grows
@@ -45,6 +48,11 @@ keeps_same (Some xs) (Some ys) same keeps = ap Some keeps
 -- a part was written
 pub says_part : (a b c : Option (List ℕ)) (bs : List ℕ) (i : ℕ) → b ≡ grown a (take i bs) → is_some c ≡ is_some b → Keeps b c → SaysPart a c bs
 says_part a b c bs i first same keeps = (take i bs, drop i bs, sym (take-append-drop i bs), keeps_same b c same keeps ∙ first)
+
+-- a fault after earlier ones
+pub say_rose : (why : Refused) (a b c : ℕ) → why ≡ refused.Failed → a ≤ b → RefusalCause why b c → Rose a c
+say_rose refused.Failed a b c e earlier cause = omega (arith, earlier, cause)
+say_rose refused.OutOfMemory a b c e earlier cause = cc
 
 -- ---- datagrams
 

@@ -5,7 +5,7 @@ use Rattle.ab_loop.specs.declared.party_core.Commit.{Commit}
 use Rattle.ab_loop.specs.declared.node_setting.NodeSetting.{NodeSetting}
 use Rattle.ab_loop.specs.Cores.{NodeEvent, Rules}
 use Rattle.ab_msg.specs.Packets.{Packet}
-use Rattle.ab_loop.specs.Outside.{capped}
+use Rattle.ab_loop.specs.Edges.{capped}
 use Rattle.ab_loop.specs.Nodes.{Node, Out, Turn, and_then, datagram_step, datagrams_in, parcels_of, run_after, timer_step}
 
 -- where these events lead the core, the first of them first

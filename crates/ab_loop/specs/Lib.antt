@@ -1,7 +1,7 @@
 -- The definitions that the contracts of this crate cite.
 pub mod Cores
+pub mod Edges
 pub mod Folds
 pub mod Nodes
-pub mod Outside
 pub mod Runs
 pub mod Texts

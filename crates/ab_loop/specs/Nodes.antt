@@ -3,7 +3,7 @@ use Rattle.std.specs.Prelude.{◌≡◌, ℕ, ◌+◌, List, [], ◌∷◌, ◌+
 use Rattle.std.specs.List.{flat_map}
 use Rattle.std.specs.Option.{option_map}
 use Rattle.arrayvec.specs.ArrayVec.{ArrayVec}
-use Rattle.ab_io.specs.Datagrams.{given_of}
+use Rattle.ab_io.specs.Datagrams.{Datagram, given_of}
 use Rattle.ab_loop.specs.declared.fault.ServeFault.{ServeFault}
 use Rattle.ab_num.specs.declared.party.Party.{Party}
 use Rattle.ab_num.specs.declared.party.Party.TheVariants.{Replica, Client}
@@ -12,7 +12,7 @@ use Rattle.ab_piece.specs.Joining.{OpenMessage, Answer, whole, more, dropped, st
 use Rattle.ab_loop.specs.declared.party_core.Commit.{Commit}
 use Rattle.ab_loop.specs.Cores.{NodeEvent, invoke, message, timeout, Reaction, Rules}
 use Rattle.ab_msg.specs.Packets.{Packet}
-use Rattle.ab_loop.specs.Outside.{capped, Datagram, Effects, nothing, writing, sending, both, Outside, Counts, Does, Counted}
+use Rattle.ab_loop.specs.Edges.{capped, Effects, nothing, writing, sending, both, Edge, Does, Counted}
 use Rattle.ab_loop.specs.Texts.{event_text, reply_text}
 use Rattle.ab_loop.specs.declared.node_setting.NodeSetting.{NodeSetting}
 
@@ -51,6 +51,10 @@ abbrev pub and_then : {C : Type 0} → Out C → (Node C → Out C) → Out C
 and_then a f = record { node = (f a.node).node; effects = both a.effects (f a.node).effects; events = a.events ++ (f a.node).events }
 
 -- ---- sending
+
+-- the highest port at which ports may begin
+abbrev pub highest_base : ℕ
+highest_base = 65000
 
 abbrev pub port_of : ℕ → Party → ℕ
 port_of base (Replica r) = base + r
@@ -202,10 +206,10 @@ run_after rules s start (turn ∷ before) = and_then (run_after rules s start be
 -- ---- how code goes along a definition
 
 -- the node and what was done outside are those of the definition, or after a fault a front of what is done outside
-pub record Follows {C : Type 0} (new : Node C) (o1 o2 : Outside) (k1 k2 : Counts) (out : Out C) (result : Result ℕ ServeFault) : Type 0 where
+pub record Follows {C : Type 0} (new : Node C) (e1 e2 : Edge) (out : Out C) (result : Result ℕ ServeFault) : Type 0 where
   pub node : OnOk result (new ≡ out.node)
-  pub did : Does o1 o2 out.effects result
-  pub counted : Counted k1 k2 result
+  pub did : Does e1 e2 out.effects result
+  pub counted : Counted e1 e2 result
 
 -- what the link gave is what was next, and nothing only where nothing is to come
 abbrev pub IsNext : List (List ℕ) → Option (List ℕ) → Type 0
@@ -217,8 +221,8 @@ left_by None known = known
 left_by (Some bytes) known = option_map (drop 1) known
 
 -- a step that takes what the link gives
-pub record Takes {C : Type 0} (f : Option (List ℕ) → Out C) (new : Node C) (o1 o2 : Outside) (k1 k2 : Counts) (before after : Option (List (List ℕ))) (result : Result ℕ ServeFault) : Type 0 where
+pub record Takes {C : Type 0} (f : Option (List ℕ) → Out C) (new : Node C) (e1 e2 : Edge) (result : Result ℕ ServeFault) : Type 0 where
   pub got : Option (List ℕ)
-  pub next : IfSome before (λ datagrams. IsNext datagrams got)
-  pub left : OnOk result (after ≡ left_by got before)
-  pub follows : Follows new o1 o2 k1 k2 (f got) result
+  pub next : IfSome e1.link.to_come (λ datagrams. IsNext datagrams got)
+  pub left : OnOk result (e2.link.to_come ≡ left_by got e1.link.to_come)
+  pub follows : Follows new e1 e2 (f got) result

@@ -3,12 +3,13 @@ use Rattle.std.specs.Prelude.{◌≡◌, ◌⊎◌, ℕ, ◌<◌, List, [], ◌�
 use Rattle.std.specs.Option.{option_map}
 use Rattle.arrayvec.specs.ArrayVec.{ArrayVec}
 use Rattle.ab_io.specs.Readings.{Readings, next_reading, later_readings}
+use Rattle.ab_io.specs.States.{ClockState, LinkState}
 use Rattle.ab_loop.specs.declared.node_setting.NodeSetting.{NodeSetting}
 use Rattle.ab_loop.specs.declared.fault.ServeFault.{ServeFault}
 use Rattle.ab_loop.specs.declared.fault.ServeFault.TheVariants as fault
 use Rattle.ab_loop.specs.declared.serving.Served.{Served}
 use Rattle.ab_loop.specs.Cores.{Rules}
-use Rattle.ab_loop.specs.Outside.{Effects, Outside, DidAll, DidPart, both, writing, Counts, Rises, Counted}
+use Rattle.ab_loop.specs.Edges.{Effects, Edge, DidAll, DidPart, both, writing, Rises, Counted}
 use Rattle.ab_loop.specs.Texts.{end_text}
 use Rattle.ab_loop.specs.Nodes.{Node, Out, Turn, Follows, IsNext, left_by, is_client, is_done, first_step, run_after}
 
@@ -65,57 +66,58 @@ end_of rules x ts = run_after rules x.setting (first_step rules x.setting ts.fir
 
 -- A node's whole run: by the turn rule, until the commands are answered or the turns are used. Its text was written and its
 -- datagrams were handed over, each once, and `lost` of them were lost, each of which the link has counted.
-pub record NodeRun {C : Type 0} (rules : Rules C) (x : Start C) (old new : Outside) (before after : Counts) (lost : ℕ) : Type 0 where
+pub record NodeRun {C : Type 0} (rules : Rules C) (x : Start C) (old new : Edge) (lost : ℕ) : Type 0 where
   pub turns : Turns rules x
   pub ends : (is_done x.setting (end_of rules x turns).node ≡ true) ⊎ (length turns.turns ≡ x.turns)
   pub did : DidAll old new (both (end_of rules x turns).effects (end_line (end_of rules x turns).node lost)) lost
-  pub counted : Rises before after lost
+  pub counted : Rises old new lost
 
 -- after a fault: a front of what is done by the turn rule, and why
-pub record NodeFront {C : Type 0} (rules : Rules C) (x : Start C) (old new : Outside) (before after : Counts) (why : ServeFault) : Type 0 where
+pub record NodeFront {C : Type 0} (rules : Rules C) (x : Start C) (old new : Edge) (why : ServeFault) : Type 0 where
   pub turns : Turns rules x
   pub lost : ℕ
   pub did : DidPart old new (both (end_of rules x turns).effects (end_line (end_of rules x turns).node lost))
-  pub counted : Counted before after (Err why)
+  pub counted : Counted old new (Err why)
 
 -- the numbers that are answered are those of the end, and a client's commands are answered
-pub record HasServed {C : Type 0} (rules : Rules C) (x : Start C) (old new : Outside) (before after : Counts) (served : Served) : Type 0 where
-  pub run : NodeRun rules x old new before after served.lost
+pub record HasServed {C : Type 0} (rules : Rules C) (x : Start C) (old new : Edge) (served : Served) : Type 0 where
+  pub run : NodeRun rules x old new served.lost
   pub events : served.events ≡ (end_of rules x run.turns).node.events
   pub sent : served.sent ≡ (end_of rules x run.turns).node.sent
   pub spent : served.spent ≡ (end_of rules x run.turns).node.spent
   pub answered : is_client x.setting.me ≡ true → (end_of rules x run.turns).node.commands ≡ []
 
 -- the turns were used, and so many commands are unanswered
-pub record LeavesCommands {C : Type 0} (rules : Rules C) (x : Start C) (old new : Outside) (before after : Counts) (n : ℕ) : Type 0 where
+pub record LeavesCommands {C : Type 0} (rules : Rules C) (x : Start C) (old new : Edge) (n : ℕ) : Type 0 where
   pub lost : ℕ
-  pub run : NodeRun rules x old new before after lost
+  pub run : NodeRun rules x old new lost
   pub used : length run.turns.turns ≡ x.turns
   pub client : is_client x.setting.me ≡ true
   pub some : 0 < n
   pub unanswered : n ≡ length (end_of rules x run.turns).node.commands
 
 -- what each fault says
-abbrev pub HasFaultOf : {C : Type 0} → Rules C → Start C → Outside → Outside → Counts → Counts → ServeFault → Type 0
-HasFaultOf rules x old new before after (fault.TurnsSpent n) = LeavesCommands rules x old new before after n
-HasFaultOf rules x old new before after fault.LinkFailed = NodeFront rules x old new before after fault.LinkFailed
-HasFaultOf rules x old new before after fault.WriteFailed = NodeFront rules x old new before after fault.WriteFailed
-HasFaultOf rules x old new before after fault.OutOfMemory = NodeFront rules x old new before after fault.OutOfMemory
+abbrev pub HasFaultOf : {C : Type 0} → Rules C → Start C → Edge → Edge → ServeFault → Type 0
+HasFaultOf rules x old new (fault.TurnsSpent n) = LeavesCommands rules x old new n
+HasFaultOf rules x old new fault.LinkFailed = NodeFront rules x old new fault.LinkFailed
+HasFaultOf rules x old new fault.WriteFailed = NodeFront rules x old new fault.WriteFailed
+HasFaultOf rules x old new fault.OutOfMemory = NodeFront rules x old new fault.OutOfMemory
 
 -- ---- a part of the code: the turns without the line of the end
 
-abbrev pub start_of : {C : Type 0} → NodeSetting → ℕ → C → List (ArrayVec ℕ) → Option Readings → Option (List (List ℕ)) → Start C
-start_of setting turns core commands clock link = record { setting = setting; turns = turns; core = core; commands = commands; clock = clock; link = link }
+abbrev pub start_of : {C : Type 0} → NodeSetting → ℕ → C → List (ArrayVec ℕ) → ClockState → LinkState → Start C
+start_of setting turns core commands clock link =
+    record { setting = setting; turns = turns; core = core; commands = commands; clock = clock.readings; link = link.to_come }
 
-pub record HasRun {C : Type 0} (rules : Rules C) (x : Start C) (old new : Outside) (before after : Counts) (node : Node C) (lost : ℕ) : Type 0 where
+pub record HasRun {C : Type 0} (rules : Rules C) (x : Start C) (old new : Edge) (node : Node C) (lost : ℕ) : Type 0 where
   pub turns : Turns rules x
   pub ends : (is_done x.setting (end_of rules x turns).node ≡ true) ⊎ (length turns.turns ≡ x.turns)
-  pub follows : Follows node old new before after (end_of rules x turns) (Ok lost)
+  pub follows : Follows node old new (end_of rules x turns) (Ok lost)
 
-pub record HasBroken {C : Type 0} (rules : Rules C) (x : Start C) (old new : Outside) (before after : Counts) (why : ServeFault) : Type 0 where
+pub record HasBroken {C : Type 0} (rules : Rules C) (x : Start C) (old new : Edge) (why : ServeFault) : Type 0 where
   pub turns : Turns rules x
   pub did : DidPart old new (end_of rules x turns).effects
-  pub counted : Counted before after (Err why)
+  pub counted : Counted old new (Err why)
 
 pub record ShowsNumbers {C : Type 0} (s : NodeSetting) (node : Node C) (lost : ℕ) (served : Served) : Type 0 where
   pub events : served.events ≡ node.events

@@ -2,12 +2,13 @@
 
 ghost use Rattle.std.specs.Prelude.{◌≡◌, ◌==◌, ◌&&◌, ◌+◌, ◌≤◌, ◌<◌, drop, slice_get, MatchOption, IfOk, OnOk, length, if◌then◌else◌};
 ghost use Rattle.std.specs.declared.option.Option.TheVariants.{None, Some};
+ghost use Rattle.ab_io.specs.Datagrams.{longest_datagram};
 ghost use Rattle.ab_msg.specs.Fields.{IsParty};
 ghost use Rattle.ab_piece.specs.Joining.{answer_of, step_of};
 ghost use Rattle.ab_loop.specs.Cores.{event_of};
 ghost use Rattle.ab_loop.specs.Texts.{reply_text};
-ghost use Rattle.ab_loop.specs.Outside.{Says, SayCause, capped, counts, outside};
-ghost use Rattle.ab_loop.specs.Nodes.{Follows, Takes, with_joiner, turn_step, command_step, reply_step, deadline_after, next_deadline, event_step, has_expired, is_done, latest, new_node, parcels_of, datagram_step, after_reply, same_timer, timer_step, trace_text};
+ghost use Rattle.ab_loop.specs.Edges.{Tells, capped, edge};
+ghost use Rattle.ab_loop.specs.Nodes.{Follows, Takes, highest_base, with_joiner, turn_step, command_step, reply_step, deadline_after, next_deadline, event_step, has_expired, is_done, latest, new_node, parcels_of, datagram_step, after_reply, same_timer, timer_step, trace_text};
 
 use crate::fault::ServeFault;
 use crate::node_setting::NodeSetting;
@@ -125,8 +126,7 @@ fn announce<O: Sink>(
     input: &NodeEventRef<'_>,
     out: &mut O,
 ) -> Result<(), ServeFault>
-    ensures says { Says (O.contents out.old) (O.contents out.new) (trace_text setting.now (event_of input.now)) result }
-    ensures counted { SayCause (O.faults out.old) (O.faults out.new) result }
+    ensures { Tells (O.state out.old) (O.state out.new) (trace_text setting.now (event_of input.now)) result }
 {
     if !setting.trace {
         return Ok(());
@@ -160,8 +160,7 @@ fn after(commands: &[ArrayVec<u8, 128>], done: usize) -> usize
 
 /// Writes a commit's line.
 fn tell<O: Sink>(alloc: Global, commit: &Commit, out: &mut O) -> Result<(), ServeFault>
-    ensures says { Says (O.contents out.old) (O.contents out.new) (reply_text commit.now) result }
-    ensures counted { SayCause (O.faults out.old) (O.faults out.new) result }
+    ensures { Tells (O.state out.old) (O.state out.new) (reply_text commit.now) result }
 {
     match reply_line(alloc, commit) {
         Ok(line) => say(out, line.as_slice()),
@@ -241,7 +240,8 @@ impl<K: PartyCore> Node<K> {
 
     /// The commit that isn't printed. With it the open command goes.
     fn take_commit(&mut self) -> Option<Commit>
-        ensures { MatchOption result ((self.old.commit ≡ None) × (self.new ≡ self.old)) (λ c. (self.old.commit ≡ Some c) × (self.new ≡ after_reply self.old)) }
+        ensures { MatchOption result ((self.old.commit ≡ None) × (self.new ≡ self.old))
+            (λ c. (self.old.commit ≡ Some c) × (self.new ≡ after_reply self.old)) }
     {
         match self.commit.take() {
             Some(commit) => {
@@ -276,7 +276,7 @@ impl<K: PartyCore> Node<K> {
         t: u64,
         input: &NodeEventRef<'_>,
     ) -> Result<Vec<Parcel>, OutOfMemory>
-        requires base { setting.now.base ≤ 65000 }
+        requires base { setting.now.base ≤ highest_base }
         requires me { IsParty setting.now.me }
         ensures node { OnOk result (self.new ≡ (event_step K.rules setting.now t (event_of input.now) self.old).node) }
         ensures sends { IfOk result (λ v. v.items ≡ parcels_of setting.now self.old.number (K.rules.step self.old.core (event_of input.now)).sends) }
@@ -310,10 +310,11 @@ impl<K: PartyCore> Node<K> {
         link: &mut L,
         out: &mut O,
     ) -> Result<u64, ServeFault>
-        requires base { setting.now.base ≤ 65000 }
+        requires base { setting.now.base ≤ highest_base }
         requires me { IsParty setting.now.me }
-        ensures follows { Follows self.new (outside (O.contents out.old) (L.sent link.old)) (outside (O.contents out.new) (L.sent link.new)) (counts (L.faults link.old) (O.faults out.old) (L.losses link.old)) (counts (L.faults link.new) (O.faults out.new) (L.losses link.new)) (event_step K.rules setting.now t (event_of input.now) self.old) result }
-        ensures to_come { L.to_come link.new ≡ L.to_come link.old }
+        ensures follows { Follows self.new (edge (O.state out.old) (L.state link.old)) (edge (O.state out.new) (L.state link.new))
+            (event_step K.rules setting.now t (event_of input.now) self.old) result }
+        ensures to_come { (L.state link.new).to_come ≡ (L.state link.old).to_come }
     {
         if let Err(fault) = announce(alloc, setting, input, out) {
             return Err(fault);
@@ -334,10 +335,11 @@ impl<K: PartyCore> Node<K> {
         link: &mut L,
         out: &mut O,
     ) -> Result<u64, ServeFault>
-        requires base { setting.now.base ≤ 65000 }
+        requires base { setting.now.base ≤ highest_base }
         requires me { IsParty setting.now.me }
-        ensures follows { Follows self.new (outside (O.contents out.old) (L.sent link.old)) (outside (O.contents out.new) (L.sent link.new)) (counts (L.faults link.old) (O.faults out.old) (L.losses link.old)) (counts (L.faults link.new) (O.faults out.new) (L.losses link.new)) (timer_step K.rules setting.now t self.old) result }
-        ensures to_come { L.to_come link.new ≡ L.to_come link.old }
+        ensures follows { Follows self.new (edge (O.state out.old) (L.state link.old)) (edge (O.state out.new) (L.state link.new))
+            (timer_step K.rules setting.now t self.old) result }
+        ensures to_come { (L.state link.new).to_come ≡ (L.state link.old).to_come }
     {
         if self.has_expired(t) {
             match self.handle(alloc, setting, t, &NodeEventRef::Timeout, link, out) {
@@ -363,10 +365,11 @@ impl<K: PartyCore> Node<K> {
         link: &mut L,
         out: &mut O,
     ) -> Result<u64, ServeFault>
-        requires base { setting.now.base ≤ 65000 }
+        requires base { setting.now.base ≤ highest_base }
         requires me { IsParty setting.now.me }
-        ensures follows { Follows self.new (outside (O.contents out.old) (L.sent link.old)) (outside (O.contents out.new) (L.sent link.new)) (counts (L.faults link.old) (O.faults out.old) (L.losses link.old)) (counts (L.faults link.new) (O.faults out.new) (L.losses link.new)) (datagram_step K.rules setting.now t (Some datagram.now) self.old) result }
-        ensures to_come { L.to_come link.new ≡ L.to_come link.old }
+        ensures follows { Follows self.new (edge (O.state out.old) (L.state link.old)) (edge (O.state out.new) (L.state link.new))
+            (datagram_step K.rules setting.now t (Some datagram.now) self.old) result }
+        ensures to_come { (L.state link.new).to_come ≡ (L.state link.old).to_come }
     {
         match self.join(alloc, datagram) {
             Ok(Taken::Whole(message)) => {
@@ -395,10 +398,11 @@ impl<K: PartyCore> Node<K> {
         link: &mut L,
         out: &mut O,
     ) -> Result<u64, ServeFault>
-        requires base { setting.now.base ≤ 65000 }
+        requires base { setting.now.base ≤ highest_base }
         requires me { IsParty setting.now.me }
-        ensures follows { Follows self.new (outside (O.contents out.old) (L.sent link.old)) (outside (O.contents out.new) (L.sent link.new)) (counts (L.faults link.old) (O.faults out.old) (L.losses link.old)) (counts (L.faults link.new) (O.faults out.new) (L.losses link.new)) (command_step K.rules setting.now t self.old) result }
-        ensures to_come { L.to_come link.new ≡ L.to_come link.old }
+        ensures follows { Follows self.new (edge (O.state out.old) (L.state link.old)) (edge (O.state out.new) (L.state link.new))
+            (command_step K.rules setting.now t self.old) result }
+        ensures to_come { (L.state link.new).to_come ≡ (L.state link.old).to_come }
     {
         match self.first_command() {
             Some(command) => self.handle(
@@ -423,10 +427,11 @@ impl<K: PartyCore> Node<K> {
         link: &mut L,
         out: &mut O,
     ) -> Result<u64, ServeFault>
-        requires base { setting.now.base ≤ 65000 }
+        requires base { setting.now.base ≤ highest_base }
         requires me { IsParty setting.now.me }
-        ensures follows { Follows self.new (outside (O.contents out.old) (L.sent link.old)) (outside (O.contents out.new) (L.sent link.new)) (counts (L.faults link.old) (O.faults out.old) (L.losses link.old)) (counts (L.faults link.new) (O.faults out.new) (L.losses link.new)) (reply_step K.rules setting.now t self.old) result }
-        ensures to_come { L.to_come link.new ≡ L.to_come link.old }
+        ensures follows { Follows self.new (edge (O.state out.old) (L.state link.old)) (edge (O.state out.new) (L.state link.new))
+            (reply_step K.rules setting.now t self.old) result }
+        ensures to_come { (L.state link.new).to_come ≡ (L.state link.old).to_come }
     {
         match self.take_commit() {
             Some(commit) => match tell(alloc, &commit, out) {
@@ -447,10 +452,11 @@ impl<K: PartyCore> Node<K> {
         link: &mut L,
         out: &mut O,
     ) -> Result<u64, ServeFault>
-        requires base { setting.now.base ≤ 65000 }
+        requires base { setting.now.base ≤ highest_base }
         requires me { IsParty setting.now.me }
-        requires buf { 8209 ≤ length buf.old }
-        ensures { Takes (λ got. datagram_step K.rules setting.now t got self.old) self.new (outside (O.contents out.old) (L.sent link.old)) (outside (O.contents out.new) (L.sent link.new)) (counts (L.faults link.old) (O.faults out.old) (L.losses link.old)) (counts (L.faults link.new) (O.faults out.new) (L.losses link.new)) (L.to_come link.old) (L.to_come link.new) result }
+        requires buf { longest_datagram ≤ length buf.old }
+        ensures { Takes (λ got. datagram_step K.rules setting.now t got self.old) self.new
+            (edge (O.state out.old) (L.state link.old)) (edge (O.state out.new) (L.state link.new)) result }
     {
         match link.recv(buf, setting.wait) {
             Got::Bytes(n) => self.receive(alloc, setting, t, &buf[..n], link, out),
@@ -470,10 +476,11 @@ impl<K: PartyCore> Node<K> {
         link: &mut L,
         out: &mut O,
     ) -> Result<u64, ServeFault>
-        requires base { setting.now.base ≤ 65000 }
+        requires base { setting.now.base ≤ highest_base }
         requires me { IsParty setting.now.me }
-        requires buf { 8209 ≤ length buf.old }
-        ensures { Takes (λ got. turn_step K.rules setting.now (record { reading = t; got = got }) self.old) self.new (outside (O.contents out.old) (L.sent link.old)) (outside (O.contents out.new) (L.sent link.new)) (counts (L.faults link.old) (O.faults out.old) (L.losses link.old)) (counts (L.faults link.new) (O.faults out.new) (L.losses link.new)) (L.to_come link.old) (L.to_come link.new) result }
+        requires buf { longest_datagram ≤ length buf.old }
+        ensures { Takes (λ got. turn_step K.rules setting.now (record { reading = t; got = got }) self.old) self.new
+            (edge (O.state out.old) (L.state link.old)) (edge (O.state out.new) (L.state link.new)) result }
     {
         match self.time(alloc, setting, t, link, out) {
             Ok(first) => match self.take(alloc, setting, t, buf, link, out) {

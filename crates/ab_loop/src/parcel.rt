@@ -3,8 +3,8 @@
 ghost use Rattle.std.specs.Prelude.{◌≡◌, ◌+◌, ◌<◌, ◌≤◌, All, IfOk, length, map, slice_index_or};
 ghost use Rattle.ab_msg.specs.Fields.{IsParty};
 ghost use Rattle.ab_msg.specs.Packets.{IsSendable};
-ghost use Rattle.ab_loop.specs.Outside.{capped};
-ghost use Rattle.ab_loop.specs.Nodes.{port_of, parcel_of, parcels_of, datagrams_in};
+ghost use Rattle.ab_loop.specs.Edges.{capped};
+ghost use Rattle.ab_loop.specs.Nodes.{highest_base, port_of, parcel_of, parcels_of, datagrams_in};
 
 use crate::node_setting::NodeSetting;
 use ab_msg::Packet;
@@ -23,7 +23,7 @@ pub(crate) struct Parcel {
 /// It is seen as the list of its datagrams.
 impl Model for Parcel {
     ghost use Rattle.std.specs.Prelude.{List, map};
-    ghost use Rattle.ab_loop.specs.Outside.{Datagram};
+    ghost use Rattle.ab_io.specs.Datagrams.{Datagram};
 
     ghost Value = { List Datagram };
 
@@ -32,7 +32,7 @@ impl Model for Parcel {
 
 /// The port of a party.
 pub(crate) fn port_of(base: u16, party: Party) -> u16
-    requires base { base ≤ 65000 }
+    requires base { base ≤ highest_base }
     requires party { IsParty party }
     ensures { result ≡ port_of base party }
 {
@@ -51,7 +51,7 @@ impl Parcel {
         number: u64,
         m: &Packet,
     ) -> Result<Parcel, OutOfMemory>
-        requires base { setting.now.base ≤ 65000 }
+        requires base { setting.now.base ≤ highest_base }
         requires me { IsParty setting.now.me }
         requires message { IsSendable m.now }
         ensures { IfOk result (λ p. p ≡ parcel_of setting.now number m.now) }
@@ -84,7 +84,7 @@ pub(crate) fn parcels(
     number: u64,
     messages: &[Packet],
 ) -> Result<Vec<Parcel>, OutOfMemory>
-    requires base { setting.now.base ≤ 65000 }
+    requires base { setting.now.base ≤ highest_base }
     requires me { IsParty setting.now.me }
     requires messages { All IsSendable messages.now }
     ensures { IfOk result (λ v. v.items ≡ parcels_of setting.now number messages.now) }

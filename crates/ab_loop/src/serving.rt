@@ -1,8 +1,10 @@
 //! A node from its start to its end.
 
 ghost use Rattle.std.specs.Prelude.{◌≡◌, ◌≤◌, IfOk, IfErr, length};
+ghost use Rattle.ab_io.specs.Datagrams.{longest_datagram};
 ghost use Rattle.ab_msg.specs.Fields.{IsParty};
-ghost use Rattle.ab_loop.specs.Outside.{Says, SayCause, outside, counts};
+ghost use Rattle.ab_loop.specs.Edges.{Tells, edge};
+ghost use Rattle.ab_loop.specs.Nodes.{highest_base};
 ghost use Rattle.ab_loop.specs.Texts.{end_text};
 ghost use Rattle.ab_loop.specs.Runs.{HasServed, HasBroken, HasRun, ShowsNumbers, ShowsOpen, HasFaultOf, start_of};
 
@@ -53,11 +55,13 @@ fn drive<K: PartyCore, L: Link, C: Clock, O: Sink>(
     clock: &mut C,
     out: &mut O,
 ) -> Result<(Node<K>, u64), ServeFault>
-    requires base { setting.now.base ≤ 65000 }
+    requires base { setting.now.base ≤ highest_base }
     requires me { IsParty setting.now.me }
-    requires buf { 8209 ≤ length buf.old }
-    ensures ok { IfOk result (λ r. HasRun K.rules (start_of setting.now turns core commands (C.readings clock.old) (L.to_come link.old)) (outside (O.contents out.old) (L.sent link.old)) (outside (O.contents out.new) (L.sent link.new)) (counts (L.faults link.old) (O.faults out.old) (L.losses link.old)) (counts (L.faults link.new) (O.faults out.new) (L.losses link.new)) r.0 r.1) }
-    ensures err { IfErr result (λ why. HasBroken K.rules (start_of setting.now turns core commands (C.readings clock.old) (L.to_come link.old)) (outside (O.contents out.old) (L.sent link.old)) (outside (O.contents out.new) (L.sent link.new)) (counts (L.faults link.old) (O.faults out.old) (L.losses link.old)) (counts (L.faults link.new) (O.faults out.new) (L.losses link.new)) why) }
+    requires buf { longest_datagram ≤ length buf.old }
+    ensures ok { IfOk result (λ r. HasRun K.rules (start_of setting.now turns core commands (C.state clock.old) (L.state link.old))
+        (edge (O.state out.old) (L.state link.old)) (edge (O.state out.new) (L.state link.new)) r.0 r.1) }
+    ensures err { IfErr result (λ why. HasBroken K.rules (start_of setting.now turns core commands (C.state clock.old) (L.state link.old))
+        (edge (O.state out.old) (L.state link.old)) (edge (O.state out.new) (L.state link.new)) why) }
 {
     let first = clock.now();
     let mut node = Node::new(alloc, setting, first, core, commands);
@@ -85,8 +89,7 @@ fn say_end<K: PartyCore, O: Sink>(
     lost: u64,
     out: &mut O,
 ) -> Result<(), ServeFault>
-    ensures says { Says (O.contents out.old) (O.contents out.new) (end_text node.now.events node.now.sent lost node.now.spent) result }
-    ensures counted { SayCause (O.faults out.old) (O.faults out.new) result }
+    ensures { Tells (O.state out.old) (O.state out.new) (end_text node.now.events node.now.sent lost node.now.spent) result }
 {
     match end_line(alloc, node.events(), node.sent(), lost, node.spent()) {
         Ok(line) => say(out, line.as_bytes()),
@@ -106,11 +109,13 @@ fn run<K: PartyCore, L: Link, C: Clock, O: Sink>(
     clock: &mut C,
     out: &mut O,
 ) -> Result<Served, ServeFault>
-    requires base { setting.now.base ≤ 65000 }
+    requires base { setting.now.base ≤ highest_base }
     requires me { IsParty setting.now.me }
-    requires buf { 8209 ≤ length buf.old }
-    ensures ok { IfOk result (λ served. HasServed K.rules (start_of setting.now turns core commands (C.readings clock.old) (L.to_come link.old)) (outside (O.contents out.old) (L.sent link.old)) (outside (O.contents out.new) (L.sent link.new)) (counts (L.faults link.old) (O.faults out.old) (L.losses link.old)) (counts (L.faults link.new) (O.faults out.new) (L.losses link.new)) served) }
-    ensures err { IfErr result (λ why. HasFaultOf K.rules (start_of setting.now turns core commands (C.readings clock.old) (L.to_come link.old)) (outside (O.contents out.old) (L.sent link.old)) (outside (O.contents out.new) (L.sent link.new)) (counts (L.faults link.old) (O.faults out.old) (L.losses link.old)) (counts (L.faults link.new) (O.faults out.new) (L.losses link.new)) why) }
+    requires buf { longest_datagram ≤ length buf.old }
+    ensures ok { IfOk result (λ served. HasServed K.rules (start_of setting.now turns core commands (C.state clock.old) (L.state link.old))
+        (edge (O.state out.old) (L.state link.old)) (edge (O.state out.new) (L.state link.new)) served) }
+    ensures err { IfErr result (λ why. HasFaultOf K.rules (start_of setting.now turns core commands (C.state clock.old) (L.state link.old))
+        (edge (O.state out.old) (L.state link.old)) (edge (O.state out.new) (L.state link.new)) why) }
 {
     match drive(alloc, core, setting, commands, turns, buf, link, clock, out) {
         Ok((node, lost)) => match say_end(alloc, &node, lost, out) {
@@ -130,10 +135,12 @@ pub fn serve<K: PartyCore, L: Link, C: Clock, O: Sink>(
     clock: &mut C,
     out: &mut O,
 ) -> Result<Served, ServeFault>
-    requires base { job.setting.base ≤ 65000 }
+    requires base { job.setting.base ≤ highest_base }
     requires me { IsParty job.setting.me }
-    ensures ok { IfOk result (λ served. HasServed K.rules (start_of job.setting job.turns job.core job.commands (C.readings clock.old) (L.to_come link.old)) (outside (O.contents out.old) (L.sent link.old)) (outside (O.contents out.new) (L.sent link.new)) (counts (L.faults link.old) (O.faults out.old) (L.losses link.old)) (counts (L.faults link.new) (O.faults out.new) (L.losses link.new)) served) }
-    ensures err { IfErr result (λ why. HasFaultOf K.rules (start_of job.setting job.turns job.core job.commands (C.readings clock.old) (L.to_come link.old)) (outside (O.contents out.old) (L.sent link.old)) (outside (O.contents out.new) (L.sent link.new)) (counts (L.faults link.old) (O.faults out.old) (L.losses link.old)) (counts (L.faults link.new) (O.faults out.new) (L.losses link.new)) why) }
+    ensures ok { IfOk result (λ served. HasServed K.rules (start_of job.setting job.turns job.core job.commands (C.state clock.old) (L.state link.old))
+        (edge (O.state out.old) (L.state link.old)) (edge (O.state out.new) (L.state link.new)) served) }
+    ensures err { IfErr result (λ why. HasFaultOf K.rules (start_of job.setting job.turns job.core job.commands (C.state clock.old) (L.state link.old))
+        (edge (O.state out.old) (L.state link.old)) (edge (O.state out.new) (L.state link.new)) why) }
 {
     let Job {
         core,

@@ -1,7 +1,6 @@
 //! The system's clock.
 
 ghost use Rattle.std.specs.Prelude.{◌≡◌, ◌≤◌};
-ghost use Rattle.std.specs.declared.option.Option.TheVariants.{None};
 
 use std::marker::Model;
 use std::time::Instant;
@@ -45,7 +44,9 @@ impl<R: std::time::Clock + Drop> StdClock<R> {
 }
 
 impl<R: std::time::Clock + Drop> ab_io::Clock for StdClock<R> {
-    ghost readings = { λ _. None };
+    ghost use Rattle.std.specs.declared.option.Option.TheVariants.{None};
+
+    ghost state = { λ _. record { readings = None } };
 
     /// Readings never fall.
     fn now(&mut self) -> u64

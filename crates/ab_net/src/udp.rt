@@ -2,11 +2,11 @@
 
 ghost use Rattle.std.specs.Prelude.{◌≡◌, ◌≤◌, length, Err, IfErr, IsSome, OnErr, OnOk};
 ghost use Rattle.std.specs.declared.option.Option.TheVariants.{None};
-ghost use Rattle.ab_io.specs.Causes.{HasCause, HasGotCause, HasRefusalCause};
-ghost use Rattle.ab_io.specs.Datagrams.{FitsIn};
+ghost use Rattle.ab_io.specs.Datagrams.{FitsIn, longest_datagram};
+ghost use Rattle.ab_io.specs.States.{Opens, Receives, Sends};
 ghost use Rattle.ab_io.specs.declared.fault.Refused.TheVariants as refused;
 ghost use Rattle.ab_io.specs.declared.link.Got.TheVariants as got;
-ghost use Rattle.ab_net.specs.UdpLinks.{unopened};
+ghost use Rattle.ab_net.specs.UdpLinks.{link_of, unopened};
 
 use ab_io::{Failed, Got, LONGEST_DATAGRAM, Link, Refused};
 use std::io::ErrorKind;
@@ -55,8 +55,8 @@ fn address(port: u16) -> SocketAddrV4 {
 /// What comes at a socket within so many milliseconds, but at least one, since a socket takes no wait
 /// of none.
 fn received(socket: &UdpSocket, buf: &mut [u8], wait_ms: u32) -> Got
-    requires { 8209 ≤ length buf.old }
-    ensures { FitsIn 8209 result }
+    requires { longest_datagram ≤ length buf.old }
+    ensures { FitsIn longest_datagram result }
 {
     let wait = Duration::from_millis(u64::from(wait_ms.max(1)));
     if socket.set_read_timeout(Some(wait)).is_err() {
@@ -72,19 +72,14 @@ fn received(socket: &UdpSocket, buf: &mut [u8], wait_ms: u32) -> Got
 }
 
 impl<R: Net + Drop> Link for UdpLink<R> {
-    ghost to_come = { λ _. None };
+    ghost use Rattle.ab_net.specs.UdpLinks.{link_of};
 
-    ghost sent = { λ _. None };
-
-    ghost faults = { λ l. l.faults };
-
-    ghost losses = { λ l. l.losses };
+    ghost state = { link_of };
 
     fn open(&mut self, port: u16) -> Result<(), Failed>
         ensures open { OnOk result (IsSome self.new.socket) }
         ensures err { OnErr result (self.new.socket ≡ self.old.socket) }
-        ensures cause { HasCause self.old.faults self.new.faults result }
-        ensures losses { self.new.losses ≡ self.old.losses }
+        ensures opens { Opens (link_of self.old) (link_of self.new) result }
     {
         match UdpSocket::bind(&self.net, address(port)) {
             Ok(socket) => {
@@ -100,12 +95,11 @@ impl<R: Net + Drop> Link for UdpLink<R> {
 
     /// Nothing comes before the port is open.
     fn recv(&mut self, buf: &mut [u8], wait_ms: u32) -> Got
-        requires { 8209 ≤ length buf.old }
+        requires { longest_datagram ≤ length buf.old }
         ensures closed { self.old.socket ≡ None → result ≡ got.Failed }
         ensures socket { self.new.socket ≡ self.old.socket }
-        ensures bound { FitsIn 8209 result }
-        ensures cause { HasGotCause self.old.faults self.new.faults result }
-        ensures losses { self.new.losses ≡ self.old.losses }
+        ensures bound { FitsIn longest_datagram result }
+        ensures receives { Receives (link_of self.old) (link_of self.new) result buf.new }
     {
         let got = match &self.socket {
             Some(socket) => received(socket, buf, wait_ms),
@@ -122,8 +116,7 @@ impl<R: Net + Drop> Link for UdpLink<R> {
         ensures closed { self.old.socket ≡ None → result ≡ Err refused.Failed }
         ensures refused { IfErr result (λ why. why ≡ refused.Failed) }
         ensures socket { self.new.socket ≡ self.old.socket }
-        ensures faults { self.new.faults ≡ self.old.faults }
-        ensures cause { HasRefusalCause self.old.losses self.new.losses result }
+        ensures sends { Sends (link_of self.old) (link_of self.new) result port bytes.now }
     {
         let sent = match &self.socket {
             Some(socket) => socket.send_to(bytes, address(port)).is_ok(),

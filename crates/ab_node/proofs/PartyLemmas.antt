@@ -7,7 +7,7 @@ use Rattle.ab_loop.specs.declared.serving.Served.{Served}
 use Rattle.ab_loop.specs.declared.node_setting.NodeSetting.{NodeSetting}
 use Rattle.ab_loop.specs.Cores.{Rules}
 use Rattle.ab_loop.specs.Runs.{HasServed, HasFaultOf, Start, start_of}
-use Rattle.ab_node.specs.Nodes.{Meeting, CoreServed, CoreStopped, as_command, setting_of, start_with}
+use Rattle.ab_node.specs.Nodes.{NodeCall, CoreServed, CoreStopped, as_command, setting_of, start_with}
 
 -- ---- what a node is started with
 
@@ -15,17 +15,17 @@ as_were : (commands : List (ArrayVec ℕ)) → map as_command (map (λ c. c.item
 as_were [] = refl
 as_were (c ∷ cs) = ap (λ rest. c ∷ rest) (as_were cs)
 
-module _ {C : Type 0} (rules : Rules C) (x : Meeting) (me : Party) (core : C) (commands : List (ArrayVec ℕ)) (s : NodeSetting) (turns : ℕ) (set : s ≡ setting_of x.asked me) (so_many : turns ≡ x.asked.turns) where
-  start_is : start_of s turns core commands x.clock x.link ≡ start_with x me core (map (λ c. c.items) commands)
+module _ {C : Type 0} (rules : Rules C) (x : NodeCall) (me : Party) (core : C) (commands : List (ArrayVec ℕ)) (s : NodeSetting) (turns : ℕ) (set : s ≡ setting_of x.asked me) (so_many : turns ≡ x.asked.turns) where
+  start_is : start_of s turns core commands x.clock x.old.link ≡ start_with x me core (map (λ c. c.items) commands)
   start_is =
-      ap (λ (v : NodeSetting). start_of v turns core commands x.clock x.link) set
-      ∙ ap (λ (n : ℕ). start_of (setting_of x.asked me) n core commands x.clock x.link) so_many
-      ∙ ap (λ (cs : List (ArrayVec ℕ)). start_of (setting_of x.asked me) x.asked.turns core cs x.clock x.link) (sym (as_were commands))
+      ap (λ (v : NodeSetting). start_of v turns core commands x.clock x.old.link) set
+      ∙ ap (λ (n : ℕ). start_of (setting_of x.asked me) n core commands x.clock x.old.link) so_many
+      ∙ ap (λ (cs : List (ArrayVec ℕ)). start_of (setting_of x.asked me) x.asked.turns core cs x.clock x.old.link) (sym (as_were commands))
 
-  pub core_serves : (result : Result Served ServeFault) → IfOk result (HasServed rules (start_of s turns core commands x.clock x.link) x.old x.new x.before x.after)
+  pub core_serves : (result : Result Served ServeFault) → IfOk result (HasServed rules (start_of s turns core commands x.clock x.old.link) x.old x.new)
       → IfOk result (CoreServed rules me core (map (λ c. c.items) commands) x)
-  core_serves result is = subst (λ (y : Start C). IfOk result (HasServed rules y x.old x.new x.before x.after)) start_is is
+  core_serves result is = subst (λ (y : Start C). IfOk result (HasServed rules y x.old x.new)) start_is is
 
-  pub core_stops : (result : Result Served ServeFault) → IfErr result (HasFaultOf rules (start_of s turns core commands x.clock x.link) x.old x.new x.before x.after)
+  pub core_stops : (result : Result Served ServeFault) → IfErr result (HasFaultOf rules (start_of s turns core commands x.clock x.old.link) x.old x.new)
       → IfErr result (CoreStopped rules me core (map (λ c. c.items) commands) x)
-  core_stops result is = subst (λ (y : Start C). IfErr result (HasFaultOf rules y x.old x.new x.before x.after)) start_is is
+  core_stops result is = subst (λ (y : Start C). IfErr result (HasFaultOf rules y x.old x.new)) start_is is

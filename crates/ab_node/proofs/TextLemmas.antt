@@ -11,9 +11,9 @@ use Rattle.ab_loop.specs.declared.serving.Served.{Served}
 use Rattle.ab_replay.specs.Replays.{proto_of}
 use Rattle.ab_node.specs.declared.stop.Stop.{Stop}
 use Rattle.ab_node.specs.declared.stop.Stop.TheVariants as stop
-use Rattle.ab_node.specs.Nodes.{Meeting, PartyServed, PartyStopped, ReplicaCause, ReplicaServed, IsServed, TextCause}
+use Rattle.ab_node.specs.Nodes.{NodeCall, PartyServed, PartyStopped, ReplicaCause, ReplicaServed, IsServed, TextCause}
 
-module _ (text : List ℕ) (x : Meeting) (k : PartyKeys) (commands : List (List ℕ)) (r : ℕ) (reads : node_in (lines_of text) ≡ Ok (node_of k commands)) (me : k.me ≡ Replica r) where
+module _ (text : List ℕ) (x : NodeCall) (k : PartyKeys) (commands : List (List ℕ)) (r : ℕ) (reads : node_in (lines_of text) ≡ Ok (node_of k commands)) (me : k.me ≡ Replica r) where
   serves : (served : Served) → ReplicaServed (proto_of k.service) k r commands x served → IsServed text x served
   serves served run = record { node = node_of k commands; reads = reads; run = subst (λ (p : Party). PartyServed p k commands x served) (sym me) run }
 

@@ -4,7 +4,7 @@ use Rattle.arrayvec.specs.ArrayVec.{ArrayVec}
 use Rattle.ab_num.specs.declared.party.Party.{Party}
 use Rattle.ab_num.specs.declared.party.Party.TheVariants.{Replica, Client}
 use Rattle.ab_io.specs.Causes.{Rose}
-use Rattle.ab_io.specs.Readings.{Readings}
+use Rattle.ab_io.specs.States.{Change, ClockState, SourceState}
 use Rattle.ab_text.specs.Lines.{lines_of}
 use Rattle.ab_key_text.specs.declared.fault.NodeFault.{NodeFault}
 use Rattle.ab_key_text.specs.declared.fault.NodeFault.TheVariants as text_fault
@@ -16,7 +16,7 @@ use Rattle.ab_loop.specs.declared.fault.ServeFault.{ServeFault}
 use Rattle.ab_loop.specs.declared.serving.Served.{Served}
 use Rattle.ab_loop.specs.declared.node_setting.NodeSetting.{NodeSetting}
 use Rattle.ab_loop.specs.Cores.{Rules}
-use Rattle.ab_loop.specs.Outside.{Counts, Outside}
+use Rattle.ab_loop.specs.Edges.{Edge}
 use Rattle.ab_loop.specs.Runs.{HasFaultOf, HasServed, Start, start_of}
 use Rattle.ab_member.specs.Replicas.{IsFirstReplica, ReplicaMember, replica_rules}
 use Rattle.ab_member.specs.Clients.{ClientMember, IsFirstClient, client_rules}
@@ -29,15 +29,15 @@ use Rattle.ab_node.specs.declared.stop.Stop.{Stop}
 use Rattle.ab_node.specs.declared.stop.Stop.TheVariants as stop
 use Rattle.ab_node.specs.Timers.{any_counted}
 
--- what a node is asked for, what clock and link tell, what was written and sent before and after it, and the counts of faults
-pub record Meeting : Type 0 where
+-- what a node is asked for, what the clock is to tell, and what becomes of sink and link
+pub record NodeCall : Type 0 where
   pub asked : NodeCommand
-  pub clock : Option Readings
-  pub link : Option (List (List ℕ))
-  pub old : Outside
-  pub new : Outside
-  pub before : Counts
-  pub after : Counts
+  pub clock : ClockState
+  pub old : Edge
+  pub new : Edge
+
+abbrev pub node_call : NodeCommand → ClockState → Edge → Edge → NodeCall
+node_call asked clock old new = record { asked = asked; clock = clock; old = old; new = new }
 
 abbrev pub setting_of : NodeCommand → Party → NodeSetting
 setting_of a me = record { me = me; base = a.base; wait = a.wait; trace = a.trace }
@@ -47,59 +47,59 @@ as_command bytes = record { items = bytes }
 
 -- ---- one party
 
-abbrev pub start_with : {C : Type 0} → Meeting → Party → C → List (List ℕ) → Start C
-start_with x me core commands = start_of (setting_of x.asked me) x.asked.turns core (map as_command commands) x.clock x.link
+abbrev pub start_with : {C : Type 0} → NodeCall → Party → C → List (List ℕ) → Start C
+start_with x me core commands = start_of (setting_of x.asked me) x.asked.turns core (map as_command commands) x.clock x.old.link
 
 -- a core was served, to the end
-abbrev pub CoreServed : {C : Type 0} → Rules C → Party → C → List (List ℕ) → Meeting → Served → Type 0
-CoreServed rules me core commands x served = HasServed rules (start_with x me core commands) x.old x.new x.before x.after served
+abbrev pub CoreServed : {C : Type 0} → Rules C → Party → C → List (List ℕ) → NodeCall → Served → Type 0
+CoreServed rules me core commands x served = HasServed rules (start_with x me core commands) x.old x.new served
 
 -- it was served, and the node stopped for this
-abbrev pub CoreStopped : {C : Type 0} → Rules C → Party → C → List (List ℕ) → Meeting → ServeFault → Type 0
-CoreStopped rules me core commands x why = HasFaultOf rules (start_with x me core commands) x.old x.new x.before x.after why
+abbrev pub CoreStopped : {C : Type 0} → Rules C → Party → C → List (List ℕ) → NodeCall → ServeFault → Type 0
+CoreStopped rules me core commands x why = HasFaultOf rules (start_with x me core commands) x.old x.new why
 
 -- the replica of these keys was served, to the end
-pub record ReplicaServed (proto : Proto Any) (k : PartyKeys) (r : ℕ) (commands : List (List ℕ)) (x : Meeting) (served : Served) : Type 0 where
+pub record ReplicaServed (proto : Proto Any) (k : PartyKeys) (r : ℕ) (commands : List (List ℕ)) (x : NodeCall) (served : Served) : Type 0 where
   pub core : ReplicaMember Any
   pub first : IsFirstReplica proto k r core
   pub run : CoreServed (replica_rules proto any_counted) (Replica r) core commands x served
 
 -- it was served, and the node stopped for this
-pub record ReplicaStopped (proto : Proto Any) (k : PartyKeys) (r : ℕ) (commands : List (List ℕ)) (x : Meeting) (why : ServeFault) : Type 0 where
+pub record ReplicaStopped (proto : Proto Any) (k : PartyKeys) (r : ℕ) (commands : List (List ℕ)) (x : NodeCall) (why : ServeFault) : Type 0 where
   pub core : ReplicaMember Any
   pub first : IsFirstReplica proto k r core
   pub fault : CoreStopped (replica_rules proto any_counted) (Replica r) core commands x why
 
 -- the same of the client of these keys
-pub record ClientServed (k : PartyKeys) (c : ℕ) (commands : List (List ℕ)) (x : Meeting) (served : Served) : Type 0 where
+pub record ClientServed (k : PartyKeys) (c : ℕ) (commands : List (List ℕ)) (x : NodeCall) (served : Served) : Type 0 where
   pub core : ClientMember
   pub first : IsFirstClient k c core
   pub run : CoreServed client_rules (Client c) core commands x served
 
-pub record ClientStopped (k : PartyKeys) (c : ℕ) (commands : List (List ℕ)) (x : Meeting) (why : ServeFault) : Type 0 where
+pub record ClientStopped (k : PartyKeys) (c : ℕ) (commands : List (List ℕ)) (x : NodeCall) (why : ServeFault) : Type 0 where
   pub core : ClientMember
   pub first : IsFirstClient k c core
   pub fault : CoreStopped client_rules (Client c) core commands x why
 
 -- the party of these keys, a replica with the service that they name. What a client does depends on no service
-abbrev pub PartyServed : Party → PartyKeys → List (List ℕ) → Meeting → Served → Type 0
+abbrev pub PartyServed : Party → PartyKeys → List (List ℕ) → NodeCall → Served → Type 0
 PartyServed (Replica r) k commands x served = ReplicaServed (proto_of k.service) k r commands x served
 PartyServed (Client c) k commands x served = ClientServed k c commands x served
 
-abbrev pub PartyStopped : Party → PartyKeys → List (List ℕ) → Meeting → ServeFault → Type 0
+abbrev pub PartyStopped : Party → PartyKeys → List (List ℕ) → NodeCall → ServeFault → Type 0
 PartyStopped (Replica r) k commands x why = ReplicaStopped (proto_of k.service) k r commands x why
 PartyStopped (Client c) k commands x why = ClientStopped k c commands x why
 
 -- ---- by a text
 
 -- the party that the text sets up was served to the end: a client's commands are answered, or a replica's turns are used
-pub record IsServed (text : List ℕ) (x : Meeting) (served : Served) : Type 0 where
+pub record IsServed (text : List ℕ) (x : NodeCall) (served : Served) : Type 0 where
   pub node : NodeText
   pub reads : node_in (lines_of text) ≡ Ok node
   pub run : PartyServed node.keys.me node.keys node.commands x served
 
 -- it was served, and the node stopped for this
-pub record IsStopped (text : List ℕ) (x : Meeting) (why : ServeFault) : Type 0 where
+pub record IsStopped (text : List ℕ) (x : NodeCall) (why : ServeFault) : Type 0 where
   pub node : NodeText
   pub reads : node_in (lines_of text) ≡ Ok node
   pub fault : PartyStopped node.keys.me node.keys node.commands x why
@@ -120,21 +120,20 @@ pub record IsRefused (text : List ℕ) (r : Refusal) : Type 0 where
   pub reads : node_in (lines_of text) ≡ Err fault
   pub refuses : text_refusal fault ≡ Some r
 
--- nothing was written or sent, and no count of link and sink rose
-pub record IsUntouched (x : Meeting) : Type 0 where
-  pub outside : x.new ≡ x.old
-  pub counts : x.after ≡ x.before
+-- sink and link are as before
+abbrev pub IsUntouched : NodeCall → Type 0
+IsUntouched x = x.new ≡ x.old
 
--- when a node stops for each reason: by what was left of the input, and its count of faults
-abbrev pub StopCause : Stop → Option (List ℕ) → ℕ → ℕ → Meeting → Type 0
-StopCause stop.Read left before now x = Rose before now × IsUntouched x
-StopCause stop.TooLong left before now x = IsTooLong left × IsUntouched x
-StopCause (stop.Refused r) left before now x = ((text : List ℕ) × IsInput left text × IsRefused text r) × IsUntouched x
-StopCause (stop.Serving why) left before now x = (text : List ℕ) × IsInput left text × IsStopped text x why
-StopCause stop.OutOfMemory left before now x = IsUntouched x
+-- when a node stops for each reason: by what becomes of the input
+abbrev pub StopCause : Stop → Change SourceState → NodeCall → Type 0
+StopCause stop.Read input x = Rose input.before.faults input.after.faults × IsUntouched x
+StopCause stop.TooLong input x = IsTooLong input.before.left × IsUntouched x
+StopCause (stop.Refused r) input x = ((text : List ℕ) × IsInput input.before.left text × IsRefused text r) × IsUntouched x
+StopCause (stop.Serving why) input x = (text : List ℕ) × IsInput input.before.left text × IsStopped text x why
+StopCause stop.OutOfMemory input x = IsUntouched x
 
 -- the same of a text that is there
-abbrev pub TextCause : Stop → List ℕ → Meeting → Type 0
+abbrev pub TextCause : Stop → List ℕ → NodeCall → Type 0
 TextCause stop.Read text x = ⊥
 TextCause stop.TooLong text x = ⊥
 TextCause (stop.Refused r) text x = IsRefused text r × IsUntouched x
@@ -142,15 +141,15 @@ TextCause (stop.Serving why) text x = IsStopped text x why
 TextCause stop.OutOfMemory text x = IsUntouched x
 
 -- and of a party of which this is said once it is served
-abbrev pub PartyCause : (ServeFault → Type 0) → Meeting → Stop → Type 0
+abbrev pub PartyCause : (ServeFault → Type 0) → NodeCall → Stop → Type 0
 PartyCause HasFault x stop.Read = ⊥
 PartyCause HasFault x stop.TooLong = ⊥
 PartyCause HasFault x (stop.Refused r) = ⊥
 PartyCause HasFault x (stop.Serving why) = HasFault why
 PartyCause HasFault x stop.OutOfMemory = IsUntouched x
 
-abbrev pub ReplicaCause : Proto Any → PartyKeys → ℕ → List (List ℕ) → Meeting → Stop → Type 0
+abbrev pub ReplicaCause : Proto Any → PartyKeys → ℕ → List (List ℕ) → NodeCall → Stop → Type 0
 ReplicaCause proto k r commands x = PartyCause (ReplicaStopped proto k r commands x) x
 
-abbrev pub ClientCause : PartyKeys → ℕ → List (List ℕ) → Meeting → Stop → Type 0
+abbrev pub ClientCause : PartyKeys → ℕ → List (List ℕ) → NodeCall → Stop → Type 0
 ClientCause k c commands x = PartyCause (ClientStopped k c commands x) x

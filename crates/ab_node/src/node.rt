@@ -4,11 +4,13 @@ ghost use Rattle.std.specs.Prelude.{◌≡◌, ◌<◌, ◌≤◌, ◌^◌, ℕ,
 ghost use Rattle.ab_num.specs.declared.party.Party.TheVariants.{Replica as ReplicaParty, Client as ClientParty};
 ghost use Rattle.ab_keys.specs.Keys.{is_party};
 ghost use Rattle.ab_key_text.specs.Keys.{IsWhole};
-ghost use Rattle.ab_loop.specs.Outside.{counts, outside};
+ghost use Rattle.ab_io.specs.States.{change};
+ghost use Rattle.ab_loop.specs.Edges.{edge};
+ghost use Rattle.ab_loop.specs.Nodes.{highest_base};
 ghost use Rattle.ab_msg.specs.Fields.{IsParty};
 ghost use Rattle.ab_replay.specs.Protocols.{any};
 ghost use Rattle.ab_replay.specs.Streams.{IsInput};
-ghost use Rattle.ab_node.specs.Nodes.{ClientCause, ClientServed, CoreServed, CoreStopped, IsServed, ReplicaCause, ReplicaServed, StopCause, TextCause, setting_of, stop_from, text_refusal};
+ghost use Rattle.ab_node.specs.Nodes.{ClientCause, ClientServed, CoreServed, CoreStopped, IsServed, ReplicaCause, ReplicaServed, StopCause, TextCause, node_call, setting_of, stop_from, text_refusal};
 
 use crate::stop::Stop;
 use ab_io::{Clock, Link, Sink, Source};
@@ -25,7 +27,7 @@ use std::alloc::Global;
 /// What the node is told once.
 fn setting_of(asked: &NodeCommand, me: Party) -> NodeSetting
     ensures value { result ≡ setting_of asked.now me }
-    ensures bound { result.base ≤ 65000 }
+    ensures bound { result.base ≤ highest_base }
 {
     NodeSetting {
         me,
@@ -74,24 +76,10 @@ fn serve_core<K: PartyCore, L: Link, C: Clock, O: Sink>(
     out: &mut O,
 ) -> Result<Served, ServeFault>
     requires { IsParty me }
-    ensures ok { IfOk result (CoreServed K.rules me core (map (λ c. c.items) commands) (record {
-      asked = asked.now;
-      clock = C.readings clock.old;
-      link = L.to_come link.old;
-      old = outside (O.contents out.old) (L.sent link.old);
-      new = outside (O.contents out.new) (L.sent link.new);
-      before = counts (L.faults link.old) (O.faults out.old) (L.losses link.old);
-      after = counts (L.faults link.new) (O.faults out.new) (L.losses link.new);
-    })) }
-    ensures cause { IfErr result (CoreStopped K.rules me core (map (λ c. c.items) commands) (record {
-      asked = asked.now;
-      clock = C.readings clock.old;
-      link = L.to_come link.old;
-      old = outside (O.contents out.old) (L.sent link.old);
-      new = outside (O.contents out.new) (L.sent link.new);
-      before = counts (L.faults link.old) (O.faults out.old) (L.losses link.old);
-      after = counts (L.faults link.new) (O.faults out.new) (L.losses link.new);
-    })) }
+    ensures ok { IfOk result (CoreServed K.rules me core (map (λ c. c.items) commands)
+        (node_call asked.now (C.state clock.old) (edge (O.state out.old) (L.state link.old)) (edge (O.state out.new) (L.state link.new)))) }
+    ensures cause { IfErr result (CoreStopped K.rules me core (map (λ c. c.items) commands)
+        (node_call asked.now (C.state clock.old) (edge (O.state out.old) (L.state link.old)) (edge (O.state out.new) (L.state link.new)))) }
 {
     let job = Job {
         core,
@@ -116,24 +104,10 @@ fn serve_replica<S: Service, L: Link, C: Clock, O: Sink>(
     requires whole { IsWhole keys.now }
     requires own { keys.now.me ≡ ReplicaParty me }
     requires party { IsTrue (is_party keys.now.f keys.now.clients keys.now.me) }
-    ensures ok { IfOk result (ReplicaServed (any S.machine) keys.now me (map (λ c. c.items) commands) (record {
-      asked = asked.now;
-      clock = C.readings clock.old;
-      link = L.to_come link.old;
-      old = outside (O.contents out.old) (L.sent link.old);
-      new = outside (O.contents out.new) (L.sent link.new);
-      before = counts (L.faults link.old) (O.faults out.old) (L.losses link.old);
-      after = counts (L.faults link.new) (O.faults out.new) (L.losses link.new);
-    })) }
-    ensures cause { IfErr result (ReplicaCause (any S.machine) keys.now me (map (λ c. c.items) commands) (record {
-      asked = asked.now;
-      clock = C.readings clock.old;
-      link = L.to_come link.old;
-      old = outside (O.contents out.old) (L.sent link.old);
-      new = outside (O.contents out.new) (L.sent link.new);
-      before = counts (L.faults link.old) (O.faults out.old) (L.losses link.old);
-      after = counts (L.faults link.new) (O.faults out.new) (L.losses link.new);
-    })) }
+    ensures ok { IfOk result (ReplicaServed (any S.machine) keys.now me (map (λ c. c.items) commands)
+        (node_call asked.now (C.state clock.old) (edge (O.state out.old) (L.state link.old)) (edge (O.state out.new) (L.state link.new)))) }
+    ensures cause { IfErr result (ReplicaCause (any S.machine) keys.now me (map (λ c. c.items) commands)
+        (node_call asked.now (C.state clock.old) (edge (O.state out.old) (L.state link.old)) (edge (O.state out.new) (L.state link.new)))) }
 {
     let Ok(core) = ReplicaMember::<S, AnyProtocol<S>>::new(alloc, keys, me) else {
         return Err(Stop::OutOfMemory);
@@ -159,24 +133,10 @@ fn serve_client<L: Link, C: Clock, O: Sink>(
     requires whole { IsWhole keys.now }
     requires own { keys.now.me ≡ ClientParty me }
     requires party { IsTrue (is_party keys.now.f keys.now.clients keys.now.me) }
-    ensures ok { IfOk result (ClientServed keys.now me (map (λ c. c.items) commands) (record {
-      asked = asked.now;
-      clock = C.readings clock.old;
-      link = L.to_come link.old;
-      old = outside (O.contents out.old) (L.sent link.old);
-      new = outside (O.contents out.new) (L.sent link.new);
-      before = counts (L.faults link.old) (O.faults out.old) (L.losses link.old);
-      after = counts (L.faults link.new) (O.faults out.new) (L.losses link.new);
-    })) }
-    ensures cause { IfErr result (ClientCause keys.now me (map (λ c. c.items) commands) (record {
-      asked = asked.now;
-      clock = C.readings clock.old;
-      link = L.to_come link.old;
-      old = outside (O.contents out.old) (L.sent link.old);
-      new = outside (O.contents out.new) (L.sent link.new);
-      before = counts (L.faults link.old) (O.faults out.old) (L.losses link.old);
-      after = counts (L.faults link.new) (O.faults out.new) (L.losses link.new);
-    })) }
+    ensures ok { IfOk result (ClientServed keys.now me (map (λ c. c.items) commands)
+        (node_call asked.now (C.state clock.old) (edge (O.state out.old) (L.state link.old)) (edge (O.state out.new) (L.state link.new)))) }
+    ensures cause { IfErr result (ClientCause keys.now me (map (λ c. c.items) commands)
+        (node_call asked.now (C.state clock.old) (edge (O.state out.old) (L.state link.old)) (edge (O.state out.new) (L.state link.new)))) }
 {
     let Ok(core) = ClientMember::new(alloc, keys, me) else {
         return Err(Stop::OutOfMemory);
@@ -198,24 +158,10 @@ fn serve_node<L: Link, C: Clock, O: Sink>(
     out: &mut O,
 ) -> Result<Served, Stop>
     requires { length text.now < 2 ^ 31 }
-    ensures ok { IfOk result (IsServed text.now (record {
-      asked = asked.now;
-      clock = C.readings clock.old;
-      link = L.to_come link.old;
-      old = outside (O.contents out.old) (L.sent link.old);
-      new = outside (O.contents out.new) (L.sent link.new);
-      before = counts (L.faults link.old) (O.faults out.old) (L.losses link.old);
-      after = counts (L.faults link.new) (O.faults out.new) (L.losses link.new);
-    })) }
-    ensures cause { IfErr result (λ stop. TextCause stop text.now (record {
-      asked = asked.now;
-      clock = C.readings clock.old;
-      link = L.to_come link.old;
-      old = outside (O.contents out.old) (L.sent link.old);
-      new = outside (O.contents out.new) (L.sent link.new);
-      before = counts (L.faults link.old) (O.faults out.old) (L.losses link.old);
-      after = counts (L.faults link.new) (O.faults out.new) (L.losses link.new);
-    })) }
+    ensures ok { IfOk result (IsServed text.now
+        (node_call asked.now (C.state clock.old) (edge (O.state out.old) (L.state link.old)) (edge (O.state out.new) (L.state link.new)))) }
+    ensures cause { IfErr result (λ stop. TextCause stop text.now
+        (node_call asked.now (C.state clock.old) (edge (O.state out.old) (L.state link.old)) (edge (O.state out.new) (L.state link.new)))) }
 {
     let (keys, commands) = match read_node(alloc, text) {
         Ok(node) => node,
@@ -244,25 +190,11 @@ pub fn serve_text<I: Source, L: Link, C: Clock, O: Sink>(
     clock: &mut C,
     out: &mut O,
 ) -> Result<Served, Stop>
-    ensures ok { IfOk result (λ served. (text : List ℕ) × IsInput (I.left input.old) text × IsServed text (record {
-      asked = asked.now;
-      clock = C.readings clock.old;
-      link = L.to_come link.old;
-      old = outside (O.contents out.old) (L.sent link.old);
-      new = outside (O.contents out.new) (L.sent link.new);
-      before = counts (L.faults link.old) (O.faults out.old) (L.losses link.old);
-      after = counts (L.faults link.new) (O.faults out.new) (L.losses link.new);
-    }) served) }
-    ensures cause { IfErr result (λ stop. StopCause stop (I.left input.old) (I.faults input.old) (I.faults input.new) (record {
-      asked = asked.now;
-      clock = C.readings clock.old;
-      link = L.to_come link.old;
-      old = outside (O.contents out.old) (L.sent link.old);
-      new = outside (O.contents out.new) (L.sent link.new);
-      before = counts (L.faults link.old) (O.faults out.old) (L.losses link.old);
-      after = counts (L.faults link.new) (O.faults out.new) (L.losses link.new);
-    })) }
-    ensures later { I.faults input.old ≤ I.faults input.new }
+    ensures ok { IfOk result (λ served. (text : List ℕ) × IsInput (I.state input.old).left text × IsServed text
+        (node_call asked.now (C.state clock.old) (edge (O.state out.old) (L.state link.old)) (edge (O.state out.new) (L.state link.new))) served) }
+    ensures cause { IfErr result (λ stop. StopCause stop (change (I.state input.old) (I.state input.new))
+        (node_call asked.now (C.state clock.old) (edge (O.state out.old) (L.state link.old)) (edge (O.state out.new) (L.state link.new)))) }
+    ensures later { (I.state input.old).faults ≤ (I.state input.new).faults }
 {
     match read_all(alloc, input) {
         Err(ReadFault::Failed) => Err(Stop::Read),

@@ -200,9 +200,9 @@ fn simulate(alloc: Global, text: &[u8]) -> Result<Replayed, ReplayFault>
 
 /// The report of the schedule that an input spells.
 pub fn replay<I: Source>(alloc: Global, input: &mut I) -> Result<Replayed, ReplayFault>
-    ensures ok { IfOk result (λ v. (text : List ℕ) × IsInput (I.left input.old) text × Replays text v.report.items v.held) }
-    ensures later { I.faults input.old ≤ I.faults input.new }
-    ensures cause { IfErr result (λ e. ReplayCause e (I.left input.old) (I.faults input.old) (I.faults input.new)) }
+    ensures ok { IfOk result (λ v. (text : List ℕ) × IsInput (I.state input.old).left text × Replays text v.report.items v.held) }
+    ensures later { (I.state input.old).faults ≤ (I.state input.new).faults }
+    ensures cause { IfErr result (λ e. ReplayCause e (I.state input.old).left (I.state input.old).faults (I.state input.new).faults) }
 {
     match read_all(alloc, input) {
         Err(ReadFault::Failed) => Err(ReplayFault::Read),

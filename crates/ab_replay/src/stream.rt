@@ -1,8 +1,7 @@
 //! Whole inputs and outputs.
 
-ghost use Rattle.std.specs.Prelude.{◌<◌, ◌≤◌, length, take, IfOk, IfErr, OnOk, OnErr};
-ghost use Rattle.std.specs.Io.KnownBytes.{Appends};
-ghost use Rattle.ab_replay.specs.Streams.{IsAllOf, ReadCause, WriteCause, AppendsFront, AppendsPart};
+ghost use Rattle.std.specs.Prelude.{◌≤◌, length, IfOk, IfErr};
+ghost use Rattle.ab_replay.specs.Streams.{IsAllOf, ReadCause, Writes, most_bytes};
 
 use ab_io::{Failed, Refused, Sink, Source};
 use std::alloc::Global;
@@ -25,10 +24,10 @@ pub enum WriteFault {
 
 /// Reads an input to its end.
 pub fn read_all<I: Source>(alloc: Global, input: &mut I) -> Result<Vec<u8>, ReadFault>
-    ensures all { IfOk result (λ v. IsAllOf (I.left input.old) v.items) }
-    ensures short { IfOk result (λ v. length v.items ≤ 67108864) }
-    ensures later { I.faults input.old ≤ I.faults input.new }
-    ensures cause { IfErr result (λ e. ReadCause e (I.left input.old) (I.faults input.old) (I.faults input.new)) }
+    ensures all { IfOk result (λ v. IsAllOf (I.state input.old).left v.items) }
+    ensures short { IfOk result (λ v. length v.items ≤ most_bytes) }
+    ensures later { (I.state input.old).faults ≤ (I.state input.new).faults }
+    ensures cause { IfErr result (λ e. ReadCause e (I.state input.old) (I.state input.new)) }
 {
     let mut all = Vec::new(alloc);
     let mut buf = [0u8; 4096];
@@ -49,11 +48,7 @@ pub fn read_all<I: Source>(alloc: Global, input: &mut I) -> Result<Vec<u8>, Read
 
 /// Writes all of the bytes.
 pub fn write_all<K: Sink>(sink: &mut K, bytes: &[u8]) -> Result<(), WriteFault>
-    ensures ok { OnOk result (Appends (K.contents sink.old) (K.contents sink.new) bytes.now) }
-    ensures front { AppendsFront (K.contents sink.old) (K.contents sink.new) bytes.now }
-    ensures part { OnErr result (AppendsPart (K.contents sink.old) (K.contents sink.new) bytes.now) }
-    ensures later { K.faults sink.old ≤ K.faults sink.new }
-    ensures cause { IfErr result (λ e. WriteCause e (K.faults sink.old) (K.faults sink.new)) }
+    ensures { Writes (K.state sink.old) (K.state sink.new) result bytes.now }
 {
     let mut done = 0;
     'writing: while done < bytes.len() {

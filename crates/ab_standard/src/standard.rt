@@ -2,9 +2,9 @@
 
 ghost use Rattle.std.specs.Prelude.{◌≡◌, ◌<◌, ◌≤◌, length, IfErr, IfOk};
 ghost use Rattle.std.specs.Io.KnownBytes.{ReadConsumes, WriteAppends};
-ghost use Rattle.ab_io.specs.Causes.{HasCause, HasRefusalCause};
+ghost use Rattle.ab_io.specs.States.{Puts, Takes};
 ghost use Rattle.ab_io.specs.declared.fault.Refused.TheVariants as refused;
-ghost use Rattle.std.specs.declared.option.Option.TheVariants.{None};
+ghost use Rattle.ab_standard.specs.Streams.{sink_of, source_of};
 
 use ab_io::{Failed, Refused, Sink, Source};
 use std::io::{ErrorKind, Read, Write};
@@ -38,14 +38,13 @@ impl<R> StdSource<R> {
 }
 
 impl<R: Read> Source for StdSource<R> {
-    ghost left = { λ _. None };
+    ghost use Rattle.ab_standard.specs.Streams.{source_of};
 
-    ghost faults = { λ s. s.faults };
+    ghost state = { source_of };
 
     fn take(&mut self, buf: &mut [u8]) -> Result<usize, Failed>
         ensures bound { IfOk result (λ n. n ≤ length buf.new) }
-        ensures bytes { ReadConsumes None None result buf.new }
-        ensures cause { HasCause self.old.faults self.new.faults result }
+        ensures takes { Takes (source_of self.old) (source_of self.new) result buf.new }
         // the reader's own word is kept: its end is its end, and a fault isn't
         ensures reader { ReadConsumes (R.remaining self.old.stream) (R.remaining self.new.stream) result buf.new }
     {
@@ -86,14 +85,13 @@ impl<W> StdSink<W> {
 }
 
 impl<W: Write> Sink for StdSink<W> {
-    ghost contents = { λ _. None };
+    ghost use Rattle.ab_standard.specs.Streams.{sink_of};
 
-    ghost faults = { λ s. s.faults };
+    ghost state = { sink_of };
 
     fn put(&mut self, bytes: &[u8]) -> Result<usize, Refused>
         ensures bound { IfOk result (λ n. (0 < n) × (n ≤ length bytes.now)) }
-        ensures bytes { WriteAppends None None result bytes.now }
-        ensures cause { HasRefusalCause self.old.faults self.new.faults result }
+        ensures puts { Puts (sink_of self.old) (sink_of self.new) result bytes.now }
         ensures refused { IfErr result (λ why. why ≡ refused.Failed) }
         // what the writer says that it took was given to it
         ensures writer { WriteAppends (W.contents self.old.stream) (W.contents self.new.stream) result bytes.now }

@@ -4,7 +4,7 @@ use Rattle.ab_num.specs.declared.party.Party.TheVariants.{Replica}
 use Rattle.ab_loop.specs.declared.party_core.Commit.{Commit}
 use Rattle.ab_loop.specs.Cores.{NodeEvent, invoke, message, timeout, Reaction, Rules}
 use Rattle.ab_msg.specs.Packets.{Packet}
-use Rattle.ab_loop.specs.Outside.{capped}
+use Rattle.ab_loop.specs.Edges.{capped}
 
 pub record Toy : Type 0 where
   pub stamp : ℕ

@@ -1,7 +1,6 @@
 //! A clock in memory.
 
 ghost use Rattle.std.specs.Prelude.{◌≡◌};
-ghost use Rattle.std.specs.declared.option.Option.TheVariants.{Some};
 ghost use Rattle.ab_io.specs.Readings.{last_of};
 
 use crate::clock::Clock;
@@ -42,7 +41,9 @@ impl MemClock {
 }
 
 impl Clock for MemClock {
-    ghost readings = { λ c. Some c };
+    ghost use Rattle.std.specs.declared.option.Option.TheVariants.{Some};
+
+    ghost state = { λ c. record { readings = Some c } };
 
     fn now(&mut self) -> u64 {
         match self.readings.get(self.at) {

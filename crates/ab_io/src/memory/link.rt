@@ -1,10 +1,9 @@
 //! A link in memory.
 
-ghost use Rattle.std.specs.Prelude.{◌≡◌, ◌≤◌, ◌↔◌, [], length, take, map, IsErr, IsErrOf, IsTrue, OnOk, OnErr};
-ghost use Rattle.std.specs.declared.option.Option.TheVariants.{Some};
-ghost use Rattle.ab_io.specs.Causes.{HasCause, HasGotCause, HasRefusalCause};
-ghost use Rattle.ab_io.specs.Datagrams.{FitsIn, Gives, given_of, left_after, with_sent};
-ghost use Rattle.ab_io.specs.Told.{fails_next, one_call};
+ghost use Rattle.std.specs.Prelude.{◌≡◌, ◌≤◌, ◌↔◌, [], length, take, map, IsErr, IsErrOf, IsTrue};
+ghost use Rattle.ab_io.specs.Datagrams.{FitsIn, given_of, longest_datagram};
+ghost use Rattle.ab_io.specs.States.{Opens, Receives, Sends};
+ghost use Rattle.ab_io.specs.Told.{fails_next, link_of, one_call};
 
 use crate::fault::{Failed, Refused};
 use crate::link::{Got, LONGEST_DATAGRAM, Link};
@@ -99,28 +98,21 @@ fn move_front(datagram: &[u8], room: usize, buf: &mut [u8]) -> usize
 /// Puts what is given of a datagram at the front of the buffer.
 #[tactic(auto, unfolding(crate::specs::Datagrams::given_of))]
 fn give(datagram: &[u8], buf: &mut [u8]) -> usize
-    requires { 8209 ≤ length buf.old }
+    requires { longest_datagram ≤ length buf.old }
     ensures count { result ≡ length (given_of datagram.now) }
-    ensures bound { result ≤ 8209 }
+    ensures bound { result ≤ longest_datagram }
     ensures moved { take result buf.new ≡ given_of datagram.now }
 {
     move_front(datagram, LONGEST_DATAGRAM, buf)
 }
 
 impl Link for MemLink {
-    ghost to_come = { λ l. Some l.to_come };
+    ghost use Rattle.ab_io.specs.Told.{link_of};
 
-    ghost sent = { λ l. Some l.sent };
-
-    ghost faults = { λ l. l.faults };
-
-    ghost losses = { λ l. l.losses };
+    ghost state = { link_of };
 
     fn open(&mut self, _port: u16) -> Result<(), Failed>
-        ensures to_come { self.new.to_come ≡ self.old.to_come }
-        ensures sent { self.new.sent ≡ self.old.sent }
-        ensures cause { HasCause self.old.faults self.new.faults result }
-        ensures losses { self.new.losses ≡ self.old.losses }
+        ensures opens { Opens (link_of self.old) (link_of self.new) result }
         ensures fails { IsErr result ↔ IsTrue (fails_next self.old.opens) }
         ensures calls { (self.new.opens ≡ one_call self.old.opens) × (self.new.recvs ≡ self.old.recvs) × (self.new.sends ≡ self.old.sends) }
     {
@@ -132,13 +124,9 @@ impl Link for MemLink {
     }
 
     fn recv(&mut self, buf: &mut [u8], _wait_ms: u32) -> Got
-        requires { 8209 ≤ length buf.old }
-        ensures bound { FitsIn 8209 result }
-        ensures gives { Gives self.old.to_come result buf.new }
-        ensures to_come { Some self.new.to_come ≡ left_after result (Some self.old.to_come) }
-        ensures sent { self.new.sent ≡ self.old.sent }
-        ensures cause { HasGotCause self.old.faults self.new.faults result }
-        ensures losses { self.new.losses ≡ self.old.losses }
+        requires { longest_datagram ≤ length buf.old }
+        ensures bound { FitsIn longest_datagram result }
+        ensures receives { Receives (link_of self.old) (link_of self.new) result buf.new }
         ensures fails { (result ≡ Got.Failed) ↔ IsTrue (fails_next self.old.recvs) }
         ensures calls { (self.new.opens ≡ self.old.opens) × (self.new.recvs ≡ one_call self.old.recvs) × (self.new.sends ≡ self.old.sends) }
     {
@@ -157,11 +145,7 @@ impl Link for MemLink {
     }
 
     fn send(&mut self, port: u16, bytes: &[u8]) -> Result<(), Refused>
-        ensures to_come { self.new.to_come ≡ self.old.to_come }
-        ensures ok { OnOk result (Some self.new.sent ≡ with_sent (Some self.old.sent) port bytes.now) }
-        ensures err { OnErr result (self.new.sent ≡ self.old.sent) }
-        ensures faults { self.new.faults ≡ self.old.faults }
-        ensures cause { HasRefusalCause self.old.losses self.new.losses result }
+        ensures sends { Sends (link_of self.old) (link_of self.new) result port bytes.now }
         ensures fails { IsErrOf result Refused.Failed ↔ IsTrue (fails_next self.old.sends) }
         ensures calls { (self.new.opens ≡ self.old.opens) × (self.new.recvs ≡ self.old.recvs) × (self.new.sends ≡ one_call self.old.sends) }
     {

@@ -1,10 +1,8 @@
 //! A sink in memory.
 
-ghost use Rattle.std.specs.Prelude.{◌≡◌, ◌<◌, ◌≤◌, [], length, IfOk, IsErrOf, IsTrue, ◌↔◌, is_some};
-ghost use Rattle.std.specs.declared.option.Option.TheVariants.{Some};
-ghost use Rattle.std.specs.Io.KnownBytes.{WriteAppends};
-ghost use Rattle.ab_io.specs.Causes.{HasRefusalCause};
-ghost use Rattle.ab_io.specs.Told.{fails_next, one_call};
+ghost use Rattle.std.specs.Prelude.{◌≡◌, ◌<◌, ◌≤◌, [], length, IfOk, IsErrOf, IsTrue, ◌↔◌};
+ghost use Rattle.ab_io.specs.States.{Puts};
+ghost use Rattle.ab_io.specs.Told.{fails_next, one_call, sink_of};
 
 use crate::fault::Refused;
 use crate::memory::calls::{Calls, one_more};
@@ -50,16 +48,14 @@ impl MemSink {
 }
 
 impl Sink for MemSink {
-    ghost contents = { λ s. Some s.bytes };
+    ghost use Rattle.ab_io.specs.Told.{sink_of};
 
-    ghost faults = { λ s. s.faults };
+    ghost state = { sink_of };
 
     fn put(&mut self, bytes: &[u8]) -> Result<usize, Refused>
         requires { 0 < length bytes.now }
         ensures bound { IfOk result (λ n. (0 < n) × (n ≤ length bytes.now)) }
-        ensures told { is_some (Some self.new.bytes) ≡ is_some (Some self.old.bytes) }
-        ensures bytes { WriteAppends (Some self.old.bytes) (Some self.new.bytes) result bytes.now }
-        ensures cause { HasRefusalCause self.old.faults self.new.faults result }
+        ensures puts { Puts (sink_of self.old) (sink_of self.new) result bytes.now }
         ensures fails { IsErrOf result Refused.Failed ↔ IsTrue (fails_next self.old.calls) }
         ensures calls { self.new.calls ≡ one_call self.old.calls }
     {

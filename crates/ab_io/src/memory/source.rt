@@ -1,10 +1,8 @@
 //! A source in memory.
 
-ghost use Rattle.std.specs.Prelude.{◌≡◌, ◌≤◌, length, IsErr, IfOk, IsTrue, ◌↔◌, is_some};
-ghost use Rattle.std.specs.declared.option.Option.TheVariants.{Some};
-ghost use Rattle.std.specs.Io.KnownBytes.{ReadConsumes};
-ghost use Rattle.ab_io.specs.Causes.{HasCause};
-ghost use Rattle.ab_io.specs.Told.{fails_next, one_call};
+ghost use Rattle.std.specs.Prelude.{◌≡◌, ◌≤◌, length, IsErr, IfOk, IsTrue, ◌↔◌};
+ghost use Rattle.ab_io.specs.States.{Takes};
+ghost use Rattle.ab_io.specs.Told.{fails_next, one_call, source_of};
 
 use crate::fault::Failed;
 use crate::memory::calls::{Calls, move_from, one_more};
@@ -47,15 +45,13 @@ impl MemSource {
 }
 
 impl Source for MemSource {
-    ghost left = { λ s. Some s.bytes };
+    ghost use Rattle.ab_io.specs.Told.{source_of};
 
-    ghost faults = { λ s. s.faults };
+    ghost state = { source_of };
 
     fn take(&mut self, buf: &mut [u8]) -> Result<usize, Failed>
         ensures bound { IfOk result (λ n. n ≤ length buf.new) }
-        ensures told { is_some (Some self.new.bytes) ≡ is_some (Some self.old.bytes) }
-        ensures bytes { ReadConsumes (Some self.old.bytes) (Some self.new.bytes) result buf.new }
-        ensures cause { HasCause self.old.faults self.new.faults result }
+        ensures takes { Takes (source_of self.old) (source_of self.new) result buf.new }
         ensures fails { IsErr result ↔ IsTrue (fails_next self.old.calls) }
         ensures calls { self.new.calls ≡ one_call self.old.calls }
     {

@@ -1,9 +1,8 @@
 //! A source and a sink in memory that never fail.
 
-ghost use Rattle.std.specs.Prelude.{◌≡◌, ◌<◌, ◌≤◌, [], length, IfOk, IfErr, IsOk, is_some};
-ghost use Rattle.std.specs.declared.option.Option.TheVariants.{Some};
-ghost use Rattle.std.specs.Io.KnownBytes.{ReadConsumes, WriteAppends};
-ghost use Rattle.ab_io.specs.Causes.{HasCause, HasRefusalCause};
+ghost use Rattle.std.specs.Prelude.{◌≡◌, ◌<◌, ◌≤◌, [], length, IfOk, IfErr, IsOk};
+ghost use Rattle.ab_io.specs.States.{Puts, Takes};
+ghost use Rattle.ab_io.specs.Told.{sure_sink, sure_source};
 
 use crate::fault::{Failed, Refused};
 use crate::memory::calls::move_from;
@@ -40,15 +39,13 @@ impl SureSource {
 }
 
 impl Source for SureSource {
-    ghost left = { λ s. Some s };
+    ghost use Rattle.ab_io.specs.Told.{sure_source};
 
-    ghost faults = { λ _. 0 };
+    ghost state = { sure_source };
 
     fn take(&mut self, buf: &mut [u8]) -> Result<usize, Failed>
         ensures bound { IfOk result (λ n. n ≤ length buf.new) }
-        ensures told { is_some (Some self.new) ≡ is_some (Some self.old) }
-        ensures bytes { ReadConsumes (Some self.old) (Some self.new) result buf.new }
-        ensures cause { HasCause 0 0 result }
+        ensures takes { Takes (sure_source self.old) (sure_source self.new) result buf.new }
         ensures sure { IsOk result }
     {
         let count = move_from(&self.content, self.at, buf);
@@ -91,16 +88,14 @@ impl SureSink {
 }
 
 impl Sink for SureSink {
-    ghost contents = { λ s. Some s };
+    ghost use Rattle.ab_io.specs.Told.{sure_sink};
 
-    ghost faults = { λ _. 0 };
+    ghost state = { sure_sink };
 
     fn put(&mut self, bytes: &[u8]) -> Result<usize, Refused>
         requires { 0 < length bytes.now }
         ensures bound { IfOk result (λ n. (0 < n) × (n ≤ length bytes.now)) }
-        ensures told { is_some (Some self.new) ≡ is_some (Some self.old) }
-        ensures bytes { WriteAppends (Some self.old) (Some self.new) result bytes.now }
-        ensures cause { HasRefusalCause 0 0 result }
+        ensures puts { Puts (sure_sink self.old) (sure_sink self.new) result bytes.now }
         ensures sure { IfErr result (λ why. why ≡ Refused.OutOfMemory) }
     {
         match self.held.extend_from_slice(bytes) {

@@ -13,12 +13,12 @@ returns-in-Ok-Some g c =
 
 pub returns-in-Ok-None : goal.returns-in-Ok-None
 returns-in-Ok-None g c =
-    let out = g.O.Sink.contents c.args.out.now in
+    let out = (g.O.Sink.state c.args.out.now).held in
     let kept : Keeps out out = search rules in
-    record { cause = usage_settled _ c.say_usage.result c.say_usage.ensures (c.in-Ok-None.ensures.none c.in-Ok-None.field-0-is) kept }
+    record { cause = usage_settled _ _ _ c.say_usage.result c.say_usage.ensures (c.in-Ok-None.ensures.none c.in-Ok-None.field-0-is) kept }
 
 pub returns-in-Err : goal.returns-in-Err
 returns-in-Err g c =
-    let out = g.O.Sink.contents c.args.out.now in
+    let out = (g.O.Sink.state c.args.out.now).held in
     let kept : Keeps out out = search rules in
-    record { cause = memory_settled _ c.say_no_memory.result c.say_no_memory.ensures.status kept }
+    record { cause = memory_settled _ _ _ c.say_no_memory.result c.say_no_memory.ensures.status kept }

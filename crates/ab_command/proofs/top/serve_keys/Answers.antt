@@ -4,4 +4,4 @@ use Rattle.ab_command.proofs.top.serve_keys.Goals as goal
 
 pub returns : goal.returns
 returns g c =
-    record { cause = λ words left read_before read_now network asks. keys_told _ c.args.asked.now c.write_or_say.result c.as_slice.result.now c.write_or_say.ensures (c.as_slice.ensures.value ∙ c.in-Ok.ensures) asks }
+    record { cause = λ words input link clock asks. keys_told _ c.args.asked.now c.write_or_say.result c.as_slice.result.now c.write_or_say.ensures (c.as_slice.ensures.value ∙ c.in-Ok.ensures) asks }

@@ -13,4 +13,4 @@ pub returns : goal.returns
 returns g c =
     let stormed = c.in-Ok.stormed in
     let storms = subst (λ (summary : List ℕ). Storms kv_machine kv c.args.asked.now summary stormed.held) (sym c.as_slice.ensures.value) c.in-Ok.ensures.ok in
-    record { cause = λ words left read_before read_now network asks. summary_told _ c.args.asked.now c.write_or_say.result c.done-status.result c.as_slice.result.now stormed.held c.write_or_say.ensures c.done-status.ensures asks storms }
+    record { cause = λ words input link clock asks. summary_told _ c.args.asked.now c.write_or_say.result c.done-status.result c.as_slice.result.now stormed.held c.write_or_say.ensures c.done-status.ensures asks storms }

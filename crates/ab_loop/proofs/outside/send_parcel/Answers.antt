@@ -2,12 +2,13 @@ use Rattle.std.proofs.Common.{◌∙◌, arith}
 use Rattle.ab_loop.proofs.OutsideLemmas.{sent_next, sent_front, same_part, more_lost}
 use Rattle.ab_loop.proofs.outside.send_parcel.Goals as goal
 
-pub returns-in-Err-clause-sends : goal.returns-in-Err-clause-sends
-returns-in-Err-clause-sends g c =
-    same_part _ _ _ c.args.parcel.now c.in-Err.ensures.err (sent_front _ _ c.args.parcel.now c.sending.i c.sending.lost c.sending.invariant.sent)
-
-pub returns-in-Err-clause-losses : goal.returns-in-Err-clause-losses
-returns-in-Err-clause-losses g c = (omega (arith, c.sending.invariant.later, c.in-Err.ensures.losses.0), c.in-Err.ensures.losses.1)
+pub returns-in-Err : goal.returns-in-Err
+returns-in-Err g c = record {
+  sends = same_part _ _ _ c.args.parcel.now c.in-Err.ensures.err (sent_front _ _ c.args.parcel.now c.sending.i c.sending.lost c.sending.invariant.sent);
+  losses = (omega (arith, c.sending.invariant.later, c.in-Err.ensures.losses.0), c.in-Err.ensures.losses.1);
+  faults = c.send_one.ensures.faults ∙ c.sending.invariant.faults;
+  to_come = c.send_one.ensures.to_come ∙ c.sending.invariant.to_come;
+}
 
 pub sending-preserved : goal.sending-preserved
 sending-preserved g c = record {

@@ -4,8 +4,8 @@ use Rattle.ab_replay.proofs.stream.read_all.Given as goal
 
 abbrev pub invariant-reading : goal.invariant-reading
 invariant-reading g l = record {
-  taken : Consumes (g.I.Source.left l.initial.input) (g.I.Source.left l.input) l.all.items;
-  later : g.I.Source.faults l.initial.input ≤ g.I.Source.faults l.input;
+  taken : Consumes (g.I.Source.state l.initial.input).left (g.I.Source.state l.input).left l.all.items;
+  later : (g.I.Source.state l.initial.input).faults ≤ (g.I.Source.state l.input).faults;
 }
 
 abbrev pub decreases-reading : goal.decreases-reading

@@ -5,7 +5,7 @@ use Rattle.ab_replay.proofs.stream.write_all.Goals as goal
 
 pub writing-preserved : goal.writing-preserved
 writing-preserved g c = record {
-  added = appends_next _ _ _ c.args.bytes.now _ c.writing.done c.in-Ok.count (take_rest c.args.bytes.now c.writing.done) c.writing.invariant.added c.in-Ok.ensures.bytes;
+  added = appends_next _ _ _ c.args.bytes.now _ c.writing.done c.in-Ok.count (take_rest c.args.bytes.now c.writing.done) c.writing.invariant.added c.in-Ok.ensures.puts.adds;
   within = search (rules, length-drop);
-  later = omega (arith, c.in-Ok.ensures.cause.later, c.writing.invariant.later);
+  later = omega (arith, c.in-Ok.ensures.puts.later, c.writing.invariant.later);
 }

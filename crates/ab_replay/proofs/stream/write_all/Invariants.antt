@@ -4,9 +4,9 @@ use Rattle.ab_replay.proofs.stream.write_all.Given as goal
 
 abbrev pub invariant-writing : goal.invariant-writing
 invariant-writing g l = record {
-  added : Appends (g.K.Sink.contents l.initial.sink) (g.K.Sink.contents l.sink) (take l.done l.bytes);
+  added : Appends (g.K.Sink.state l.initial.sink).held (g.K.Sink.state l.sink).held (take l.done l.bytes);
   within : l.done ≤ length l.bytes;
-  later : g.K.Sink.faults l.initial.sink ≤ g.K.Sink.faults l.sink;
+  later : (g.K.Sink.state l.initial.sink).faults ≤ (g.K.Sink.state l.sink).faults;
 }
 
 abbrev pub decreases-writing : goal.decreases-writing

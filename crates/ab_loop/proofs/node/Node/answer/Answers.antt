@@ -4,11 +4,11 @@ use Rattle.ab_loop.proofs.node.Node.answer.Goals as goal
 
 pub returns-in-Ok-clause-follows : goal.returns-in-Ok-clause-follows
 returns-in-Ok-clause-follows g c =
-    replies _ _ _ c.args.self.now _ _ c.in-Some.commit _ _ _ _ _ _ _ _ _ c.ask.result c.in-Some.ensures.0 c.in-Some.ensures.1 c.in-Ok.ensures.says c.in-Ok.ensures.counted c.ask.ensures.follows
+    replies _ _ _ c.args.self.now _ _ c.in-Some.commit _ _ _ _ c.ask.result c.in-Some.ensures.0 c.in-Some.ensures.1 c.in-Ok.ensures.says c.in-Ok.ensures.counted c.ask.ensures.follows
 
 pub returns-in-Err-clause-follows : goal.returns-in-Err-clause-follows
 returns-in-Err-clause-follows g c =
-    reply_fails _ _ _ c.args.self.now _ c.in-Some.commit _ _ _ _ _ _ _ c.in-Err.fault c.in-Some.ensures.0 c.in-Err.ensures.says c.in-Err.ensures.counted.0 c.in-Err.ensures.counted.1
+    reply_fails _ _ _ c.args.self.now _ c.in-Some.commit _ _ _ c.in-Err.fault c.in-Some.ensures.0 c.in-Err.ensures.says c.in-Err.ensures.counted.0 c.in-Err.ensures.counted.1
 
 pub returns-in-None-clause-follows : goal.returns-in-None-clause-follows
-returns-in-None-clause-follows g c = follows_is _ _ _ _ _ _ _ _ (reply_step_none _ _ _ _ c.in-None.ensures.0) (follows_stays _ _ _ _ c.in-None.ensures.1)
+returns-in-None-clause-follows g c = follows_is _ _ _ _ _ _ (reply_step_none _ _ _ _ c.in-None.ensures.0) (follows_stays _ _ _ c.in-None.ensures.1)

@@ -1,5 +1,6 @@
 use Rattle.std.proofs.Common.{List, ◌∙◌, subst}
-use Rattle.ab_loop.specs.Outside.{Datagram, Sends}
+use Rattle.ab_io.specs.Datagrams.{Datagram}
+use Rattle.ab_loop.specs.Edges.{Sends}
 use Rattle.ab_loop.specs.Nodes.{event_step, datagrams_in}
 use Rattle.ab_loop.proofs.FollowsLemmas.{on_ok, line_part, line_alone, line_failed, line_then_sends, line_then_counts, want_memory}
 use Rattle.ab_loop.proofs.node.Node.handle.Goals as goal
@@ -9,7 +10,7 @@ unfolding event_step
 returns-in-Err-clause-follows g c = record {
   node = tt;
   did = line_part _ _ _ _ _ c.in-Err.ensures.says;
-  counted = line_failed _ _ _ _ c.in-Err.fault c.in-Err.ensures.counted.0 c.in-Err.ensures.counted.1;
+  counted = line_failed _ _ _ c.in-Err.fault c.in-Err.ensures.counted.0 c.in-Err.ensures.counted.1;
 }
 
 pub returns-in-Ok-clause-follows : goal.returns-in-Ok-clause-follows
@@ -17,9 +18,9 @@ unfolding event_step
 returns-in-Ok-clause-follows g c = record {
   node = on_ok c.send_all.result c.in-Ok.ensures.node;
   did = line_then_sends _ _ _ _ _ _ c.send_all.result c.in_default.ensures.says
-      (subst (λ (ps : List (List Datagram)). Sends (g.L.Link.sent c.args.link.now) (g.L.Link.sent c.send_all.new.link) (datagrams_in ps) c.send_all.result)
+      (subst (λ (ps : List (List Datagram)). Sends (g.L.Link.state c.args.link.now).sent (g.L.Link.state c.send_all.new.link).sent (datagrams_in ps) c.send_all.result)
       (c.as_slice.ensures.value ∙ c.in-Ok.ensures.sends) c.send_all.ensures.sends);
-  counted = line_then_counts _ _ _ _ _ _ c.send_all.result c.in_default.ensures.counted c.send_all.ensures.faults c.send_all.ensures.losses;
+  counted = line_then_counts _ _ _ _ c.send_all.result c.in_default.ensures.counted c.send_all.ensures.faults c.send_all.ensures.losses;
 }
 
 pub returns-in-Err-react-clause-follows : goal.returns-in-Err-react-clause-follows
@@ -27,5 +28,5 @@ unfolding event_step
 returns-in-Err-react-clause-follows g c = record {
   node = tt;
   did = line_alone _ _ _ _ _ c.in_default.ensures.says;
-  counted = want_memory _ _ _ _ c.in_default.ensures.counted;
+  counted = want_memory _ _ _ c.in_default.ensures.counted;
 }

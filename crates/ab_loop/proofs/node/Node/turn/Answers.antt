@@ -10,7 +10,7 @@ returns-in-Ok-answer g c =
       got = c.in-Ok-take.ensures.got;
       next = subst (λ (k : Option (List (List ℕ))). IfSome k (λ datagrams. IsNext datagrams c.in-Ok-take.ensures.got)) c.time.ensures.to_come c.in-Ok-take.ensures.next;
       left = c.answer.ensures.to_come ∙ c.in-Ok-take.ensures.left ∙ ap (left_by c.in-Ok-take.ensures.got) c.time.ensures.to_come;
-      follows = turn_done _ _ _ _ c.args.self.now _ _ _ _ _ _ _ _ _ _ _ c.in-Ok.first c.in-Ok-take.second c.in-Ok-answer.third _ _
+      follows = turn_done _ _ _ _ c.args.self.now _ _ _ _ _ _ _ c.in-Ok.first c.in-Ok-take.second c.in-Ok-answer.third _ _
           c.saturating_add.ensures c.saturating_add-in-Ok-answer.ensures c.in-Ok.ensures.follows c.in-Ok-take.ensures.follows c.in-Ok-answer.ensures.follows;
     }
 
@@ -20,7 +20,7 @@ returns-in-Err-answer g c =
       got = c.in-Ok-take.ensures.got;
       next = subst (λ (k : Option (List (List ℕ))). IfSome k (λ datagrams. IsNext datagrams c.in-Ok-take.ensures.got)) c.time.ensures.to_come c.in-Ok-take.ensures.next;
       left = tt;
-      follows = turn_answer_fails _ _ _ _ c.args.self.now _ _ _ _ _ _ _ _ _ _ _ c.in-Ok.first c.in-Ok-take.second c.in-Err-answer.fault
+      follows = turn_answer_fails _ _ _ _ c.args.self.now _ _ _ _ _ _ _ c.in-Ok.first c.in-Ok-take.second c.in-Err-answer.fault
           c.in-Ok.ensures.follows c.in-Ok-take.ensures.follows c.in-Err-answer.ensures.follows;
     }
 
@@ -30,14 +30,14 @@ returns-in-Err-take g c =
       got = c.in-Err-take.ensures.got;
       next = subst (λ (k : Option (List (List ℕ))). IfSome k (λ datagrams. IsNext datagrams c.in-Err-take.ensures.got)) c.time.ensures.to_come c.in-Err-take.ensures.next;
       left = tt;
-      follows = turn_take_fails _ _ _ _ c.args.self.now _ _ _ _ _ _ _ _ c.in-Ok.first c.in-Err-take.fault c.in-Ok.ensures.follows c.in-Err-take.ensures.follows;
+      follows = turn_take_fails _ _ _ _ c.args.self.now _ _ _ _ _ c.in-Ok.first c.in-Err-take.fault c.in-Ok.ensures.follows c.in-Err-take.ensures.follows;
     }
 
 pub returns-in-Err : goal.returns-in-Err
 returns-in-Err g c =
     record {
-      got = next_of (g.L.Link.to_come c.args.link.now);
-      next = next_is (g.L.Link.to_come c.args.link.now);
+      got = next_of (g.L.Link.state c.args.link.now).to_come;
+      next = next_is (g.L.Link.state c.args.link.now).to_come;
       left = tt;
-      follows = turn_time_fails _ _ _ _ c.args.self.now _ _ _ _ _ c.in-Err.fault c.in-Err.ensures.follows;
+      follows = turn_time_fails _ _ _ _ c.args.self.now _ _ _ c.in-Err.fault c.in-Err.ensures.follows;
     }

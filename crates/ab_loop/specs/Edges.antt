@@ -3,16 +3,14 @@ use Rattle.std.specs.Prelude.{◌≡◌, ℕ, ◌+◌, ◌-◌, ◌^◌, ◌≤�
 use Rattle.std.specs.Option.{option_map}
 use Rattle.std.specs.List.{count_by}
 use Rattle.ab_io.specs.Causes.{Rose}
+use Rattle.ab_io.specs.Datagrams.{Datagram}
+use Rattle.ab_io.specs.States.{LinkState, SinkState}
 use Rattle.ab_loop.specs.declared.fault.ServeFault.{ServeFault}
 use Rattle.ab_loop.specs.declared.fault.ServeFault.TheVariants as fault
 
 -- a number that stops at the last one
 abbrev pub capped : ℕ → ℕ
 capped n = min n (2 ^ 64 - 1)
-
--- to a port
-abbrev pub Datagram : Type 0
-Datagram = ℕ × List ℕ
 
 -- text for out, and datagrams for send
 pub record Effects : Type 0 where
@@ -31,13 +29,13 @@ sending datagrams = record { text = []; datagrams = datagrams }
 abbrev pub both : Effects → Effects → Effects
 both a b = record { text = a.text ++ b.text; datagrams = a.datagrams ++ b.datagrams }
 
--- what out holds and what was sent, where these are told
-pub record Outside : Type 0 where
-  pub held : Option (List ℕ)
-  pub sent : Option (List Datagram)
+-- what a node touches: the states of out and of the link
+pub record Edge : Type 0 where
+  pub out : SinkState
+  pub link : LinkState
 
-abbrev pub outside : Option (List ℕ) → Option (List Datagram) → Outside
-outside held sent = record { held = held; sent = sent }
+abbrev pub edge : SinkState → LinkState → Edge
+edge out link = record { out = out; link = link }
 
 -- what is known, and more behind it
 abbrev pub grown : {X : Type 0} → Option (List X) → List X → Option (List X)
@@ -50,19 +48,19 @@ those_gone (w ∷ went) [] = []
 those_gone (w ∷ went) (d ∷ ds) = if w then d ∷ those_gone went ds else those_gone went ds
 
 -- the text was written and each datagram was handed over once: it went, or it was lost
-pub record Did (old new : Outside) (e : Effects) (went : List Bool) : Type 0 where
+pub record Did (old new : Edge) (e : Effects) (went : List Bool) : Type 0 where
   pub each : length went ≡ length e.datagrams
-  pub wrote : new.held ≡ grown old.held e.text
-  pub sent : new.sent ≡ grown old.sent (those_gone went e.datagrams)
+  pub wrote : new.out.held ≡ grown old.out.held e.text
+  pub sent : new.link.sent ≡ grown old.link.sent (those_gone went e.datagrams)
 
 -- all of it was done, and so many datagrams were lost
-pub record DidAll (old new : Outside) (e : Effects) (lost : ℕ) : Type 0 where
+pub record DidAll (old new : Edge) (e : Effects) (lost : ℕ) : Type 0 where
   pub went : List Bool
   pub did : Did old new e went
   pub lost_are : lost ≡ capped (count_by not went)
 
 -- a front of it was done
-pub record DidPart (old new : Outside) (e : Effects) : Type 0 where
+pub record DidPart (old new : Edge) (e : Effects) : Type 0 where
   pub done : Effects
   pub left : Effects
   pub went : List Bool
@@ -70,34 +68,25 @@ pub record DidPart (old new : Outside) (e : Effects) : Type 0 where
   pub did : Did old new done went
 
 -- all of it, or after a fault a front of it
-abbrev pub Does : {E : Type 0} → Outside → Outside → Effects → Result ℕ E → Type 0
+abbrev pub Does : {E : Type 0} → Edge → Edge → Effects → Result ℕ E → Type 0
 Does old new e (Ok lost) = DidAll old new e lost
 Does old new e (Err why) = DidPart old new e
 
--- the counts of faults of link and out, and of losses
-pub record Counts : Type 0 where
-  pub link : ℕ
-  pub out : ℕ
-  pub losses : ℕ
-
-abbrev pub counts : ℕ → ℕ → ℕ → Counts
-counts link out losses = record { link = link; out = out; losses = losses }
-
 -- why a fault was answered
-abbrev pub FaultCause : ServeFault → Counts → Counts → Type 0
-FaultCause fault.LinkFailed old new = Rose old.link new.link
-FaultCause fault.WriteFailed old new = Rose old.out new.out
+abbrev pub FaultCause : ServeFault → Edge → Edge → Type 0
+FaultCause fault.LinkFailed old new = Rose old.link.faults new.link.faults
+FaultCause fault.WriteFailed old new = Rose old.out.faults new.out.faults
 FaultCause fault.OutOfMemory old new = ⊤
 FaultCause (fault.TurnsSpent n) old new = ⊥
 
--- no count falls, and that of losses rises with each that is lost, as far as it can
-pub record Rises (old new : Counts) (lost : ℕ) : Type 0 where
-  pub link : old.link ≤ new.link
-  pub out : old.out ≤ new.out
-  pub later : old.losses ≤ new.losses
-  pub losses : min (old.losses + lost) (2 ^ 64 - 1) ≤ new.losses
+-- no count of faults falls, and that of losses rises with each that is lost, as far as it can
+pub record Rises (old new : Edge) (lost : ℕ) : Type 0 where
+  pub link : old.link.faults ≤ new.link.faults
+  pub out : old.out.faults ≤ new.out.faults
+  pub later : old.link.losses ≤ new.link.losses
+  pub losses : min (old.link.losses + lost) (2 ^ 64 - 1) ≤ new.link.losses
 
-abbrev pub Counted : Counts → Counts → Result ℕ ServeFault → Type 0
+abbrev pub Counted : Edge → Edge → Result ℕ ServeFault → Type 0
 Counted old new (Ok lost) = Rises old new lost
 Counted old new (Err why) = Rises old new 0 × FaultCause why old new
 
@@ -120,6 +109,11 @@ SayFault (fault.TurnsSpent n) old new = ⊥
 abbrev pub SayCause : {T : Type 0} → ℕ → ℕ → Result T ServeFault → Type 0
 SayCause old new (Ok t) = old ≤ new
 SayCause old new (Err why) = (old ≤ new) × SayFault why old new
+
+-- it was written to a sink
+pub record Tells {T : Type 0} (old new : SinkState) (text : List ℕ) (result : Result T ServeFault) : Type 0 where
+  pub says : Says old.held new.held text result
+  pub counted : SayCause old.faults new.faults result
 
 -- each datagram was handed over, so many were lost
 pub record SentAll (old new : Option (List Datagram)) (ds : List Datagram) (lost : ℕ) : Type 0 where
@@ -150,3 +144,10 @@ SendFault (fault.TurnsSpent n) = ⊥
 abbrev pub SendCause : ℕ → ℕ → Result ℕ ServeFault → Type 0
 SendCause old new (Ok lost) = (old ≤ new) × (min (old + lost) (2 ^ 64 - 1) ≤ new)
 SendCause old new (Err why) = (old ≤ new) × SendFault why
+
+-- datagrams were handed to a link, and none came by that
+pub record Hands (old new : LinkState) (ds : List Datagram) (result : Result ℕ ServeFault) : Type 0 where
+  pub sends : Sends old.sent new.sent ds result
+  pub losses : SendCause old.losses new.losses result
+  pub faults : new.faults ≡ old.faults
+  pub to_come : new.to_come ≡ old.to_come
