@@ -4,6 +4,8 @@ pub mod CommandLemmas
 pub mod WritingLemmas
 pub mod SpelledLemmas
 pub mod RoundLemmas
+pub mod ReadLemmas
+pub mod FirstLemmas
 pub mod FeedLemmas
 pub mod WholeLemmas
 pub mod FormLemmas

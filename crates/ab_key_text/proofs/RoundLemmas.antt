@@ -31,28 +31,28 @@ Rest = List (List ℕ)
 abbrev Head : Type 0
 Head = Result (KeyLines × Rest) NodeFault
 
-abbrev setting : Party → ℕ → ℕ → Plan → ServiceName → Height → KeyLines
+abbrev pub setting : Party → ℕ → ℕ → Plan → ServiceName → Height → KeyLines
 setting me f c p v h = record { me = me; f = f; clients = c; plan = p; service = v; lms = h }
 
-abbrev from7 : Party → ℕ → ℕ → Plan → ServiceName → Rest → Head
+abbrev pub from7 : Party → ℕ → ℕ → Plan → ServiceName → Rest → Head
 from7 me f c p v ls = line_at (spelled_in lms_line heights) 7 ls >>= λ (x : Height × Rest). Ok (setting me f c p v x.0, x.1)
 
-abbrev from6 : Party → ℕ → ℕ → Plan → Rest → Head
+abbrev pub from6 : Party → ℕ → ℕ → Plan → Rest → Head
 from6 me f c p ls = line_at (spelled_in service_line services) 6 ls >>= λ (x : ServiceName × Rest). from7 me f c p x.0 x.1
 
-abbrev from5 : Party → ℕ → ℕ → Rest → Head
+abbrev pub from5 : Party → ℕ → ℕ → Rest → Head
 from5 me f c ls = line_at (spelled_in plan_line plans) 5 ls >>= λ (x : Plan × Rest). from6 me f c x.0 x.1
 
-abbrev inside : Party → ℕ → ℕ → Rest → Head
+abbrev pub inside : Party → ℕ → ℕ → Rest → Head
 inside me f c ls = member f c me >>= λ (x : Unit {0}). from5 me f c ls
 
-abbrev from4 : Party → ℕ → Rest → Head
+abbrev pub from4 : Party → ℕ → Rest → Head
 from4 me f ls = line_at (number_in (codes "clients ") 1 16) 4 ls >>= λ (x : ℕ × Rest). inside me f x.0 x.1
 
-abbrev from3 : Party → Rest → Head
+abbrev pub from3 : Party → Rest → Head
 from3 me ls = line_at (number_in (codes "f ") 1 2) 3 ls >>= λ (x : ℕ × Rest). from4 me x.0 x.1
 
-abbrev from2 : Rest → Head
+abbrev pub from2 : Rest → Head
 from2 ls = line_at (λ l. option_and_then party_in (stripped (codes "party ") l)) 2 ls >>= λ (x : Party × Rest). from3 x.0 x.1
 
 small : (f clients : ℕ) (p : Party) → IsInBounds f clients → IsTrue (is_party f clients p) → IsSmall p

@@ -20,7 +20,7 @@ abbrev Lines : Type 0
 Lines = List (List ℕ)
 
 -- what came of two readings in a row came of each
-bound : {A B : Type 0} (r : Result A NodeFault) (f : A → Result B NodeFault) (b : B) → (r >>= f) ≡ Ok b → (a : A) × (r ≡ Ok a) × (f a ≡ Ok b)
+pub bound : {A B : Type 0} (r : Result A NodeFault) (f : A → Result B NodeFault) (b : B) → (r >>= f) ≡ Ok b → (a : A) × (r ≡ Ok a) × (f a ≡ Ok b)
 bound (Ok a) f b e = (a, refl, e)
 bound (Err fault) f b e = let T = Unit {0} in cc
 

@@ -1,16 +1,17 @@
 -- The text that sets up a node: the keys of its party, then a client's commands, then the end.
-use Rattle.std.specs.Prelude.{ℕ, ◌+◌, List, [], ◌∷◌, ◌++◌, Bool, Option, None, Some, Result, Err, codes, length, ◌&&◌, nat_le, if◌then◌else◌}
+use Rattle.std.specs.Prelude.{◌≡◌, ℕ, ◌+◌, List, [], ◌∷◌, ◌++◌, map, Bool, IsTrue, Option, None, Some, Result, Err, codes, length, ◌&&◌, nat_le, if◌then◌else◌}
 use Rattle.std.specs.Str.{bytes_eq}
-use Rattle.std.specs.List.{list_all}
+use Rattle.std.specs.List.{AllByRecursion, list_all}
 use Rattle.std.specs.Option.{option_and_then}
 use Rattle.ab_num.specs.declared.party.Party.{Party}
 use Rattle.ab_num.specs.declared.party.Party.TheVariants.{Replica, Client}
 use Rattle.ab_text.specs.Heads.{stripped}
 use Rattle.ab_key_text.specs.declared.fault.NodeFault.{NodeFault}
 use Rattle.ab_key_text.specs.declared.fault.NodeFault.TheVariants.{NoEnd}
-use Rattle.ab_key_text.specs.Keys.{PartyKeys}
+use Rattle.ab_key_text.specs.Keys.{PartyKeys, IsPartyKeys}
 use Rattle.ab_key_text.specs.Lines.{◌>>=◌, found_at}
 use Rattle.ab_key_text.specs.Reading.{keys_at, ended}
+use Rattle.ab_key_text.specs.Spelling.{key_lines}
 
 -- the keys of a node's party, and the commands that it makes
 pub record NodeText : Type 0 where
@@ -44,6 +45,25 @@ commands_at node n [] = Err (NoEnd n)
 commands_at node n (l ∷ ls) =
     if bytes_eq l (codes "end") then ended node (n + 1) ls
     else found_at n ls (command_in node.keys.me l) >>= λ x. commands_at (with_command node x.0) (n + 1) ls
+
+-- ---- spelled
+
+abbrev pub command_line : List ℕ → List ℕ
+command_line command = codes "do " ++ command
+
+abbrev pub node_lines : NodeText → List (List ℕ)
+node_lines node = key_lines node.keys ++ (map command_line node.commands ++ codes "end" ∷ [])
+
+abbrev pub AreCommandsOf : Party → List (List ℕ) → Type 0
+AreCommandsOf (Replica r) commands = commands ≡ []
+AreCommandsOf (Client c) commands = AllByRecursion (λ command. IsTrue (is_command command)) commands
+
+-- keys in form, and commands of a client
+pub record IsNodeText (node : NodeText) : Type 0 where
+  pub keys : IsPartyKeys node.keys
+  pub commands : AreCommandsOf node.keys.me node.commands
+
+-- ---- read
 
 -- what the lines of a node's text give
 unfoldable pub node_in : List (List ℕ) → Result NodeText NodeFault

@@ -19,7 +19,10 @@ mod writing;
 pub use fault::{KeyFault, NodeFault};
 pub use hex_bytes::bytes_in;
 pub use keys::PartyKeys;
-pub use laws::{derived_keys_are_in_form, keys_are_whole, spelled_is_read, written_is_read};
+pub use laws::{
+    derived_keys_are_in_form, fault_is_first, keys_are_whole, read_is_spelled, spelled_is_read,
+    spelled_nodes_are_read, written_is_read,
+};
 pub use node::{Commands, read_node};
 pub use parts::party_in;
 pub use secret::Secret;
