@@ -1,8 +1,10 @@
-//! Tests of a replica, of a client, of setups, and of members as nodes drive them: apart from their crates, so that none is proved once more.
+//! Tests of a replica, of a client, of setups, of what a world keeps, and of members as nodes drive them: apart from their crates, so that none is proved once more.
 #![tactic(auto)]
 
 #[cfg(test)]
 mod clients;
+#[cfg(test)]
+mod kept;
 #[cfg(test)]
 mod members;
 #[cfg(test)]

@@ -1,4 +1,8 @@
 -- Lemmas of this crate.
+pub mod LookLemmas
+pub mod ClaimLemmas
+pub mod StatingLemmas
+mod Kept
 pub mod Looks
 pub mod Watches
 pub mod Lines

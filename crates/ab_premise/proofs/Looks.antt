@@ -1,6 +1,6 @@
 -- What is looked at in an event is what the run then has.
 use Rattle.std.proofs.Common.{◌≡◌, ℕ, ◌+◌, ◌<◌, ◌≤◌, ◌⊎◌, true, false, Bool, Some, None, Option, List, [], ◌∷◌, ◌++◌, length, map, refl, sym, ap, ◌∙◌, subst, inl, inr, arith, append-nil, true≢false}
-use Rattle.std.specs.Prelude.{Contains, nat_le, nat_lt, ◌==◌, ◌&&◌, if◌then◌else◌}
+use Rattle.std.specs.Prelude.{Contains, flat_map, nat_le, nat_lt, ◌==◌, ◌&&◌, if◌then◌else◌}
 use mathlib.Core.List.{IsPrefix}
 use Rattle.std.proofs.lemmas.Bool.{cases_Bool, cases_eq, and_parts, eq-eqb, eqb-true, leb-true, ltb-true}
 use Rattle.std.proofs.lemmas.Grind.{flat_map-append}
@@ -13,7 +13,10 @@ use Rattle.ab_hist.specs.declared.request.Request.{Request}
 use Rattle.ab_msg.specs.declared.signed.Signed.{Signed}
 use Rattle.ab_msg.specs.declared.message.Msg.{Msg}
 use Rattle.ab_msg.specs.declared.message.Msg.TheVariants as msg
-use Rattle.ab_msg.specs.Claims.{instance_in, maker_of}
+use Rattle.ab_msg.specs.declared.value.Value.{Value}
+use Rattle.ab_msg.specs.declared.value.Value.TheVariants as value
+use Rattle.ab_msg.specs.Carried.{stated_history, stated_request, value_histories, value_requests, values_in}
+use Rattle.ab_msg.specs.Claims.{claims, instance_in, maker_of}
 use Rattle.ab_abs.specs.Faults.{is_faulty}
 use Rattle.ab_abs.specs.Acts.{with_first}
 use Rattle.ab_abs.specs.Messages.{Call, took, timed}
@@ -31,7 +34,7 @@ use Rattle.ab_run.specs.Local.{after_turns, rep_after, cue_command, cue_message,
 use Rattle.ab_run.specs.Stages.{had_in_turns, had_in_call, call_histories, call_requests}
 use Rattle.ab_run.proofs.Effects.{at_call, at_cue, called, reps_apart}
 use Rattle.ab_run.proofs.Shown.{grown, followed}
-use Rattle.ab_premise.specs.Collisions.{checked_items, entered_items, first_items, known_of, state_items, call_items, client_items, items_of}
+use Rattle.ab_premise.specs.Collisions.{checked_items, content_items, message_items, value_items, entered_items, first_items, known_of, state_items, call_items, client_items, items_of}
 
 -- ---- the turns of an event
 
@@ -269,26 +272,87 @@ module _ {P : Type 0} (k : RunSetup) (proto : Proto P) where
 
 -- ---- what items hold
 
-requests_none : (hs : List (List Request)) (ms : List Request) → requests_of (checked_items hs ms) ≡ ms
-requests_none [] [] = refl
-requests_none [] (m ∷ ms) = ap (λ l. m ∷ l) (requests_none [] ms)
-requests_none (h ∷ hs) ms = requests_none hs ms
+-- such items, each from its first entry on, hold these histories and requests
+pub record Holds (items : List Item) (hs : List (List Request)) (ms : List Request) : Type 0 where
+  pub histories : histories_of items ≡ hs
+  pub requests : requests_of items ≡ ms
+  pub begins : (had : List (List Request)) (item : Item) → Contains items item → BeginsIn had item
 
-histories_all : (hs : List (List Request)) (ms : List Request) → histories_of (checked_items hs ms) ≡ hs
-histories_all [] [] = refl
-histories_all [] (m ∷ ms) = histories_all [] ms
-histories_all (h ∷ hs) ms = ap (λ l. h ∷ l) (histories_all hs ms)
+abbrev plain : List (List Request) → List Request → List Item
+plain hs ms = map (λ h. history h 0) hs ++ map request ms
 
-checked_begin : (had hs : List (List Request)) (ms : List Request) (item : Item) → Contains (checked_items hs ms) item → BeginsIn had item
-checked_begin had [] [] item gone = absurd (omega (arith, gone.1))
-checked_begin had [] (m ∷ ms) item has = elim (Contains-cons_cases (request m) (map request ms) item has) [
+plain_requests : (hs : List (List Request)) (ms : List Request) → requests_of (plain hs ms) ≡ ms
+plain_requests [] [] = refl
+plain_requests [] (m ∷ ms) = ap (λ l. m ∷ l) (plain_requests [] ms)
+plain_requests (h ∷ hs) ms = plain_requests hs ms
+
+plain_histories : (hs : List (List Request)) (ms : List Request) → histories_of (plain hs ms) ≡ hs
+plain_histories [] [] = refl
+plain_histories [] (m ∷ ms) = plain_histories [] ms
+plain_histories (h ∷ hs) ms = ap (λ l. h ∷ l) (plain_histories hs ms)
+
+plain_begin : (had hs : List (List Request)) (ms : List Request) (item : Item) → Contains (plain hs ms) item → BeginsIn had item
+plain_begin had [] [] item gone = absurd (omega (arith, gone.1))
+plain_begin had [] (m ∷ ms) item has = elim (Contains-cons_cases (request m) (map request ms) item has) [
   | inl e ↦ subst (BeginsIn had) e tt
-  | inr more ↦ checked_begin had [] ms item more
+  | inr more ↦ plain_begin had [] ms item more
 ]
-checked_begin had (h ∷ hs) ms item has = elim (Contains-cons_cases (history h 0) (checked_items hs ms) item has) [
+plain_begin had (h ∷ hs) ms item has = elim (Contains-cons_cases (history h 0) (plain hs ms) item has) [
   | inl e ↦ subst (BeginsIn had) e (λ some. absurd (omega (arith, some)))
-  | inr more ↦ checked_begin had hs ms item more
+  | inr more ↦ plain_begin had hs ms item more
 ]
+
+-- items of several things, one after the other
+module _ {A : Type 0} (items : A → List Item) where
+  each_histories : (hs : A → List (List Request)) → ((a : A) → histories_of (items a) ≡ hs a) → (xs : List A) → histories_of (flat_map items xs) ≡ flat_map hs xs
+  each_histories hs one [] = refl
+  each_histories hs one (x ∷ xs) = flat_map-append item_histories (items x) (flat_map items xs) ∙ (λ j. one x j ++ each_histories hs one xs j)
+
+  each_requests : (ms : A → List Request) → ((a : A) → requests_of (items a) ≡ ms a) → (xs : List A) → requests_of (flat_map items xs) ≡ flat_map ms xs
+  each_requests ms one [] = refl
+  each_requests ms one (x ∷ xs) = flat_map-append item_requests (items x) (flat_map items xs) ∙ (λ j. one x j ++ each_requests ms one xs j)
+
+  each_begins : (had : List (List Request)) → ((a : A) (item : Item) → Contains (items a) item → BeginsIn had item) → (xs : List A) (item : Item) → Contains (flat_map items xs) item → BeginsIn had item
+  each_begins had one [] item gone = absurd (omega (arith, gone.1))
+  each_begins had one (x ∷ xs) item has = elim (Contains-append_cases (items x) (flat_map items xs) item has) [
+    | inl first ↦ one x item first
+    | inr more ↦ each_begins had one xs item more
+  ]
+
+value_had : (vs : List Value) → histories_of (flat_map value_items vs) ≡ value_histories vs
+value_had [] = refl
+value_had (value.Base h ∷ vs) = ap (λ l. h ∷ l) (value_had vs)
+value_had (value.Request m ∷ vs) = value_had vs
+
+value_asked : (vs : List Value) → requests_of (flat_map value_items vs) ≡ value_requests vs
+value_asked [] = refl
+value_asked (value.Base h ∷ vs) = value_asked vs
+value_asked (value.Request m ∷ vs) = ap (λ l. m ∷ l) (value_asked vs)
+
+value_begin : (had : List (List Request)) (v : Value) (item : Item) → Contains (value_items v) item → BeginsIn had item
+value_begin had (value.Base h) item has = plain_begin had (h ∷ []) [] item has
+value_begin had (value.Request m) item has = plain_begin had [] (m ∷ []) item has
+
+-- what is looked at of a message is what is checked in it
+pub message_holds : (f : ℕ) (p : Party) (m : Msg)
+    → Holds (message_items f p m) (flat_map stated_history (claims f p m) ++ flat_map value_histories (values_in m)) (flat_map stated_request (claims f p m) ++ flat_map value_requests (values_in m))
+message_holds f p m =
+    let stated = flat_map content_items (claims f p m) in
+    let valued = flat_map (flat_map value_items) (values_in m) in
+    record {
+      histories =
+          flat_map-append item_histories stated valued
+          ∙ (λ j. each_histories content_items stated_history (λ c. plain_histories (stated_history c) (stated_request c)) (claims f p m) j
+          ++ each_histories (flat_map value_items) value_histories value_had (values_in m) j);
+      requests =
+          flat_map-append item_requests stated valued
+          ∙ (λ j. each_requests content_items stated_request (λ c. plain_requests (stated_history c) (stated_request c)) (claims f p m) j
+          ++ each_requests (flat_map value_items) value_requests value_asked (values_in m) j);
+      begins = λ had item has. elim (Contains-append_cases stated valued item has) [
+        | inl one ↦ each_begins content_items had (λ c. plain_begin had (stated_history c) (stated_request c)) (claims f p m) item one
+        | inr more ↦ each_begins (flat_map value_items) had (each_begins value_items had (value_begin had)) (values_in m) item more
+      ];
+    }
 
 histories_first : (o : Option (List Request)) → histories_of (first_items o) ≡ with_first o
 histories_first None = refl
@@ -332,11 +396,11 @@ nothing_looks w v had asked = record {
 }
 
 -- what is checked alone
-checked_looks : {P : Type 0} (w v : Run P) (hs : List (List Request)) (ms : List Request) → v.had ≡ hs ++ w.had → v.asked ≡ ms ++ w.asked → Looks w v (checked_items hs ms)
-checked_looks w v hs ms had asked = record {
-  histories = subst (λ l. HasSame (w.had ++ histories_of (checked_items hs ms)) l) (sym had) (subst (λ l. HasSame (w.had ++ l) (hs ++ w.had)) (sym (histories_all hs ms)) (swap w.had hs));
-  requests = subst (λ l. HasSame (w.asked ++ requests_of (checked_items hs ms)) l) (sym asked) (subst (λ l. HasSame (w.asked ++ l) (ms ++ w.asked)) (sym (requests_none hs ms)) (swap w.asked ms));
-  begins = checked_begin w.had hs ms;
+checked_looks : {P : Type 0} (w v : Run P) (items : List Item) (hs : List (List Request)) (ms : List Request) → Holds items hs ms → v.had ≡ hs ++ w.had → v.asked ≡ ms ++ w.asked → Looks w v items
+checked_looks w v items hs ms holds had asked = record {
+  histories = subst (λ l. HasSame (w.had ++ histories_of items) l) (sym had) (subst (λ l. HasSame (w.had ++ l) (hs ++ w.had)) (sym holds.histories) (swap w.had hs));
+  requests = subst (λ l. HasSame (w.asked ++ requests_of items) l) (sym asked) (subst (λ l. HasSame (w.asked ++ l) (ms ++ w.asked)) (sym holds.requests) (swap w.asked ms));
+  begins = holds.begins w.had;
 }
 
 module _ {P : Type 0} (k : RunSetup) (proto : Proto P) {serves : Kind → Bool} (form : KeepsForm proto serves) where
@@ -390,23 +454,23 @@ module _ {P : Type 0} (k : RunSetup) (proto : Proto P) {serves : Kind → Bool} 
     ]
   ]
 
-  module _ (w v : Run P) (s now : Rep P) (hs more : List (List Request)) (ms : List Request) (went : Went k proto s now more) (empty : Contains w.had []) (own : (h : List Request) → Contains (had_at (state_at k proto s)) h → Contains w.had h)
+  module _ (w v : Run P) (s now : Rep P) (checked : List Item) (hs more : List (List Request)) (ms : List Request) (holds : Holds checked hs ms) (went : Went k proto s now more) (empty : Contains w.had []) (own : (h : List Request) → Contains (had_at (state_at k proto s)) h → Contains w.had h)
       (had : v.had ≡ more ++ (hs ++ w.had)) (asked : v.asked ≡ ms ++ w.asked) where
     abbrev items : List Item
-    items = checked_items hs ms ++ state_items k proto s now
+    items = checked ++ state_items k proto s now
 
     abbrev New : List (List Request)
     New = (state_at k proto now).log ∷ (entered_part s now ++ with_first (state_at k proto now).first)
 
     histories_are : histories_of items ≡ hs ++ New
     histories_are =
-        flat_map-append item_histories (checked_items hs ms) (state_items k proto s now)
-        ∙ (λ j. histories_all hs ms j ++ state_histories s now j)
+        flat_map-append item_histories checked (state_items k proto s now)
+        ∙ (λ j. holds.histories j ++ state_histories s now j)
 
     requests_are : requests_of items ≡ ms
     requests_are =
-        flat_map-append item_requests (checked_items hs ms) (state_items k proto s now)
-        ∙ (λ j. requests_none hs ms j ++ state_requests s now j)
+        flat_map-append item_requests checked (state_items k proto s now)
+        ∙ (λ j. holds.requests j ++ state_requests s now j)
         ∙ append-nil ms
 
     now_entered : Contains (had_at (state_at k proto now)) (state_at k proto now).entered
@@ -485,8 +549,8 @@ module _ {P : Type 0} (k : RunSetup) (proto : Proto P) {serves : Kind → Bool} 
     went_looks = record {
       histories = subst (λ l. HasSame (w.had ++ histories_of items) l) (sym had) (subst (λ l. HasSame (w.had ++ l) (more ++ (hs ++ w.had))) (sym histories_are) (λ h. (there h, back h)));
       requests = subst (λ l. HasSame (w.asked ++ requests_of items) l) (sym asked) (subst (λ l. HasSame (w.asked ++ l) (ms ++ w.asked)) (sym requests_are) (swap w.asked ms));
-      begins = λ item at. elim (Contains-append_cases (checked_items hs ms) (state_items k proto s now) item at) [
-        | inl checked ↦ checked_begin w.had hs ms item checked
+      begins = λ item at. elim (Contains-append_cases checked (state_items k proto s now) item at) [
+        | inl one ↦ holds.begins w.had item one
         | inr new ↦
             state_begins w.had s now went.grows
             (own (state_at k proto s).log (Contains-head (state_at k proto s).log ((state_at k proto s).entered ∷ with_first (state_at k proto s).first))) item new
@@ -504,6 +568,12 @@ module _ {P : Type 0} (k : RunSetup) (proto : Proto P) {serves : Kind → Bool} 
   of_bad : (p : Party) (call : Call) → is_faulty k.faulty p ≡ true → (call_histories k p call ≡ []) × (call_requests k p call ≡ [])
   of_bad p (took m) bad = (rw bad refl, rw bad refl)
   of_bad p timed bad = (refl, refl)
+
+  -- what a correct replica takes is looked at for what it then has checked
+  call_holds : (r : ℕ) (call : Call) → is_faulty k.faulty (Replica r) ≡ false
+      → Holds (checked_items k.cluster.f (Replica r) call) (call_histories k (Replica r) call) (call_requests k (Replica r) call)
+  call_holds r (took m) good = rw good (message_holds k.cluster.f (Replica r) m)
+  call_holds r timed good = record { histories = refl; requests = refl; begins = λ had item gone. absurd (omega (arith, gone.1)) }
 
   pub record Seen (w v : Run P) (items : List Item) : Type 0 where
     pub looks : Looks w v items
@@ -531,6 +601,7 @@ module _ {P : Type 0} (k : RunSetup) (proto : Proto P) {serves : Kind → Bool} 
         let hs = call_histories k (Replica r) call in
         let ms = call_requests k (Replica r) call in
         let more = had_in_turns k proto r s (turns k proto r s call) in
+        let checked = checked_items k.cluster.f (Replica r) call in
         let all = call_items k proto r s call in
         let taken : (if nat_lt r (replicas k) then all else []) ≡ all = ap (λ (b : Bool). if b then all else []) there in
         let wider : (h : List Request) → Contains w.had h → Contains v.had h =
@@ -538,7 +609,7 @@ module _ {P : Type 0} (k : RunSetup) (proto : Proto P) {serves : Kind → Bool} 
         elim (cases_Bool (is_faulty k.faulty (Replica r))) [
           | inl bad ↦
               let none = of_bad (Replica r) call bad in
-              let nothing : all ≡ [] = ap (λ (b : Bool). if b then [] else checked_items hs ms ++ state_items k proto s now) bad in
+              let nothing : all ≡ [] = ap (λ (b : Bool). if b then [] else checked ++ state_items k proto s now) bad in
               let had : v.had ≡ w.had = g.had ∙ (λ j. (if bad j then [] else more) ++ (none.0 j ++ w.had)) in
               let asked : v.asked ≡ w.asked = g.asked ∙ ap (λ l. l ++ w.asked) none.1 in
               record {
@@ -547,12 +618,13 @@ module _ {P : Type 0} (k : RunSetup) (proto : Proto P) {serves : Kind → Bool} 
               }
           | inr good ↦
               let went = call_went k proto form r s call in
-              let something : all ≡ checked_items hs ms ++ state_items k proto s now = ap (λ (b : Bool). if b then [] else checked_items hs ms ++ state_items k proto s now) good in
+              let something : all ≡ checked ++ state_items k proto s now = ap (λ (b : Bool). if b then [] else checked ++ state_items k proto s now) good in
+              let holds = call_holds r call good in
               let had : v.had ≡ more ++ (hs ++ w.had) = g.had ∙ ap (λ (b : Bool). (if b then [] else more) ++ (hs ++ w.had)) good in
               record {
-                looks = subst (Looks w v) (sym (taken ∙ something)) (went_looks w v s now hs more ms went own.empty (own.each r lt good) had g.asked);
+                looks = subst (Looks w v) (sym (taken ∙ something)) (went_looks w v s now checked hs more ms holds went own.empty (own.each r lt good) had g.asked);
                 owns = others_own w v r own c.others wider
-                    (λ _ h has. own_again w v s now hs more ms went own.empty (own.each r lt good) had g.asked h (subst (λ z. Contains (had_at (state_at k proto z)) h) c.own has));
+                    (λ _ h has. own_again w v s now checked hs more ms holds went own.empty (own.each r lt good) had g.asked h (subst (λ z. Contains (had_at (state_at k proto z)) h) c.own has));
               }
         ]
     | inr gone ↦ rw gone (record { looks = nothing_looks w w refl refl; owns = own })
@@ -564,6 +636,10 @@ module _ {P : Type 0} (k : RunSetup) (proto : Proto P) {serves : Kind → Bool} 
     empty = more [] own.empty;
   }
 
+  client_holds : (c : ℕ) (m : Msg) (b : Bool) → is_faulty k.faulty (Client c) ≡ b → Holds (client_items k proto c m) (histories_for k (Client c) m) (requests_for k (Client c) m)
+  client_holds c m true bad = rw bad (record { histories = refl; requests = refl; begins = λ had item gone. absurd (omega (arith, gone.1)) })
+  client_holds c m false good = rw good (message_holds k.cluster.f (Client c) m)
+
   message_seen : (w : Run P) (c : ℕ) (m : Msg) → HasOwn w → Seen w (at_cue k proto w c (cue_message m)) (if nat_lt c k.cluster.clients then client_items k proto c m else [])
   message_seen w c m own = elim (cases_Bool (nat_lt c k.cluster.clients)) [
     | inl there ↦
@@ -573,7 +649,7 @@ module _ {P : Type 0} (k : RunSetup) (proto : Proto P) {serves : Kind → Bool} 
         let all = client_items k proto c m in
         let taken : (if nat_lt c k.cluster.clients then all else []) ≡ all = ap (λ (b : Bool). if b then all else []) there in
         record {
-          looks = subst (Looks w v) (sym taken) (checked_looks w v (histories_for k (Client c) m) (requests_for k (Client c) m) f.had f.asked);
+          looks = subst (Looks w v) (sym taken) (checked_looks w v all (histories_for k (Client c) m) (requests_for k (Client c) m) (client_holds c m (is_faulty k.faulty (Client c)) refl) f.had f.asked);
           owns = clients_own w v own (reps_apart k proto w c (cue_message m)) (λ h has. subst (λ l. Contains l h) (sym f.had) (Contains-append_right (histories_for k (Client c) m) w.had h has));
         }
     | inr gone ↦ rw gone (record { looks = nothing_looks w w refl refl; owns = own })

@@ -1,19 +1,23 @@
 -- Collisions of digests in a run: the first event after which there is one, and how a program finds it.
-use Rattle.std.specs.Prelude.{◌≡◌, ℕ, ◌+◌, ◌==◌, nat_lt, Bool, if◌then◌else◌, Option, None, Some, List, [], ◌∷◌, ◌++◌, length, map, flat_map}
+use Rattle.std.specs.Prelude.{◌≡◌, ℕ, ◌+◌, ◌==◌, nat_lt, ◌||◌, Bool, if◌then◌else◌, Option, None, Some, List, [], ◌∷◌, ◌++◌, length, map, flat_map}
 use Rattle.ab_num.specs.declared.party.Party.{Party}
 use Rattle.ab_num.specs.declared.party.Party.TheVariants.{Replica, Client}
 use Rattle.ab_hist.specs.declared.request.Request.{Request}
+use Rattle.ab_msg.specs.declared.content.Content.{Content}
 use Rattle.ab_msg.specs.declared.message.Msg.{Msg}
+use Rattle.ab_msg.specs.declared.value.Value.{Value}
+use Rattle.ab_msg.specs.declared.value.Value.TheVariants as value
+use Rattle.ab_msg.specs.Carried.{stated_history, stated_request, values_in}
+use Rattle.ab_msg.specs.Claims.{claims}
 use Rattle.ab_abs.specs.Faults.{is_faulty}
 use Rattle.ab_abs.specs.Messages.{Call, took, timed}
 use Rattle.ab_abs.specs.Ensembles.{Proto}
 use Rattle.ab_links.specs.Digested.{HasNoCollision, Digested, Item, history, request, keep_item, keep_items, any_found, nothing}
 use Rattle.ab_run.specs.Setups.{RunSetup, replicas}
 use Rattle.ab_run.specs.Replicas.{Rep, state_at}
-use Rattle.ab_run.specs.Runs.{Event, invoke, to_replica, to_client, replica_time, client_time, Run, run, histories_for, requests_for}
+use Rattle.ab_run.specs.Runs.{Event, invoke, to_replica, to_client, replica_time, client_time, Run, run}
 use Rattle.ab_run.specs.Local.{rep_after}
 use Rattle.ab_run.specs.Inputs.{Input, told, came, rang, elsewhere, Opener, event_in, events_in}
-use Rattle.ab_run.specs.Stages.{call_histories, call_requests}
 use Rattle.ab_premise.specs.declared.breach.Collision.{Collision}
 
 -- ---- by the run
@@ -61,8 +65,25 @@ first_collision None n p found = if found then Some (record { event = n; party =
 abbrev pub looked : Watch → ℕ → Party → List Item → Watch
 looked x n p items = record { kept = keep_items x.kept items; collided = first_collision x.collided n p (any_found x.kept items) }
 
-abbrev pub checked_items : List (List Request) → List Request → List Item
-checked_items hs ms = map (λ h. history h 0) hs ++ map request ms
+-- the same, where in what came first something was found or not
+abbrev pub looked_on : Watch → ℕ → Party → Bool → List Item → Watch
+looked_on x n p found items = record { kept = keep_items x.kept items; collided = first_collision x.collided n p (found || any_found x.kept items) }
+
+-- what is looked at of a content: the history or the request that it states
+abbrev pub content_items : Content → List Item
+content_items c = map (λ h. history h 0) (stated_history c) ++ map request (stated_request c)
+
+abbrev pub value_items : Value → List Item
+value_items (value.Base h) = history h 0 ∷ []
+value_items (value.Request m) = request m ∷ []
+
+-- and of a message that party p checks, where f replicas may be faulty: one claim after the other, and then its values
+abbrev pub message_items : ℕ → Party → Msg → List Item
+message_items f p m = flat_map content_items (claims f p m) ++ flat_map (flat_map value_items) (values_in m)
+
+abbrev pub checked_items : ℕ → Party → Call → List Item
+checked_items f p (took m) = message_items f p m
+checked_items f p timed = []
 
 abbrev pub first_items : Option (List Request) → List Item
 first_items None = []
@@ -87,11 +108,11 @@ module _ {P : Type 0} (k : RunSetup) (proto : Proto P) where
   call_items r s call =
       if is_faulty k.faulty (Replica r)
       then []
-      else checked_items (call_histories k (Replica r) call) (call_requests k (Replica r) call) ++ state_items s (rep_after k proto r s call)
+      else checked_items k.cluster.f (Replica r) call ++ state_items s (rep_after k proto r s call)
 
   -- and as client c takes a message
   abbrev pub client_items : ℕ → Msg → List Item
-  client_items c m = checked_items (histories_for k (Client c) m) (requests_for k (Client c) m)
+  client_items c m = if is_faulty k.faulty (Client c) then [] else message_items k.cluster.f (Client c) m
 
   abbrev pub items_of : Run P → Event → List Item
   items_of w (invoke c command) = []

@@ -2,3 +2,4 @@
 pub mod Collisions
 pub mod Premises
 pub mod Spelled
+pub mod Watching

@@ -10,7 +10,11 @@ use ab_num::Party;
 use ab_text::{Breach, Premise};
 
 /// The first forgery, where in this event the name of a party was forged, if it was.
-pub fn first_forgery(before: Option<Forgery>, event: u32, found: Option<Party>) -> Option<Forgery>
+pub(crate) fn first_forgery(
+    before: Option<Forgery>,
+    event: u32,
+    found: Option<Party>,
+) -> Option<Forgery>
     ensures { forged_first result ≡ first_of (forged_first before) (forgery event found) }
 {
     match (before, found) {
@@ -21,7 +25,7 @@ pub fn first_forgery(before: Option<Forgery>, event: u32, found: Option<Party>) 
 }
 
 /// The first collision, where one was found in this event of a party.
-pub fn first_collision(
+pub(crate) fn first_collision(
     before: Option<Collision>,
     event: u32,
     party: Party,
@@ -73,7 +77,7 @@ fn first_premise(forged: Option<Forgery>, collided: Option<Collision>) -> Premis
 }
 
 /// The premise line where these parties are faulty, and this was forged and collided first.
-pub fn premise(
+pub(crate) fn premise(
     f: u8,
     faulty: &[(Party, u8)],
     forged: Option<Forgery>,

@@ -19,7 +19,7 @@ use Rattle.ab_num.proofs.Lists.{length-slice_set}
 use Rattle.ab_text.specs.declared.event.Core.{Core as CoreName}
 use Rattle.ab_text.specs.declared.event.Event.TheVariants.{Invoke, Deliver, Timeout, Inject}
 use Rattle.ab_msg.specs.Packets.{Packet}
-use Rattle.ab_post.specs.Packets.{nth}
+use Rattle.ab_world.specs.Packets.{nth}
 use Rattle.ab_run.specs.Local.{Cue}
 use Rattle.ab_cast.specs.declared.fault.CommandFault.{CommandFault}
 use Rattle.ab_cast.specs.declared.fault.CommandFault.TheVariants as command_fault

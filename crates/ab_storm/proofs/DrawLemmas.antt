@@ -22,7 +22,7 @@ use Rattle.ab_storm.proofs.Happenings.{next_can}
 use Rattle.ab_abs.specs.Ensembles.{Proto}
 use Rattle.ab_client.specs.Clients.{Seat}
 use Rattle.ab_msg.specs.Packets.{Packet}
-use Rattle.ab_post.specs.Packets.{nth}
+use Rattle.ab_world.specs.Packets.{nth}
 use Rattle.ab_cast.specs.declared.fault.CommandFault.TheVariants as command_fault
 use Rattle.ab_cast.specs.Setups.{Setup, own_place, numbered_place, place_of}
 use Rattle.ab_cast.specs.Cores.{client}

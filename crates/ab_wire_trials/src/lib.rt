@@ -1,8 +1,6 @@
-//! Tests of messages that are copied, of opening, of what is carried, of pieces and of a node's loop: apart from their crates, so that none is proved once more.
+//! Tests of messages that are copied, of opening, of pieces and of a node's loop: apart from their crates, so that none is proved once more.
 #![tactic(auto)]
 
-#[cfg(test)]
-mod carrying;
 #[cfg(test)]
 mod copies;
 #[cfg(test)]

@@ -11,7 +11,7 @@ use Rattle.ab_open.specs.declared.fault.OpenFault.{OpenFault}
 use Rattle.ab_abs.specs.Ensembles.{Proto}
 use Rattle.ab_run.specs.Local.{Cue}
 use Rattle.ab_msg.specs.Packets.{Packet}
-use Rattle.ab_post.specs.Packets.{total, most_bytes}
+use Rattle.ab_world.specs.Packets.{total, most_bytes}
 use Rattle.ab_cast.specs.declared.place.Place.{Place}
 use Rattle.ab_cast.specs.Setups.{Setup, party_at, ring_at}
 use Rattle.ab_cast.specs.Cores.{Core, core_after, core_sends}
