@@ -1,9 +1,6 @@
 -- What holds of the cores stays in each event.
-use Rattle.std.proofs.Common.{◌≡◌, ℕ, zero, suc, ◌+◌, ◌*◌, ◌<◌, ◌≤◌, Bool, false, List, [], ◌∷◌, ◌++◌, Some, None, length, map, get_or, refl, sym, ap, ◌∙◌, subst, inl, inr, arith, length-append}
-use Rattle.std.specs.Prelude.{Option, Result, Ok, Err, if◌then◌else◌, slice_get, slice_set, All, IfOk, IsOkAnd, MatchResult, OnOk, OnErr}
-use Rattle.arrayvec.specs.ArrayVec.{ArrayVec}
-use Rattle.ab_num.specs.declared.memory.OutOfMemory.{OutOfMemory}
-use Rattle.ab_replica.specs.declared.effects.Effects.{Effects}
+use Rattle.std.proofs.Common.{◌≡◌, ℕ, zero, suc, ◌+◌, ◌*◌, ◌<◌, ◌≤◌, Bool, List, [], ◌∷◌, ◌++◌, Some, None, length, map, get_or, refl, sym, ap, ◌∙◌, subst, inl, inr, arith, length-append}
+use Rattle.std.specs.Prelude.{Option, slice_get, slice_set}
 use Rattle.std.specs.Option.{option_map}
 use Rattle.std.proofs.lemmas.Bool.{cases_eq, cases_order}
 use Rattle.std.proofs.lemmas.Option.{slice_get-map, slice_get_past, slice_get_within, slice_get_read, same_Some}
@@ -12,33 +9,27 @@ use Rattle.ab_num.specs.declared.cluster.Cluster.{Cluster}
 use Rattle.ab_num.specs.declared.plan.Kind.{Kind}
 use Rattle.ab_num.specs.declared.party.Party.TheVariants.{Replica, Client}
 use Rattle.ab_num.proofs.Lists.{slice_get_there, length-slice_set, slice_get-push}
-use Rattle.ab_hist.specs.declared.request.Request.{Request}
-use Rattle.ab_msg.specs.declared.message.Msg.{Msg}
 use Rattle.ab_msg.specs.declared.message.Out.{Out}
-use Rattle.ab_abs.specs.declared.ballot.Ballot.{Ballot}
 use Rattle.ab_abs.specs.declared.seen.Seen.{Seen}
-use Rattle.ab_abs.specs.declared.seen.Seen.TheVariants.{Committed}
 use Rattle.ab_abs.specs.Ensembles.{Proto}
 use Rattle.ab_abs.specs.FormLaws.{KeepsForm}
 use Rattle.ab_abs.specs.Promises.{ServesAll}
 use Rattle.ab_run.specs.Replicas.{is_spent}
-use Rattle.ab_replica.specs.Sites.{Site}
-use Rattle.ab_run.specs.Local.{Cue, cue_message, cue_time, rep_marks, cli_after, cli_sends, cli_marks}
+use Rattle.ab_run.specs.Local.{Cue, rep_marks, rep_sends, cli_after, cli_sends, cli_marks}
 use Rattle.ab_run.proofs.Listed.{set_hit, set_miss, get_before}
+use Rattle.ab_replica.specs.Sites.{Site}
 use Rattle.ab_client.specs.Clients.{Seat, alone, after, sends, marks}
-use Rattle.ab_client.specs.Moved.{IsLastVote}
-use Rattle.ab_run.specs.Forms.{IsDraftOf}
+use Rattle.ab_party.specs.declared.cue.Cue.{Cue as CueRef}
+use Rattle.ab_party.specs.Cues.{call_of, cue_of}
+use Rattle.ab_party.specs.Parties.{ClientCommits, ClientHears}
 use Rattle.ab_cast.specs.declared.place.Place.{Place}
 use Rattle.ab_cast.specs.declared.place.Place.TheVariants as place
-use Rattle.ab_cast.specs.declared.fault.CommandFault.TheVariants.{Busy}
-use Rattle.ab_run.specs.declared.phase.Phase.TheVariants.{Idle}
 use Rattle.ab_cast.specs.Setups.{Setup, run_setup, replica_twins, client_twins, place_of, party_at}
-use Rattle.ab_cast.specs.Cores.{ClientCommits, CommitsAtOnce, Core, replica, client}
-use Rattle.ab_cast.specs.declared.given.Given.{Given}
-use Rattle.ab_cast.specs.Hearing.{CliHears, IsGiven, RepHears, call_of, cue_of}
-use Rattle.ab_cast.specs.Casts.{Cast, core_at, with_core, next, first_seat, first_seats, first_site, first_sites, first_cast, is_idle, command_refusal, IsTaken, IsSeat, AreSeats, AreTwinSeats, IsSite, AreOwn, AreTwins, IsCast}
+use Rattle.ab_cast.specs.Cores.{CommitsAtOnce, Core, replica, client}
+use Rattle.ab_cast.specs.Casts.{Cast, core_at, with_core, next, first_seat, first_seats, first_site, first_sites, first_cast, IsTaken, IsSeat, AreSeats, AreTwinSeats, IsSite, AreOwn, AreTwins, IsCast}
+use Rattle.ab_cast.specs.Hearing.{CliHears, RepHears}
 use Rattle.ab_cast.proofs.StandLemmas.{IsThere, mapped_cases, is_there}
-use Rattle.ab_cast.proofs.ReplicaLemmas.{given_formed, after_given, sends_given, marks_given, spends_given, first_is_site, after_is, goes_on, sends_is, own_drafts}
+use Rattle.ab_cast.proofs.ReplicaLemmas.{after_cue, sends_cue, marks_cue, spends_cue, first_is_site, after_is}
 
 -- ---- lists
 
@@ -79,10 +70,6 @@ pub the_same : {A : Type 0} (xs : List A) (i : ℕ) (s t : A) → slice_get xs i
 the_same xs i s t at lt read = same_Some s t (sym at ∙ slice_get_read xs (length xs) i t refl lt read)
 
 -- ---- events
-
--- what the code says of the client at a place
-abbrev pub CliHearsAt : ℕ → Cue → List Seat → List Seat → List Out → List Seen → Bool → Type 0
-CliHearsAt at cue items all outs marks spent = (s : Seat) → slice_get items at ≡ Some s → CliHears at s cue items all outs marks spent
 
 module _ {P : Type 0} (proto : Proto P) (serves : Kind → Bool) (x : Cast P) (is : IsCast proto serves x) where
   abbrev c : Cluster
@@ -185,20 +172,29 @@ module _ {P : Type 0} (proto : Proto P) (serves : Kind → Bool) (x : Cast P) (i
 
   -- ---- where cores are
 
-  replica_at : (r : ℕ) → IsThere x.setup (place.Replica r) → (s : Site P) × (slice_get x.replicas r ≡ Some s)
-  replica_at r there = slice_get_there x.replicas r (omega (arith, there, is.all_replicas))
+  replica_within : (r : ℕ) → IsThere x.setup (place.Replica r) → r < length x.replicas
+  replica_within r there = omega (arith, there, is.all_replicas)
 
-  client_at : (n : ℕ) → IsThere x.setup (place.Client n) → (s : Seat) × (slice_get x.clients n ≡ Some s)
-  client_at n there = slice_get_there x.clients n (omega (arith, there, is.all_clients))
+  client_within : (n : ℕ) → IsThere x.setup (place.Client n) → n < length x.clients
+  client_within n there = omega (arith, there, is.all_clients)
 
-  replica_twin_at : (r at : ℕ) → IsThere x.setup (place.ReplicaTwin r at) → (s : Site P) × (slice_get x.replica_twins at ≡ Some s)
-  replica_twin_at r at there = slice_get_there x.replica_twins at (omega (arith, slice_get_within (replica_twins x.setup.faulty) at there.1.0 there.1.1.0, is.all_replica_twins))
-
-  client_twin_at : (n at : ℕ) → IsThere x.setup (place.ClientTwin n at) → (s : Seat) × (slice_get x.client_twins at ≡ Some s)
-  client_twin_at n at there = slice_get_there x.client_twins at (omega (arith, slice_get_within (client_twins x.setup.faulty) at there.1.0 there.1.1.0, is.all_client_twins))
+  replica_twin_within : (r at : ℕ) → IsThere x.setup (place.ReplicaTwin r at) → at < length x.replica_twins
+  replica_twin_within r at there = omega (arith, slice_get_within (replica_twins x.setup.faulty) at there.1.0 there.1.1.0, is.all_replica_twins)
 
   pub client_twin_within : (n at : ℕ) → IsThere x.setup (place.ClientTwin n at) → at < length x.client_twins
   client_twin_within n at there = omega (arith, slice_get_within (client_twins x.setup.faulty) at there.1.0 there.1.1.0, is.all_client_twins)
+
+  replica_at : (r : ℕ) → IsThere x.setup (place.Replica r) → (s : Site P) × (slice_get x.replicas r ≡ Some s)
+  replica_at r there = slice_get_there x.replicas r (replica_within r there)
+
+  client_at : (n : ℕ) → IsThere x.setup (place.Client n) → (s : Seat) × (slice_get x.clients n ≡ Some s)
+  client_at n there = slice_get_there x.clients n (client_within n there)
+
+  replica_twin_at : (r at : ℕ) → IsThere x.setup (place.ReplicaTwin r at) → (s : Site P) × (slice_get x.replica_twins at ≡ Some s)
+  replica_twin_at r at there = slice_get_there x.replica_twins at (replica_twin_within r at there)
+
+  client_twin_at : (n at : ℕ) → IsThere x.setup (place.ClientTwin n at) → (s : Seat) × (slice_get x.client_twins at ≡ Some s)
+  client_twin_at n at there = slice_get_there x.client_twins at (client_twin_within n at there)
 
   pub seat_at : (n at : ℕ) (s : Seat) → IsThere x.setup (place.ClientTwin n at) → slice_get x.client_twins at ≡ Some s → IsSeat c x.events n s
   seat_at n at s there here = subst (λ (d : ℕ). IsSeat c x.events d s) there.1.1.1 (is.twin_seats at there.1.0 s there.1.1.0 here)
@@ -210,18 +206,22 @@ module _ {P : Type 0} (proto : Proto P) (serves : Kind → Bool) (x : Cast P) (i
   core_there (place.ReplicaTwin r at) there = let s = replica_twin_at r at there in (replica s.0, ap (option_map replica) s.1)
   core_there (place.ClientTwin n at) there = let s = client_twin_at n at there in (client s.0, ap (option_map client) s.1)
 
+  -- the number of the replica whose further core stands there is r
+  pub twin_of : (r at : ℕ) (s : Site P) → IsThere x.setup (place.ReplicaTwin r at) → slice_get x.replica_twins at ≡ Some s → IsSite proto serves x.setup r s
+  twin_of r at s there here = subst (λ (n : ℕ). IsSite proto serves x.setup n s) there.1.1.1 (is.twin_replicas at there.1.0 s there.1.1.0 here)
+
   -- ---- a replica takes what comes
 
   -- what the code says of the one at a place
-  abbrev pub HearsAt : ℕ → Given → List (Site P) → List (Site P) → List Out → List Seen → Bool → Type 0
-  HearsAt at g items all outs marks spent = (s : Site P) → slice_get items at ≡ Some s → RepHears proto x.setup at s (call_of g) items all outs marks spent
+  abbrev pub HearsAt : ℕ → ℕ → CueRef → List (Site P) → List (Site P) → List Out → List Seen → Bool → Type 0
+  HearsAt r at g items all outs marks spent = (s : Site P) → slice_get items at ≡ Some s → RepHears proto serves x.setup r at s (call_of g) items all outs marks spent
 
-  module _ (form : KeepsForm proto serves) (few : x.events < 100000) (r : ℕ) (g : Given) (given : IsGiven g) (all : List (Site P)) (outs : List Out) (marks : List Seen) (spent : Bool) (there : IsThere x.setup (place.Replica r)) (hears : HearsAt r g x.replicas all outs marks spent) where
+  module _ (few : x.events < 100000) (r : ℕ) (g : CueRef) (all : List (Site P)) (outs : List Out) (marks : List Seen) (spent : Bool) (there : IsThere x.setup (place.Replica r)) (hears : HearsAt r r g x.replicas all outs marks spent) where
     pub replica_stays : IsCast proto serves (record x { replicas = all; events = x.events + 1 })
     replica_stays =
         let s = replica_at r there in
         let h = hears s.0 s.1 in
-        IsCast-replica few r s.0 h.now all s.1 (goes_on proto serves form x.setup is.serves_all r there s.0 h.now (call_of g) outs marks spent (given_formed g given) (is.own_replicas r s.0 s.1) h.hears h.used) h.set
+        IsCast-replica few r s.0 h.now all s.1 h.site h.set
 
     pub replica_taken : (s : Site P) → slice_get x.replicas r ≡ Some s
         → IsTaken proto x (place.Replica r) (replica s) (cue_of g) (record x { replicas = all; events = x.events + 1 }) outs marks spent
@@ -229,30 +229,24 @@ module _ {P : Type 0} (proto : Proto P) (serves : Kind → Bool) (x : Cast P) (i
         let h = hears s here in
         let site = is.own_replicas r s here in
         let call = call_of g in
-        let formed = given_formed g given in
         record {
           after =
-              ap (λ v. record x { replicas = v; events = x.events + 1 }) (h.set ∙ ap (slice_set x.replicas r) (after_is proto serves form x.setup is.serves_all r there s h.now call outs marks spent formed site h.hears h.used))
-              ∙ ap (λ q. next (with_core x (place.Replica r) q)) (sym (after_given x.setup proto r s g));
-          sends = sends_is proto serves form x.setup is.serves_all r there s h.now call outs marks spent formed site h.hears h.used ∙ sym (sends_given x.setup proto r s g);
-          shows = h.hears.shows ∙ ap (λ m. rep_marks (run_setup x.setup) proto m s.rep call) site.own ∙ sym (marks_given x.setup proto r s g);
-          spends = h.hears.spends ∙ ap (λ m. is_spent (run_setup x.setup) proto m s.rep call) site.own ∙ sym (spends_given x.setup proto r s g);
-          drafts = own_drafts proto serves form x.setup is.serves_all r there s h.now call outs marks spent formed site h.hears h.used;
+              ap (λ v. record x { replicas = v; events = x.events + 1 }) (h.set ∙ ap (slice_set x.replicas r) (after_is proto serves x.setup r s site h.now call outs marks spent h.hears))
+              ∙ ap (λ q. next (with_core x (place.Replica r) q)) (sym (after_cue x.setup proto r s g));
+          sends = h.hears.sends ∙ ap (λ m. rep_sends (run_setup x.setup) proto m s.rep call) site.own ∙ sym (sends_cue x.setup proto r s g);
+          shows = h.hears.shows ∙ ap (λ m. rep_marks (run_setup x.setup) proto m s.rep call) site.own ∙ sym (marks_cue x.setup proto r s g);
+          spends = h.hears.spends ∙ ap (λ m. is_spent (run_setup x.setup) proto m s.rep call) site.own ∙ sym (spends_cue x.setup proto r s g);
+          drafts = h.drafts;
         }
 
-  -- the number of the replica whose further core stands there is r
-  pub twin_of : (r at : ℕ) (s : Site P) → IsThere x.setup (place.ReplicaTwin r at) → slice_get x.replica_twins at ≡ Some s → IsSite proto serves x.setup r s
-  twin_of r at s there here = subst (λ (n : ℕ). IsSite proto serves x.setup n s) there.1.1.1 (is.twin_replicas at there.1.0 s there.1.1.0 here)
-
-  module _ (form : KeepsForm proto serves) (few : x.events < 100000) (r at : ℕ) (g : Given) (given : IsGiven g) (all : List (Site P)) (outs : List Out) (marks : List Seen) (spent : Bool) (there : IsThere x.setup (place.ReplicaTwin r at)) (hears : HearsAt at g x.replica_twins all outs marks spent) where
+  module _ (few : x.events < 100000) (r at : ℕ) (g : CueRef) (all : List (Site P)) (outs : List Out) (marks : List Seen) (spent : Bool) (there : IsThere x.setup (place.ReplicaTwin r at)) (hears : HearsAt r at g x.replica_twins all outs marks spent) where
     pub replica_twin_stays : IsCast proto serves (record x { replica_twins = all; events = x.events + 1 })
     replica_twin_stays =
         let s = replica_twin_at r at there in
         let h = hears s.0 s.1 in
-        let now = goes_on proto serves form x.setup is.serves_all r there.0 s.0 h.now (call_of g) outs marks spent (given_formed g given) (twin_of r at s.0 there s.1) h.hears h.used in
         let number : (k : ℕ × ℕ) → slice_get (replica_twins x.setup.faulty) at ≡ Some k → r ≡ k.0
         = λ k is_k. sym there.1.1.1 ∙ ap (λ (k : ℕ × ℕ). k.0) (same_Some there.1.0 k (sym there.1.1.0 ∙ is_k)) in
-        IsCast-replica_twin few at s.0 h.now all s.1 (λ k is_k. subst (λ (q : ℕ). IsSite proto serves x.setup q h.now) (number k is_k) now) h.set
+        IsCast-replica_twin few at s.0 h.now all s.1 (λ k is_k. subst (λ (q : ℕ). IsSite proto serves x.setup q h.now) (number k is_k) h.site) h.set
 
     pub replica_twin_taken : (s : Site P) → slice_get x.replica_twins at ≡ Some s
         → IsTaken proto x (place.ReplicaTwin r at) (replica s) (cue_of g) (record x { replica_twins = all; events = x.events + 1 }) outs marks spent
@@ -260,15 +254,14 @@ module _ {P : Type 0} (proto : Proto P) (serves : Kind → Bool) (x : Cast P) (i
         let h = hears s here in
         let site = twin_of r at s there here in
         let call = call_of g in
-        let formed = given_formed g given in
         record {
           after =
-              ap (λ v. record x { replica_twins = v; events = x.events + 1 }) (h.set ∙ ap (slice_set x.replica_twins at) (after_is proto serves form x.setup is.serves_all r there.0 s h.now call outs marks spent formed site h.hears h.used))
-              ∙ ap (λ q. next (with_core x (place.ReplicaTwin r at) q)) (sym (after_given x.setup proto r s g));
-          sends = sends_is proto serves form x.setup is.serves_all r there.0 s h.now call outs marks spent formed site h.hears h.used ∙ sym (sends_given x.setup proto r s g);
-          shows = h.hears.shows ∙ ap (λ m. rep_marks (run_setup x.setup) proto m s.rep call) site.own ∙ sym (marks_given x.setup proto r s g);
-          spends = h.hears.spends ∙ ap (λ m. is_spent (run_setup x.setup) proto m s.rep call) site.own ∙ sym (spends_given x.setup proto r s g);
-          drafts = own_drafts proto serves form x.setup is.serves_all r there.0 s h.now call outs marks spent formed site h.hears h.used;
+              ap (λ v. record x { replica_twins = v; events = x.events + 1 }) (h.set ∙ ap (slice_set x.replica_twins at) (after_is proto serves x.setup r s site h.now call outs marks spent h.hears))
+              ∙ ap (λ q. next (with_core x (place.ReplicaTwin r at) q)) (sym (after_cue x.setup proto r s g));
+          sends = h.hears.sends ∙ ap (λ m. rep_sends (run_setup x.setup) proto m s.rep call) site.own ∙ sym (sends_cue x.setup proto r s g);
+          shows = h.hears.shows ∙ ap (λ m. rep_marks (run_setup x.setup) proto m s.rep call) site.own ∙ sym (marks_cue x.setup proto r s g);
+          spends = h.hears.spends ∙ ap (λ m. is_spent (run_setup x.setup) proto m s.rep call) site.own ∙ sym (spends_cue x.setup proto r s g);
+          drafts = h.drafts;
         }
 
   -- ---- a client takes what comes
@@ -284,95 +277,50 @@ module _ {P : Type 0} (proto : Proto P) (serves : Kind → Bool) (x : Cast P) (i
     seat_marks : marks s cue ≡ cli_marks (run_setup x.setup) n s.cli cue
     seat_marks = ap (λ k. cli_marks (alone k) s.me s.cli cue) seat.placed ∙ ap (λ m. cli_marks (run_setup x.setup) m s.cli cue) seat.own
 
-    seat_drafts : (outs : List Out) → All (IsDraftOf s.cluster.f (Client s.me)) outs → All (IsDraftOf c.f (Client n)) outs
-    seat_drafts outs all = subst (λ (k : Cluster). All (IsDraftOf k.f (Client n)) outs) seat.placed (subst (λ (m : ℕ). All (IsDraftOf s.cluster.f (Client m)) outs) seat.own all)
+  -- what the code says of the client at a place
+  abbrev pub CliHearsAt : ℕ → ℕ → Cue → List Seat → List Seat → List Out → List Seen → Bool → Type 0
+  CliHearsAt n at cue items all outs marks spent = (s : Seat) → slice_get items at ≡ Some s → CliHears x.setup n at s cue items all outs marks spent
 
-  pub few_clients : (n events : ℕ) (s : Seat) → n < c.clients → IsSeat c events n s → s.me ≤ 15
-  few_clients n events s lt seat = omega (arith, lt, seat.own, c.in_bounds.few_clients)
+  client_goes : (s now : Seat) (cue : Cue) (outs : List Out) (shown : List Seen) (spent : Bool) → ClientHears s cue now outs shown spent → GoesOn s now
+  client_goes s now cue outs shown spent h = (ap (λ (q : Seat). q.me) h.after, (ap (λ (q : Seat). q.cluster) h.after, h.stamp))
 
-  module _ (few : x.events < 100000) (n : ℕ) (cue : Cue) (all : List Seat) (outs : List Out) (shown : List Seen) (spent : Bool) (there : IsThere x.setup (place.Client n)) (hears : CliHearsAt n cue x.clients all outs shown spent) where
+  module _ (few : x.events < 100000) (n : ℕ) (cue : Cue) (all : List Seat) (outs : List Out) (shown : List Seen) (spent : Bool) (there : IsThere x.setup (place.Client n)) (hears : CliHearsAt n n cue x.clients all outs shown spent) where
     pub client_stays : IsCast proto serves (record x { clients = all; events = x.events + 1 })
     client_stays =
         let s = client_at n there in
         let h = hears s.0 s.1 in
-        IsCast-client few n s.0 (after s.0 cue) all s.1 (refl, (refl, h.stamp)) h.set
+        IsCast-client few n s.0 h.now all s.1 (client_goes s.0 h.now cue outs shown spent h.hears) h.set
 
     pub client_taken : (s : Seat) → slice_get x.clients n ≡ Some s → IsTaken proto x (place.Client n) (client s) cue (record x { clients = all; events = x.events + 1 }) outs shown spent
     client_taken s here =
         let h = hears s here in
         let seat = is.seats n s here in
         record {
-          after = ap (λ v. record x { clients = v; events = x.events + 1 }) (h.set ∙ ap (slice_set x.clients n) (seat_after n x.events s seat cue));
-          sends = h.sends ∙ seat_sends n x.events s seat cue;
-          shows = h.shows ∙ seat_marks n x.events s seat cue;
-          spends = h.spends;
-          drafts = seat_drafts n x.events s seat cue outs (h.drafts (few_clients n x.events s there seat));
+          after = ap (λ v. record x { clients = v; events = x.events + 1 }) (h.set ∙ ap (slice_set x.clients n) (h.hears.after ∙ seat_after n x.events s seat cue));
+          sends = h.hears.sends ∙ seat_sends n x.events s seat cue;
+          shows = h.hears.shows ∙ seat_marks n x.events s seat cue;
+          spends = h.hears.spends;
+          drafts = h.drafts;
         }
 
-  module _ (few : x.events < 100000) (n at : ℕ) (cue : Cue) (all : List Seat) (outs : List Out) (shown : List Seen) (spent : Bool) (there : IsThere x.setup (place.ClientTwin n at)) (hears : CliHearsAt at cue x.client_twins all outs shown spent) where
+  module _ (few : x.events < 100000) (n at : ℕ) (cue : Cue) (all : List Seat) (outs : List Out) (shown : List Seen) (spent : Bool) (there : IsThere x.setup (place.ClientTwin n at)) (hears : CliHearsAt n at cue x.client_twins all outs shown spent) where
     pub client_twin_stays : IsCast proto serves (record x { client_twins = all; events = x.events + 1 })
     client_twin_stays =
         let s = client_twin_at n at there in
         let h = hears s.0 s.1 in
-        IsCast-client_twin few at s.0 (after s.0 cue) all s.1 (refl, (refl, h.stamp)) h.set
+        IsCast-client_twin few at s.0 h.now all s.1 (client_goes s.0 h.now cue outs shown spent h.hears) h.set
 
     pub client_twin_taken : (s : Seat) → slice_get x.client_twins at ≡ Some s → IsTaken proto x (place.ClientTwin n at) (client s) cue (record x { client_twins = all; events = x.events + 1 }) outs shown spent
     client_twin_taken s here =
         let h = hears s here in
         let seat = seat_at n at s there here in
         record {
-          after = ap (λ v. record x { client_twins = v; events = x.events + 1 }) (h.set ∙ ap (slice_set x.client_twins at) (seat_after n x.events s seat cue));
-          sends = h.sends ∙ seat_sends n x.events s seat cue;
-          shows = h.shows ∙ seat_marks n x.events s seat cue;
-          spends = h.spends;
-          drafts = seat_drafts n x.events s seat cue outs (h.drafts (few_clients n x.events s there.0 seat));
+          after = ap (λ v. record x { client_twins = v; events = x.events + 1 }) (h.set ∙ ap (slice_set x.client_twins at) (h.hears.after ∙ seat_after n x.events s seat cue));
+          sends = h.hears.sends ∙ seat_sends n x.events s seat cue;
+          shows = h.hears.shows ∙ seat_marks n x.events s seat cue;
+          spends = h.hears.spends;
+          drafts = h.drafts;
         }
-
--- what a client sends and shows, where the code has it without what it spends
-module _ (done : Result (List Out × ArrayVec Seen) OutOfMemory) where
-  abbrev pub Unspent : Result Effects OutOfMemory → Type 0
-  Unspent result = MatchResult result (λ e. (done ≡ Ok (e.outs, e.marks)) × (e.spent ≡ false)) (λ e. done ≡ Err e)
-
-  pub unspent_hears : (result : Result Effects OutOfMemory) (at : ℕ) (s now : Seat) (cue : Cue) (items : List Seat) → Unspent result
-      → OnOk done (now ≡ after s cue) → IfOk done (λ r. r.0 ≡ sends s cue) → IfOk done (λ r. r.1.items ≡ marks s cue)
-      → (s.me ≤ 15 → IfOk done (λ r. All (IsDraftOf s.cluster.f (Client s.me)) r.0)) → OnOk done (now.cli.stamp ≡ s.cli.stamp)
-      → IfOk result (λ e. CliHears at s cue items (slice_set items at now) e.outs e.marks.items e.spent)
-  unspent_hears (Err refused) at s now cue items same moves outs shown drafts stamp = tt
-  unspent_hears (Ok e) at s now cue items same moves outs shown drafts stamp =
-      let of : (Q : List Out × ArrayVec Seen → Type 0) → IfOk done Q → Q (e.outs, e.marks) = λ Q holds. subst (λ (d : Result (List Out × ArrayVec Seen) OutOfMemory). IfOk d Q) same.0 holds in
-      let moved : now ≡ after s cue = of (λ r. now ≡ after s cue) moves in
-      let keeps : now.cli.stamp ≡ s.cli.stamp = of (λ r. now.cli.stamp ≡ s.cli.stamp) stamp in
-      record {
-        set = ap (slice_set items at) moved;
-        sends = of (λ r. r.0 ≡ sends s cue) outs;
-        shows = of (λ r. r.1.items ≡ marks s cue) shown;
-        stamp = omega (arith, ap (λ (q : Seat). q.cli.stamp) moved, keeps);
-        drafts = λ few. of (λ r. All (IsDraftOf s.cluster.f (Client s.me)) r.0) (drafts few);
-        spends = same.1;
-      }
-
-  pub unspent_shows : (result : Result Effects OutOfMemory) (seen : List Seen) → Unspent result → IsOkAnd done (λ r. r.1.items ≡ seen) → IsOkAnd result (λ e. e.marks.items ≡ seen)
-  unspent_shows (Ok e) seen same shows = subst (λ (d : Result (List Out × ArrayVec Seen) OutOfMemory). IsOkAnd d (λ r. r.1.items ≡ seen)) same.0 shows
-  unspent_shows (Err refused) seen same shows = absurd (subst (λ (d : Result (List Out × ArrayVec Seen) OutOfMemory). IsOkAnd d (λ r. r.1.items ≡ seen)) same shows)
-
-  pub unspent_err : (Q : Type 0) (result : Result Effects OutOfMemory) → Unspent result → OnErr done Q → OnErr result Q
-  unspent_err Q (Ok e) same holds = tt
-  unspent_err Q (Err refused) same holds = subst (λ (d : Result (List Out × ArrayVec Seen) OutOfMemory). OnErr d Q) same holds
-
--- ---- commits at once
-
--- what a client is handed, as the code reads it where the client stands
-module _ (s seat : Seat) (same : s ≡ seat) (cue : Cue) (seen : Seen) where
-  pub message_commits : (m : Msg) → cue ≡ cue_message m → (T : Type 0)
-      → ((r : Request) (b : Ballot) → IsLastVote seat m r b → seen ≡ Committed seat.cli.at seat.me r b.n b.d b.reply → T) → ClientCommits s cue seen → T
-  message_commits m is T each commits =
-      let there : ClientCommits seat (cue_message m) seen = subst (λ (u : Cue). ClientCommits seat u seen) is (subst (λ (q : Seat). ClientCommits q cue seen) same commits) in
-      each there.0 there.1 there.2 there.3
-
-  pub time_commits : cue ≡ cue_time → (T : Type 0) → ClientCommits s cue seen → T
-  time_commits is T commits =
-      let there : ClientCommits seat cue_time seen = subst (λ (u : Cue). ClientCommits seat u seen) is (subst (λ (q : Seat). ClientCommits q cue seen) same commits) in
-      absurd there
 
 -- ---- what clauses say of the core at a place
 
@@ -403,10 +351,6 @@ module _ {P : Type 0} where
     pub at_there : (twin : Option ℕ) → place_of now.setup (party_at p) twin ≡ Some p → IsThere x.setup at
     at_there twin given =
         subst (IsThere x.setup) placed (subst (λ (y : Cast P). IsThere y.setup p) (sym view) (is_there now.setup (party_at p) twin p given))
-
--- a client without an open request takes a command
-pub is_free_core : (P : Type 0) (s : Seat) → s.cli.phase ≡ Idle → command_refusal {P = P} (client s) ≡ None
-is_free_core P s idle = ap (λ p. if is_idle p then None else Some Busy) idle
 
 -- ---- before the first event
 
@@ -441,7 +385,7 @@ module _ {P : Type 0} (proto : Proto P) (serves : Kind → Bool) (form : KeepsFo
   firsts_are_own : (n : ℕ) → AreOwn proto serves x (firsts n)
   firsts_are_own zero r s at = absurd (cc (at))
   firsts_are_own (suc n) r s at =
-      Each-push (IsSite proto serves x) (firsts n) (first n) (subst (λ (m : ℕ). IsSite proto serves x m (first n)) (sym (length-firsts n)) (first_is_site proto serves form x served n)) (firsts_are_own n) r s at
+      Each-push (IsSite proto serves x) (firsts n) (first n) (subst (λ (m : ℕ). IsSite proto serves x m (first n)) (sym (length-firsts n)) (first_is_site proto serves x n form served)) (firsts_are_own n) r s at
 
   IsCast-first : IsCast proto serves (first_cast proto x)
   IsCast-first = record {
@@ -451,7 +395,7 @@ module _ {P : Type 0} (proto : Proto P) (serves : Kind → Bool) (form : KeepsFo
     all_client_twins = length-map (client_twins x.faulty) (λ k. first_seat x.cluster k.0);
     serves_all = served;
     own_replicas = firsts_are_own (3 * x.cluster.f + 1);
-    twin_replicas = λ at k s number there. subst (IsSite proto serves x k.0) (mapped first (replica_twins x.faulty) at k s number there) (first_is_site proto serves form x served k.0);
+    twin_replicas = λ at k s number there. subst (IsSite proto serves x k.0) (mapped first (replica_twins x.faulty) at k s number there) (first_is_site proto serves x k.0 form served);
     seats = first_are_seats x.cluster x.cluster.clients;
     twin_seats = λ at k s number there. subst (IsSeat x.cluster 0 k.0) (mapped (first_seat x.cluster) (client_twins x.faulty) at k s number there) (first_seated x.cluster k.0);
     few_events = omega arith;

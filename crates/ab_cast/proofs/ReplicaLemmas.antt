@@ -1,40 +1,46 @@
 -- A replica in its cluster, as it takes what comes.
-use Rattle.std.proofs.Common.{◌≡◌, ℕ, ◌+◌, ◌-◌, ◌*◌, ◌<◌, ◌≤◌, Bool, Result, Ok, Err, true, false, List, [], length, refl, sym, ap, ◌∙◌, subst, arith}
-use Rattle.std.specs.Prelude.{All, IfOk, replicate, slice_set, if◌then◌else◌}
+use Rattle.std.proofs.Common.{◌≡◌, ℕ, ◌+◌, ◌*◌, ◌<◌, Bool, All, Result, Ok, Err, List, length, IsTrue, refl, sym, ap, ◌∙◌, subst, arith}
+use Rattle.std.specs.Prelude.{IfOk, OnOk, replicate, slice_set}
+use Rattle.std.proofs.lemmas.Bool.{lt-ltb}
+use Rattle.ab_num.specs.declared.cluster.Cluster.{Cluster}
+use Rattle.ab_num.specs.declared.memory.OutOfMemory.{OutOfMemory}
 use Rattle.ab_num.specs.declared.plan.Height.{Height}
 use Rattle.ab_num.specs.declared.plan.Height.TheVariants.{Five, Ten}
 use Rattle.ab_num.specs.declared.plan.Kind.{Kind}
-use Rattle.ab_num.specs.declared.memory.OutOfMemory.{OutOfMemory}
-use Rattle.ab_num.specs.declared.party.Party.TheVariants.{Replica}
+use Rattle.ab_num.specs.declared.party.Party.{Party}
+use Rattle.ab_num.specs.declared.party.Party.TheVariants.{Replica, Client}
 use Rattle.ab_lms.specs.Nodes.{levels}
 use Rattle.ab_lms.proofs.Signed.{length-lms_signature}
+use Rattle.ab_keys.specs.Keys.{is_party}
 use Rattle.ab_keys.specs.Secrets.{tree_name, tree_seed}
-use Rattle.ab_sign.specs.Signers.{signature_at, leaves_of, pen_of}
+use Rattle.ab_sign.specs.Signers.{pen_of, signature_at}
 use Rattle.ab_sign.proofs.KeyLemmas.{derived-at, derived-leaves}
 use Rattle.ab_msg.specs.declared.content.Content.{Content}
 use Rattle.ab_msg.specs.declared.message.Out.{Out}
 use Rattle.ab_msg.specs.Contents.{spell_content}
 use Rattle.ab_msg.specs.Fields.{IsSig}
-use Rattle.ab_msg.specs.Pens.{Pen}
 use Rattle.ab_abs.specs.declared.seen.Seen.{Seen}
 use Rattle.ab_abs.specs.Ensembles.{Proto}
-use Rattle.ab_abs.specs.Messages.{Call, IsFormed}
+use Rattle.ab_abs.specs.Messages.{Call}
 use Rattle.ab_abs.specs.FormLaws.{KeepsForm}
 use Rattle.ab_abs.specs.Promises.{ServesAll}
-use Rattle.ab_abs.proofs.Certified.{all_of}
-use Rattle.ab_run.specs.Forms.{IsDraftOf, IsWrittenRep, IsWrittenSetup}
-use Rattle.ab_run.specs.Replicas.{is_spent, due}
-use Rattle.ab_run.specs.Local.{after_turns, rep_marks, rep_sends}
-use Rattle.ab_run.proofs.Written.{first_written, call_goes}
+use Rattle.ab_run.specs.Forms.{IsDraftOf, IsWrittenSetup}
+use Rattle.ab_run.specs.Replicas.{is_spent}
+use Rattle.ab_run.specs.Local.{Cue, rep_marks, rep_sends}
+use Rattle.ab_run.proofs.Written.{first_written}
 use Rattle.ab_replica.specs.declared.effects.Effects.{Effects}
-use Rattle.ab_replica.specs.Sites.{IsPenAfter, IsPenOf, IsSetupOf, Site}
-use Rattle.ab_replica.specs.Doings.{Hears, entries_in}
-use Rattle.ab_cast.specs.declared.given.Given.{Given}
-use Rattle.ab_cast.specs.declared.given.Given.TheVariants as given
-use Rattle.ab_cast.specs.Setups.{Setup, run_setup, keys_of}
+use Rattle.ab_replica.specs.Sites.{IsSetupOf, Site}
+use Rattle.ab_replica.specs.Doings.{Hears}
+use Rattle.ab_client.specs.Clients.{Seat}
+use Rattle.ab_party.specs.declared.cue.Cue.{Cue as CueRef}
+use Rattle.ab_party.specs.declared.cue.Cue.TheVariants as cue
+use Rattle.ab_party.specs.Credentials.{Credentials, IsPartyRing}
+use Rattle.ab_party.specs.Cues.{call_of, cue_of}
+use Rattle.ab_party.specs.Parties.{ClientHears, IsClientOf, IsReplicaOf}
+use Rattle.ab_cast.specs.Setups.{Setup, credentials_at, keys_of, ring_at, run_setup}
 use Rattle.ab_cast.specs.Cores.{replica, site_after, core_after, core_sends, core_marks, core_spends}
-use Rattle.ab_cast.specs.Hearing.{IsGiven, RepHears, call_of, cue_of}
-use Rattle.ab_cast.specs.Casts.{IsSite, first_site}
+use Rattle.ab_cast.specs.Casts.{IsSeatOf, IsSite, first_site}
+use Rattle.ab_cast.specs.Hearing.{CliHears, RepHears}
 
 -- ---- signatures
 
@@ -52,99 +58,102 @@ sig_long x r s n lt =
 pub written_setup : (x : Setup) (serves : Kind → Bool) → ServesAll serves x.cluster → IsWrittenSetup (run_setup x) serves
 written_setup x serves served = record { serves_all = served; signs = λ r s n lt. sig_long x r s n lt }
 
+-- ---- keys
+
+-- the ring of a party of the cluster
+pub party_ring : (x : Setup) (p : Party) → IsTrue (is_party x.cluster.f x.cluster.clients p) → IsPartyRing (ring_at x p)
+party_ring x p party = record { bounds = x.cluster.in_bounds; party = party }
+
+pub replica_party : (x : Setup) (r : ℕ) → r < 3 * x.cluster.f + 1 → IsTrue (is_party x.cluster.f x.cluster.clients (Replica r))
+replica_party x r lt = lt-ltb r (3 * x.cluster.f + 1) lt
+
+pub client_party : (x : Setup) (c : ℕ) → c < x.cluster.clients → IsTrue (is_party x.cluster.f x.cluster.clients (Client c))
+client_party x c lt = lt-ltb c x.cluster.clients lt
+
 -- ---- what comes
 
-pub given_formed : (g : Given) → IsGiven g → IsFormed (call_of g)
-given_formed (given.Message m) is = is.of_grammar
-given_formed given.Time is = tt
-
 module _ {P : Type 0} (x : Setup) (proto : Proto P) (r : ℕ) (s : Site P) where
-  pub after_given : (g : Given) → core_after x proto (Replica r) (replica s) (cue_of g) ≡ replica (site_after (run_setup x) proto r s (call_of g))
-  after_given (given.Message m) = refl
-  after_given given.Time = refl
+  pub after_cue : (g : CueRef) → core_after x proto (Replica r) (replica s) (cue_of g) ≡ replica (site_after (run_setup x) proto r s (call_of g))
+  after_cue (cue.Message m) = refl
+  after_cue cue.Time = refl
 
-  pub sends_given : (g : Given) → core_sends x proto (Replica r) (replica s) (cue_of g) ≡ rep_sends (run_setup x) proto r s.rep (call_of g)
-  sends_given (given.Message m) = refl
-  sends_given given.Time = refl
+  pub sends_cue : (g : CueRef) → core_sends x proto (Replica r) (replica s) (cue_of g) ≡ rep_sends (run_setup x) proto r s.rep (call_of g)
+  sends_cue (cue.Message m) = refl
+  sends_cue cue.Time = refl
 
-  pub marks_given : (g : Given) → core_marks x proto (Replica r) (replica s) (cue_of g) ≡ rep_marks (run_setup x) proto r s.rep (call_of g)
-  marks_given (given.Message m) = refl
-  marks_given given.Time = refl
+  pub marks_cue : (g : CueRef) → core_marks x proto (Replica r) (replica s) (cue_of g) ≡ rep_marks (run_setup x) proto r s.rep (call_of g)
+  marks_cue (cue.Message m) = refl
+  marks_cue cue.Time = refl
 
-  pub spends_given : (g : Given) → core_spends x proto (Replica r) (replica s) (cue_of g) ≡ is_spent (run_setup x) proto r s.rep (call_of g)
-  spends_given (given.Message m) = refl
-  spends_given given.Time = refl
-
--- ---- its pen
-
-module _ {P : Type 0} (proto : Proto P) (serves : Kind → Bool) (x : Setup) (r : ℕ) (lt : r < 3 * x.cluster.f + 1) (s : Site P) (is : IsSite proto serves x r s) where
-  pub pen_is : IsPenOf (pen_of (keys_of x) r s.rep.used) (leaves_of (keys_of x) r - s.rep.used) s
-  pen_is = record {
-    used = refl;
-    rest =
-        let most : leaves_of (keys_of x) r ≡ s.signatures = derived-leaves x.cluster.f x.lms (replicate 32 0) r lt ∙ sym is.signatures in
-        ap (λ n. n - s.rep.used + s.rep.used) most ∙ omega (arith, is.used);
-  }
-
-  pub setup_is : IsSetupOf (run_setup x) s (pen_of (keys_of x) r s.rep.used)
-  setup_is = record { cluster = sym is.placed; signatures = sym is.signatures; sig = ap (run_setup x).sig is.own }
-
-  -- it has made no more signatures than it can, since a spent event changes nothing
-  used_by : (call : Call) (now : Site P) (outs : List Out) (marks : List Seen) (spent : Bool) (pen new : Pen) (left : ℕ) → Hears proto (run_setup x) s call now outs marks spent
-      → (spent ≡ false → IsPenAfter pen new left now) → now.rep.used ≤ now.signatures
-  used_by call now outs marks false pen new left hears after = omega (arith, (after refl).own.rest)
-  used_by call now outs marks true pen new left hears after =
-      let k = run_setup x in
-      let at : Bool → Site P = λ b. record s {
-        rep = after_turns k proto s.me s.rep (if b then [] else due k proto s.me s.rep call);
-        entries = s.entries + entries_in (if b then [] else due k proto s.me s.rep call);
-      } in
-      let same : now ≡ at true = hears.after ∙ ap at (sym hears.spends) in
-      subst (λ (q : Site P). q.rep.used ≤ q.signatures) (sym same) is.used
-
-  pub heard : (at : ℕ) (call : Call) (now : Site P) (old new : List (Site P)) (outs : List Out) (marks : List Seen) (spent : Bool) (pen after : Pen) (left : ℕ) → new ≡ slice_set old at now
-      → Hears proto (run_setup x) s call now outs marks spent → (spent ≡ false → IsPenAfter pen after left now) → RepHears proto x at s call old new outs marks spent
-  heard at call now old new outs marks spent pen after left set hears next =
-      record { now = now; set = set; hears = hears; used = used_by call now outs marks spent pen after left hears next }
-
-  pub heard_ok : (at : ℕ) (call : Call) (now : Site P) (old : List (Site P)) (result : Result Effects OutOfMemory) (pen after : Pen) (left : ℕ)
-      → IfOk result (λ e. Hears proto (run_setup x) s call now e.outs e.marks.items e.spent) → IfOk result (λ e. e.spent ≡ false → IsPenAfter pen after left now)
-      → IfOk result (λ e. RepHears proto x at s call old (slice_set old at now) e.outs e.marks.items e.spent)
-  heard_ok at call now old (Ok e) pen after left hears next = heard at call now old (slice_set old at now) e.outs e.marks.items e.spent pen after left refl hears next
-  heard_ok at call now old (Err fault) pen after left hears next = hears
+  pub spends_cue : (g : CueRef) → core_spends x proto (Replica r) (replica s) (cue_of g) ≡ is_spent (run_setup x) proto r s.rep (call_of g)
+  spends_cue (cue.Message m) = refl
+  spends_cue cue.Time = refl
 
 -- ---- one replica
 
-module _ {P : Type 0} (proto : Proto P) (serves : Kind → Bool) (form : KeepsForm proto serves) (x : Setup) (served : ServesAll serves x.cluster) (r : ℕ) where
-  pub first_is_site : IsSite proto serves x r (first_site x proto r)
-  first_is_site = record {
+module _ {P : Type 0} (proto : Proto P) (serves : Kind → Bool) (x : Setup) (r : ℕ) where
+  pub first_is_site : KeepsForm proto serves → ServesAll serves x.cluster → IsSite proto serves x r (first_site x proto r)
+  first_is_site form served = record {
     placed = refl;
     own = refl;
     signatures = refl;
-    used = omega arith;
-    written = λ lt. first_written (run_setup x) proto form (written_setup x serves served) r lt;
+    holds = λ lt. record {
+      ring = party_ring x (Replica r) (replica_party x r lt);
+      own = refl;
+      f = refl;
+      signatures = sym (derived-leaves x.cluster.f x.lms (replicate 32 0) r lt);
+      signs = λ m n. sig_long x r m n lt;
+      used = omega arith;
+      serves_all = served;
+      written = first_written (run_setup x) proto form (written_setup x serves served) r lt;
+    };
   }
 
-  module _ (lt : r < 3 * x.cluster.f + 1) (s now : Site P) (call : Call) (outs : List Out) (marks : List Seen) (spent : Bool) (formed : IsFormed call) (was : IsSite proto serves x r s)
-      (hears : Hears proto (run_setup x) s call now outs marks spent) (used : now.rep.used ≤ now.signatures) where
-    pub after_is : now ≡ site_after (run_setup x) proto r s call
-    after_is = hears.after ∙ ap (λ m. site_after (run_setup x) proto m s call) was.own
+  module _ (s : Site P) (was : IsSite proto serves x r s) where
+    pub setup_is : IsSetupOf (run_setup x) s (pen_of (keys_of x) s.me 0)
+    setup_is = record { cluster = sym was.placed; signatures = sym was.signatures; sig = refl }
 
-    pub goes_on : IsSite proto serves x r now
-    goes_on =
-        let goes = call_goes (run_setup x) proto form (written_setup x serves served) r s.rep call lt formed (was.written lt) in
-        record {
-          placed = ap (λ (q : Site P). q.cluster) after_is ∙ was.placed;
-          own = ap (λ (q : Site P). q.me) after_is ∙ was.own;
-          signatures = ap (λ (q : Site P). q.signatures) after_is ∙ was.signatures;
-          used = used;
-          written = λ lt. subst (λ (q : Site P). IsWrittenRep proto serves x.cluster r q.rep) (sym after_is) goes.stands;
-        }
+    module _ (now : Site P) (call : Call) (outs : List Out) (marks : List Seen) (spent : Bool) (hears : Hears proto (run_setup x) s call now outs marks spent) where
+      pub after_is : now ≡ site_after (run_setup x) proto r s call
+      after_is = hears.after ∙ ap (λ m. site_after (run_setup x) proto m s call) was.own
 
-    pub sends_is : outs ≡ rep_sends (run_setup x) proto r s.rep call
-    sends_is = hears.sends ∙ ap (λ m. rep_sends (run_setup x) proto m s.rep call) was.own
+      pub goes_on : IsReplicaOf proto serves (credentials_at x (Replica r)) now → IsSite proto serves x r now
+      goes_on holds = record {
+        placed = ap (λ (q : Site P). q.cluster) after_is ∙ was.placed;
+        own = ap (λ (q : Site P). q.me) after_is ∙ was.own;
+        signatures = ap (λ (q : Site P). q.signatures) after_is ∙ was.signatures;
+        holds = λ lt. holds;
+      }
 
-    pub own_drafts : All (IsDraftOf x.cluster.f (Replica r)) outs
-    own_drafts =
-        let goes = call_goes (run_setup x) proto form (written_setup x serves served) r s.rep call lt formed (was.written lt) in
-        subst (All (IsDraftOf x.cluster.f (Replica r))) (sym sends_is) (all_of (IsDraftOf x.cluster.f (Replica r)) (rep_sends (run_setup x) proto r s.rep call) goes.drafts)
+  -- at its place among others, by what the code makes of its keys
+  module _ (lt : r < 3 * x.cluster.f + 1) (keys : Credentials) (made : keys ≡ credentials_at x (Replica r)) (s : Site P) (was : IsSite proto serves x r s) where
+    pub own_keys : IsReplicaOf proto serves keys s
+    own_keys = subst (λ k. IsReplicaOf proto serves k s) (sym made) (was.holds lt)
+
+    pub stands : IsSetupOf (run_setup x) s (pen_of keys.keys s.me 0)
+    stands = subst (λ (k : Credentials). IsSetupOf (run_setup x) s (pen_of k.keys s.me 0)) (sym made) (setup_is s was)
+
+    pub heard : (at : ℕ) (call : Call) (now : Site P) (old : List (Site P)) (result : Result Effects OutOfMemory) → IfOk result (λ e. Hears proto (run_setup x) s call now e.outs e.marks.items e.spent)
+        → OnOk result (IsReplicaOf proto serves keys now) → IfOk result (λ e. All (IsDraftOf keys.ring.f keys.ring.me) e.outs)
+        → IfOk result (λ e. RepHears proto serves x r at s call old (slice_set old at now) e.outs e.marks.items e.spent)
+    heard at call now old (Ok e) hears holds drafts = record {
+      now = now;
+      set = refl;
+      hears = hears;
+      site = goes_on s was now call e.outs e.marks.items e.spent hears (subst (λ k. IsReplicaOf proto serves k now) made holds);
+      drafts = subst (λ (k : Credentials). All (IsDraftOf k.ring.f k.ring.me) e.outs) made drafts;
+    }
+    heard at call now old (Err fault) hears holds drafts = tt
+
+-- ---- one client
+
+module _ (x : Setup) (n : ℕ) (keys : Credentials) (made : keys ≡ credentials_at x (Client n)) where
+  pub seat_keys : n < x.cluster.clients → (s : Seat) → IsSeatOf x.cluster n s → IsClientOf keys s
+  seat_keys lt s is =
+      subst (λ k. IsClientOf k s) (sym made) (record { ring = party_ring x (Client n) (client_party x n lt); own = ap Client (sym is.0); f = ap (λ (k : Cluster). k.f) (sym is.1) })
+
+  pub client_heard : {E : Type 0} (at : ℕ) (s : Seat) (cue : Cue) (now : Seat) (old : List Seat) (result : Result Effects E) → IfOk result (λ e. ClientHears s cue now e.outs e.marks.items e.spent)
+      → IfOk result (λ e. All (IsDraftOf keys.ring.f keys.ring.me) e.outs) → IfOk result (λ e. CliHears x n at s cue old (slice_set old at now) e.outs e.marks.items e.spent)
+  client_heard at s cue now old (Ok e) hears drafts =
+      record { now = now; set = refl; hears = hears; drafts = subst (λ (k : Credentials). All (IsDraftOf k.ring.f k.ring.me) e.outs) made drafts }
+  client_heard at s cue now old (Err fault) hears drafts = tt

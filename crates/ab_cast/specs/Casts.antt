@@ -2,25 +2,25 @@
 use Rattle.std.specs.Prelude.{◌≡◌, ℕ, zero, suc, ◌+◌, ◌*◌, ◌<◌, ◌≤◌, if◌then◌else◌, Bool, true, false, Option, None, Some, List, [], ◌∷◌, ◌++◌, All, length, map, slice_get, slice_set}
 use Rattle.std.specs.Option.{option_map}
 use Rattle.ab_num.specs.declared.cluster.Cluster.{Cluster}
+use Rattle.ab_num.specs.declared.party.Party.TheVariants.{Replica}
 use Rattle.ab_num.specs.declared.plan.Kind.{Kind}
 use Rattle.ab_msg.specs.declared.message.Out.{Out}
 use Rattle.ab_abs.specs.declared.seen.Seen.{Seen}
 use Rattle.ab_abs.specs.Ensembles.{Proto}
 use Rattle.ab_abs.specs.Promises.{ServesAll}
 use Rattle.ab_run.specs.Local.{Cue}
-use Rattle.ab_run.specs.declared.phase.Phase.{Phase}
-use Rattle.ab_run.specs.declared.phase.Phase.TheVariants.{Idle, Waiting, Panicking}
-use Rattle.ab_run.specs.Forms.{IsDraftOf, IsWrittenRep}
+use Rattle.ab_run.specs.Forms.{IsDraftOf}
 use Rattle.ab_run.specs.Replicas.{Rep}
 use Rattle.ab_replica.specs.Sites.{Site}
 use Rattle.ab_run.specs.Clients.{Cli}
 use Rattle.ab_run.specs.Runs.{first_rep, first_cli}
 use Rattle.ab_client.specs.Clients.{Seat}
-use Rattle.ab_cast.specs.declared.fault.CommandFault.{CommandFault}
-use Rattle.ab_cast.specs.declared.fault.CommandFault.TheVariants.{NoClient, Busy, OutOfMemory}
+use Rattle.ab_party.specs.declared.fault.CommandFault.{CommandFault}
+use Rattle.ab_party.specs.declared.fault.CommandFault.TheVariants.{NoClient}
+use Rattle.ab_party.specs.Parties.{IsCauseOf, IsReplicaOf, is_idle, seat_refusal}
 use Rattle.ab_cast.specs.declared.place.Place.{Place}
 use Rattle.ab_cast.specs.declared.place.Place.TheVariants as place
-use Rattle.ab_cast.specs.Setups.{Setup, run_setup, signatures_of, replica_twins, client_twins, party_at}
+use Rattle.ab_cast.specs.Setups.{Setup, credentials_at, run_setup, signatures_of, replica_twins, client_twins, party_at}
 use Rattle.ab_cast.specs.Cores.{Core, replica, client, core_after, core_sends, core_marks, core_spends}
 
 -- each party's own core by the party's number, the further ones of faulty parties, and how many events there were
@@ -105,11 +105,6 @@ reps_of sites = map (λ s. s.rep) sites
 abbrev pub clis_of : List Seat → List Cli
 clis_of seats = map (λ s. s.cli) seats
 
-abbrev pub is_idle : Phase → Bool
-is_idle Idle = true
-is_idle Waiting = false
-is_idle Panicking = false
-
 -- whether a client is there and has no request open
 abbrev pub is_free : Option Seat → Bool
 is_free None = false
@@ -118,13 +113,15 @@ is_free (Some s) = is_idle s.cli.phase
 -- why a core takes no command, if it doesn't
 abbrev pub command_refusal : {P : Type 0} → Core P → Option CommandFault
 command_refusal (replica s) = Some NoClient
-command_refusal (client s) = if is_idle s.cli.phase then None else Some Busy
+command_refusal (client s) = seat_refusal s
 
 -- a fault is the stated refusal. Memory is refused only where nothing else is
 abbrev pub CommandCause : {P : Type 0} → CommandFault → Core P → Type 0
-CommandCause OutOfMemory s = command_refusal s ≡ None
-CommandCause NoClient s = command_refusal s ≡ Some NoClient
-CommandCause Busy s = command_refusal s ≡ Some Busy
+CommandCause e s = IsCauseOf e (command_refusal s)
+
+-- client n of a cluster
+abbrev pub IsSeatOf : Cluster → ℕ → Seat → Type 0
+IsSeatOf c n s = (s.me ≡ n) × (s.cluster ≡ c)
 
 -- client n of a cluster. Each event raises a stamp by one at most
 pub record IsSeat (c : Cluster) (events n : ℕ) (s : Seat) : Type 0 where
@@ -141,13 +138,12 @@ abbrev pub AreTwinSeats : Cluster → ℕ → List (ℕ × ℕ) → List Seat �
 AreTwinSeats c events numbers seats =
     (at : ℕ) (k : ℕ × ℕ) (s : Seat) → slice_get numbers at ≡ Some k → slice_get seats at ≡ Some s → IsSeat c events k.0 s
 
--- replica r of the cluster, which keeps what has bytes and has made no more signatures than it can
+-- replica r of the cluster, by its party's credentials
 pub record IsSite {P : Type 0} (proto : Proto P) (serves : Kind → Bool) (x : Setup) (r : ℕ) (s : Site P) : Type 0 where
   pub placed : s.cluster ≡ x.cluster
   pub own : s.me ≡ r
   pub signatures : s.signatures ≡ signatures_of x
-  pub used : s.rep.used ≤ s.signatures
-  pub written : r < 3 * x.cluster.f + 1 → IsWrittenRep proto serves x.cluster r s.rep
+  pub holds : r < 3 * x.cluster.f + 1 → IsReplicaOf proto serves (credentials_at x (Replica r)) s
 
 module _ {P : Type 0} (proto : Proto P) (serves : Kind → Bool) (x : Setup) where
   -- each own replica is at its number

@@ -2,13 +2,10 @@
 use Rattle.std.specs.Prelude.{◌≡◌, ℕ, ◌+◌, Bool, false, List, []}
 use Rattle.ab_num.specs.declared.party.Party.{Party}
 use Rattle.ab_num.specs.declared.party.Party.TheVariants.{Replica, Client}
-use Rattle.ab_hist.specs.declared.request.Request.{Request}
 use Rattle.ab_msg.specs.declared.content.Content.{Content}
 use Rattle.ab_msg.specs.declared.message.Out.{Out}
 use Rattle.ab_msg.specs.Claims.{claims}
-use Rattle.ab_abs.specs.declared.ballot.Ballot.{Ballot}
 use Rattle.ab_abs.specs.declared.seen.Seen.{Seen}
-use Rattle.ab_abs.specs.declared.seen.Seen.TheVariants.{Committed}
 use Rattle.ab_abs.specs.Messages.{Call, took, timed}
 use Rattle.ab_abs.specs.Ensembles.{Proto}
 use Rattle.ab_run.specs.Setups.{RunSetup}
@@ -17,7 +14,7 @@ use Rattle.ab_replica.specs.Sites.{Site}
 use Rattle.ab_replica.specs.Doings.{entries_in}
 use Rattle.ab_run.specs.Local.{Cue, cue_command, cue_message, cue_time, rep_after, rep_sends, rep_marks, cli_after, cli_sends, cli_marks}
 use Rattle.ab_client.specs.Clients.{Seat}
-use Rattle.ab_client.specs.Moved.{IsLastVote}
+use Rattle.ab_party.specs.Parties.{ClientCommits}
 use Rattle.ab_cast.specs.Setups.{Setup, run_setup}
 
 -- a replica or a client, where it is
@@ -35,14 +32,7 @@ cue_claims f p (cue_command bytes) = []
 cue_claims f p (cue_message m) = claims f p m
 cue_claims f p cue_time = []
 
--- what client s is handed completes the equal first answers of all replicas, in an instance of Quorum or ZLight, and by them it commits
--- what is seen
-abbrev pub ClientCommits : Seat → Cue → Seen → Type 0
-ClientCommits s (cue_command bytes) seen = ⊥
-ClientCommits s (cue_message m) seen = (r : Request) × (b : Ballot) × IsLastVote s m r b × (seen ≡ Committed s.cli.at s.me r b.n b.d b.reply)
-ClientCommits s cue_time seen = ⊥
-
--- the same of a core. A replica commits nothing
+-- what a core is handed makes it commit what is seen. A replica commits nothing
 abbrev pub CommitsAtOnce : {P : Type 0} → Core P → Cue → Seen → Type 0
 CommitsAtOnce (replica s) cue seen = ⊥
 CommitsAtOnce (client s) cue seen = ClientCommits s cue seen

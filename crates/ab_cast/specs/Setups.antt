@@ -16,6 +16,7 @@ use Rattle.ab_keys.specs.Keys.{is_party}
 use Rattle.ab_keys.specs.Rings.{Ring, ring_of}
 use Rattle.ab_abs.specs.Faults.{is_faulty}
 use Rattle.ab_run.specs.Setups.{RunSetup}
+use Rattle.ab_party.specs.Credentials.{Credentials}
 use Rattle.ab_cast.specs.declared.place.Place.{Place}
 use Rattle.ab_cast.specs.declared.place.Place.TheVariants as place
 
@@ -43,6 +44,10 @@ is_bad x p = is_faulty (run_setup x).faulty p
 -- the keys of a party
 abbrev pub ring_at : Setup → Party → Ring
 ring_at x p = ring_of x.cluster.f x.cluster.clients x.cluster.plan (replicate 32 0) p
+
+-- what a party opens, signs and seals by
+abbrev pub credentials_at : Setup → Party → Credentials
+credentials_at x p = record { ring = ring_at x p; keys = keys_of x }
 
 -- who tells for a party whether a tag or a signature is right
 abbrev pub judge_at : Setup → Party → Judge

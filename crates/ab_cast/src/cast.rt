@@ -7,23 +7,22 @@ ghost use Rattle.ab_abs.specs.declared.seen.Seen.{Seen};
 ghost use Rattle.ab_abs.specs.Promises.{ServesAll};
 ghost use Rattle.ab_wire.specs.Views.{IsReceived, message as message_of};
 ghost use Rattle.ab_run.specs.Local.{cue_command, cue_message, cue_time};
+ghost use Rattle.ab_party.specs.Cues.{IsCue, cue_of};
 ghost use Rattle.ab_cast.specs.Setups.{place_of, party_at};
 ghost use Rattle.ab_cast.specs.Cores.{CommitsAtOnce, Core};
-ghost use Rattle.ab_cast.specs.Hearing.{IsGiven, cue_of};
 ghost use Rattle.ab_cast.specs.Casts.{AreSeats, IsTaken, core_at, next, first_cast, is_free, command_refusal, CommandCause};
 
 use crate::cores::{
-    first_client_twins, first_clients, first_replica_twins, first_replicas, hear_client,
-    hear_replica, tell_client,
+    first_client_twins, first_clients, first_replica_twins, first_replicas, hear_client_at,
+    hear_replica_at, tell_client_at,
 };
-use crate::fault::CommandFault;
-use crate::given::Given;
 use crate::place::Place;
 use crate::setup::Setup;
 use ab_abs::Protocol;
 use ab_client::Client;
 use ab_hist::History;
 use ab_num::OutOfMemory;
+use ab_party::{CommandFault, Cue};
 use ab_replica::{Effects, Replica};
 use ab_svc::Service;
 use ab_wire::MsgRef;
@@ -201,7 +200,7 @@ impl<S: Service, P: Protocol<S>> Cast<S, P> {
             → IsOkAnd result (λ e. e.marks.items ≡ seen ∷ []) }
         ensures err { OnErr result (self.new ≡ self.old) }
     {
-        self.give(alloc, place, Given::Message(m))
+        self.give(alloc, place, Cue::Message(m))
     }
 
     /// The timer of the core at a place of the cluster runs out. After an `Err` all is as before.
@@ -212,45 +211,42 @@ impl<S: Service, P: Protocol<S>> Cast<S, P> {
             → IfOk result (λ e. IsTaken P.proto self.old place s cue_time self.new e.outs e.marks.items e.spent) }
         ensures err { OnErr result (self.new ≡ self.old) }
     {
-        self.give(alloc, place, Given::Time)
+        self.give(alloc, place, Cue::Time)
     }
 
     /// The core at a place of the cluster takes what comes. After an `Err` all is as before.
-    fn give(
-        &mut self,
-        alloc: Global,
-        place: Place,
-        given: Given<'_>,
-    ) -> Result<Effects, OutOfMemory>
+    fn give(&mut self, alloc: Global, place: Place, cue: Cue<'_>) -> Result<Effects, OutOfMemory>
         requires few { self.old.events < 100000 }
-        requires given { IsGiven given }
+        requires cue { IsCue cue }
         requires there { (twin : Option ℕ) × (place_of self.old.setup (party_at place) twin ≡ Some place) }
         ensures taken { (s : Core P) → core_at self.old place ≡ Some s
-            → IfOk result (λ e. IsTaken P.proto self.old place s (cue_of given.entry) self.new e.outs e.marks.items e.spent) }
-        ensures at_once { (s : Core P) (seen : Seen) → core_at self.old place ≡ Some s → CommitsAtOnce s (cue_of given.entry) seen
+            → IfOk result (λ e. IsTaken P.proto self.old place s (cue_of cue.entry) self.new e.outs e.marks.items e.spent) }
+        ensures at_once { (s : Core P) (seen : Seen) → core_at self.old place ≡ Some s → CommitsAtOnce s (cue_of cue.entry) seen
             → IsOkAnd result (λ e. e.marks.items ≡ seen ∷ []) }
         ensures err { OnErr result (self.new ≡ self.old) }
     {
         match place {
             Place::Replica(r) => {
                 let cores = &mut self.replicas;
-                let effects = hear_replica(alloc, &self.setup, r, cores, r as usize, given)?;
+                let effects = hear_replica_at(alloc, &self.setup, r, cores, r as usize, cue)?;
                 self.events += 1;
                 Ok(effects)
             }
             Place::Client(c) => {
-                let effects = hear_client(alloc, &mut self.clients, c as usize, given)?;
+                let cores = &mut self.clients;
+                let effects = hear_client_at(alloc, &self.setup, c, cores, c as usize, cue)?;
                 self.events += 1;
                 Ok(effects)
             }
             Place::ReplicaTwin(r, at) => {
                 let cores = &mut self.replica_twins;
-                let effects = hear_replica(alloc, &self.setup, r, cores, at, given)?;
+                let effects = hear_replica_at(alloc, &self.setup, r, cores, at, cue)?;
                 self.events += 1;
                 Ok(effects)
             }
-            Place::ClientTwin(_, at) => {
-                let effects = hear_client(alloc, &mut self.client_twins, at, given)?;
+            Place::ClientTwin(c, at) => {
+                let cores = &mut self.client_twins;
+                let effects = hear_client_at(alloc, &self.setup, c, cores, at, cue)?;
                 self.events += 1;
                 Ok(effects)
             }
@@ -278,12 +274,14 @@ impl<S: Service, P: Protocol<S>> Cast<S, P> {
             Place::Replica(_) => Err(CommandFault::NoClient),
             Place::ReplicaTwin(_, _) => Err(CommandFault::NoClient),
             Place::Client(c) => {
-                let effects = tell_client(alloc, &mut self.clients, c as usize, bytes)?;
+                let cores = &mut self.clients;
+                let effects = tell_client_at(alloc, &self.setup, c, cores, c as usize, bytes)?;
                 self.events += 1;
                 Ok(effects)
             }
-            Place::ClientTwin(_, at) => {
-                let effects = tell_client(alloc, &mut self.client_twins, at, bytes)?;
+            Place::ClientTwin(c, at) => {
+                let cores = &mut self.client_twins;
+                let effects = tell_client_at(alloc, &self.setup, c, cores, at, bytes)?;
                 self.events += 1;
                 Ok(effects)
             }

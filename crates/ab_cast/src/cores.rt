@@ -1,25 +1,22 @@
 //! Events of single cores, and the cores before the first event.
 
-ghost use Rattle.std.specs.Prelude.{◌≡◌, ◌≢◌, ◌+◌, ◌*◌, ◌-◌, ◌^◌, ◌<◌, ◌≤◌, ◌++◌, ◌⊎◌, false, [], ◌∷◌, Ok, Err, IsOkAnd, IfOk, IfErr, OnOk, OnErr, MatchResult, length, map, replicate, slice_get, vec_len};
+ghost use Rattle.std.specs.Prelude.{◌≡◌, ◌+◌, ◌*◌, ◌-◌, ◌^◌, ◌<◌, ◌≤◌, ◌++◌, [], ◌∷◌, None, Some, IsOkAnd, IfErr, IfOk, OnErr, OnOk, length, map, replicate, slice_get, vec_len};
 ghost use Rattle.ab_abs.specs.declared.seen.Seen.{Seen};
 ghost use Rattle.ab_abs.specs.Promises.{ServesAll};
-ghost use Rattle.ab_run.specs.declared.phase.Phase.TheVariants.{Idle};
 ghost use Rattle.ab_replica.specs.Sites.{Site};
 ghost use Rattle.ab_client.specs.Clients.{Seat, told};
+ghost use Rattle.ab_party.specs.Cues.{IsCue, call_of, cue_of};
+ghost use Rattle.ab_party.specs.Parties.{ClientCommits, IsCauseOf, seat_refusal};
 ghost use Rattle.ab_cast.specs.Setups.{client_twins, replica_twins};
-ghost use Rattle.ab_cast.specs.Cores.{ClientCommits};
-ghost use Rattle.ab_cast.specs.Hearing.{CliHears, IsGiven, RepHears, call_of, cue_of};
-ghost use Rattle.ab_cast.specs.Casts.{IsSite, first_seat, first_seats, first_site, first_sites};
+ghost use Rattle.ab_cast.specs.Casts.{IsSeatOf, IsSite, first_seat, first_seats, first_site, first_sites};
+ghost use Rattle.ab_cast.specs.Hearing.{CliHears, RepHears};
 
-use crate::fault::CommandFault;
-use crate::given::Given;
 use crate::setup::Setup;
-use ab_abs::{Marks, Protocol};
-use ab_client::{Client, InvokeFault};
-use ab_msg::Outs;
+use ab_abs::Protocol;
+use ab_client::Client;
 use ab_num::{Cluster, OutOfMemory, Party};
+use ab_party::{CommandFault, Cue, hear_client, hear_replica, tell_client};
 use ab_replica::{Effects, Replica};
-use ab_sign::Pen;
 use ab_svc::Service;
 use std::alloc::Global;
 
@@ -138,90 +135,68 @@ pub(crate) fn first_client_twins(alloc: Global, setup: &Setup) -> Result<Vec<Cli
 
 /// One replica takes what comes, with the signatures that it has left. After an `Err` all are as
 /// before.
-pub(crate) fn hear_replica<S: Service, P: Protocol<S>>(
+pub(crate) fn hear_replica_at<S: Service, P: Protocol<S>>(
     alloc: Global,
     setup: &Setup,
     r: u8,
     cores: &mut Vec<Replica<S, P>>,
     at: usize,
-    given: Given<'_>,
+    cue: Cue<'_>,
 ) -> Result<Effects, OutOfMemory>
-    requires given { IsGiven given }
+    requires cue { IsCue cue }
     requires replica { r < 3 * setup.now.cluster.f + 1 }
     requires there { at < vec_len cores.old }
     requires own { (s : Site P) → slice_get cores.old.items at ≡ Some s → IsSite P.proto P.serves setup.now r s }
     ensures heard { (s : Site P) → slice_get cores.old.items at ≡ Some s
-        → IfOk result (λ e. RepHears P.proto setup.now at s (call_of given.entry) cores.old.items cores.new.items e.outs e.marks.items e.spent) }
+        → IfOk result (λ e. RepHears P.proto P.serves setup.now r at s (call_of cue.entry) cores.old.items cores.new.items e.outs e.marks.items e.spent) }
     ensures err { OnErr result (cores.new.items ≡ cores.old.items) }
 {
-    let core = &mut cores[at];
-    let mut pen = Pen::new(setup.signers(), r, core.used());
-    match given {
-        Given::Message(m) => core.on(alloc, m, &mut pen),
-        Given::Time => core.timeout(alloc, &mut pen),
-    }
-}
-
-/// What a client sends and shows. It has no signatures to spend.
-fn unspent(done: Result<(Outs, Marks), OutOfMemory>) -> Result<Effects, OutOfMemory>
-    ensures { MatchResult result (λ e. (done ≡ Ok (e.outs, e.marks)) × (e.spent ≡ false)) (λ e. done ≡ Err e) }
-{
-    match done {
-        Ok((outs, marks)) => Ok(Effects {
-            outs,
-            marks,
-            spent: false,
-        }),
-        Err(refused) => Err(refused),
-    }
+    let keys = setup.credentials(Party::Replica(r));
+    hear_replica(alloc, &keys, &mut cores[at], cue)
 }
 
 /// One client takes what comes. After an `Err` all are as before.
-pub(crate) fn hear_client(
+pub(crate) fn hear_client_at(
     alloc: Global,
+    setup: &Setup,
+    c: u16,
     cores: &mut Vec<Client>,
     at: usize,
-    given: Given<'_>,
+    cue: Cue<'_>,
 ) -> Result<Effects, OutOfMemory>
-    requires given { IsGiven given }
+    requires cue { IsCue cue }
+    requires client { c < setup.now.cluster.clients }
     requires there { at < vec_len cores.old }
+    requires own { (s : Seat) → slice_get cores.old.items at ≡ Some s → IsSeatOf setup.now.cluster c s }
     ensures heard { (s : Seat) → slice_get cores.old.items at ≡ Some s
-        → IfOk result (λ e. CliHears at s (cue_of given.entry) cores.old.items cores.new.items e.outs e.marks.items e.spent) }
-    ensures at_once { (s : Seat) (seen : Seen) → slice_get cores.old.items at ≡ Some s → ClientCommits s (cue_of given.entry) seen → IsOkAnd result (λ e. e.marks.items ≡ seen ∷ []) }
+        → IfOk result (λ e. CliHears setup.now c at s (cue_of cue.entry) cores.old.items cores.new.items e.outs e.marks.items e.spent) }
+    ensures at_once { (s : Seat) (seen : Seen) → slice_get cores.old.items at ≡ Some s → ClientCommits s (cue_of cue.entry) seen → IsOkAnd result (λ e. e.marks.items ≡ seen ∷ []) }
     ensures err { OnErr result (cores.new.items ≡ cores.old.items) }
 {
-    let core = &mut cores[at];
-    match given {
-        Given::Message(m) => unspent(core.on(alloc, m)),
-        Given::Time => unspent(core.timeout(alloc)),
-    }
+    let keys = setup.credentials(Party::Client(c));
+    hear_client(alloc, &keys, &mut cores[at], cue)
 }
 
 /// One client takes a command. After an `Err` all are as before.
-pub(crate) fn tell_client(
+pub(crate) fn tell_client_at(
     alloc: Global,
+    setup: &Setup,
+    c: u16,
     cores: &mut Vec<Client>,
     at: usize,
-    bytes: &[u8],
+    command: &[u8],
 ) -> Result<Effects, CommandFault>
+    requires form { (0 < length command.now) × (length command.now ≤ 128) }
+    requires client { c < setup.now.cluster.clients }
     requires there { at < vec_len cores.old }
     requires stamp { (s : Seat) → slice_get cores.old.items at ≡ Some s → s.cli.stamp < 2 ^ 63 }
-    requires form { (0 < length bytes.now) × (length bytes.now ≤ 128) }
+    requires own { (s : Seat) → slice_get cores.old.items at ≡ Some s → IsSeatOf setup.now.cluster c s }
     ensures heard { (s : Seat) → slice_get cores.old.items at ≡ Some s
-        → IfOk result (λ e. CliHears at s (told bytes.now) cores.old.items cores.new.items e.outs e.marks.items e.spent) }
-    ensures idle { (s : Seat) → slice_get cores.old.items at ≡ Some s → OnOk result (s.cli.phase ≡ Idle) }
-    ensures cause { (s : Seat) → slice_get cores.old.items at ≡ Some s → IfErr result (λ e. ((e ≡ CommandFault.Busy) × (s.cli.phase ≢ Idle)) ⊎ ((e ≡ CommandFault.OutOfMemory) × (s.cli.phase ≡ Idle))) }
+        → IfOk result (λ e. CliHears setup.now c at s (told command.now) cores.old.items cores.new.items e.outs e.marks.items e.spent) }
+    ensures idle { (s : Seat) → slice_get cores.old.items at ≡ Some s → OnOk result (seat_refusal s ≡ None) }
+    ensures cause { (s : Seat) → slice_get cores.old.items at ≡ Some s → IfErr result (λ e. IsCauseOf e (seat_refusal s)) }
     ensures err { OnErr result (cores.new.items ≡ cores.old.items) }
 {
-    match cores[at].invoke(alloc, bytes) {
-        Ok((outs, marks)) => Ok(Effects {
-            outs,
-            marks,
-            spent: false,
-        }),
-        Err(InvokeFault::Busy) => Err(CommandFault::Busy),
-        Err(InvokeFault::TooLong) => unreachable!(),
-        Err(InvokeFault::Empty) => unreachable!(),
-        Err(InvokeFault::OutOfMemory) => Err(CommandFault::OutOfMemory),
-    }
+    let keys = setup.credentials(Party::Client(c));
+    tell_client(alloc, &keys, &mut cores[at], command)
 }

@@ -4,14 +4,11 @@
 
 mod cast;
 mod cores;
-mod fault;
-mod given;
 mod laws;
 mod place;
 mod setup;
 
 pub use cast::{Cast, places_have_cores};
-pub use fault::CommandFault;
 pub use laws::faulty_parties_have_their_cores;
 pub use place::Place;
 pub use setup::Setup;

@@ -8,11 +8,12 @@ ghost use Rattle.ab_num.specs.Parties.{party_eq};
 ghost use Rattle.ab_keys.specs.Keys.{is_party};
 ghost use Rattle.ab_keys.specs.Rings.{ring_of};
 ghost use Rattle.ab_cast.specs.declared.place.Place.TheVariants as place;
-ghost use Rattle.ab_cast.specs.Setups.{is_bad, keys_of, signatures_of, place_of, twin_place, ring_at, replica_twins, client_twins};
+ghost use Rattle.ab_cast.specs.Setups.{credentials_at, is_bad, keys_of, signatures_of, place_of, twin_place, ring_at, replica_twins, client_twins};
 
 use crate::place::Place;
 use ab_keys::{KeyRing, is_party};
 use ab_num::{Cluster, Height, OutOfMemory, Party};
+use ab_party::Credentials;
 use ab_sign::{Signers, Verifier};
 use std::alloc::Global;
 use std::marker::Model;
@@ -194,11 +195,12 @@ impl Setup {
         }
     }
 
-    /// The signature keys of the replicas.
-    pub(crate) fn signers(&self) -> &Signers
-        ensures { result.now ≡ keys_of self.now }
+    /// What a party of the cluster opens, signs and seals by.
+    pub fn credentials(&self, party: Party) -> Credentials<'_>
+        requires { IsTrue (is_party self.now.cluster.f self.now.cluster.clients party) }
+        ensures { result ≡ credentials_at self.now party }
     {
-        &self.signers
+        Credentials::new(self.ring(party), &self.signers)
     }
 
     /// Who tells for a party of the cluster whether a tag or a signature is right.

@@ -16,6 +16,7 @@ use Rattle.ab_msg.specs.Carried.{stated_history}
 use Rattle.ab_msg.specs.Claims.{claims}
 use Rattle.ab_msg.specs.Messages.{IsMessage}
 use Rattle.ab_open.specs.declared.fault.OpenFault.{OpenFault}
+use Rattle.ab_open.specs.declared.fault.OpenFault.TheVariants.{NotMine}
 use Rattle.ab_open.specs.Opening.{opening}
 use Rattle.ab_open.proofs.ByteLemmas.{are_bytes}
 use Rattle.ab_sign.specs.Judges.{judge_of}
@@ -27,7 +28,8 @@ use Rattle.ab_run.specs.Premises.{AreFormed, IsFormedFor}
 use Rattle.ab_run.specs.Local.{cue_message}
 use Rattle.ab_client.specs.Clients.{told}
 use Rattle.ab_loop.specs.Cores.{NodeEvent, invoke, message, timeout}
-use Rattle.ab_member.specs.Credentials.{Credentials, opened}
+use Rattle.ab_party.specs.Credentials.{Credentials, opening_by}
+use Rattle.ab_member.specs.Keys.{opened}
 use Rattle.ab_member.specs.Replicas.{call_of}
 use Rattle.ab_member.specs.Clients.{cue_of, is_command}
 use Rattle.ab_member.specs.Locality.{Members, all_happens, call_event, cue_event, happens, members_after}
@@ -39,10 +41,10 @@ is_ok (Err fault) m is = absurd (none-some m is)
 module _ (k : RunSetup) (grammar : (c : Credentials) (bytes : List ℕ) (m : Msg) → IsBytes bytes → opening (judge_of c.ring c.keys) c.ring.f c.ring.clients c.ring.me bytes ≡ Ok m → IsMessage m)
     (histories : (f clients : ℕ) (me : Party) (m : Msg) → IsInBounds f clients → IsMessage m → (h : List Request) → Contains (flat_map stated_history (claims f me m)) h → IsHistory h) where
   of_grammar : (c : Credentials) (bytes : List ℕ) (m : Msg) → opened c bytes ≡ Some m → IsMessage m
-  of_grammar c bytes m is = by (list_all (λ b. nat_lt b 256) bytes) refl is where
-    by : (b : Bool) → list_all (λ b. nat_lt b 256) bytes ≡ b → (if b then result_ok (opening (judge_of c.ring c.keys) c.ring.f c.ring.clients c.ring.me bytes) else None) ≡ Some m → IsMessage m
-    by true are ok = grammar c bytes m (are_bytes bytes are) (is_ok (opening (judge_of c.ring c.keys) c.ring.f c.ring.clients c.ring.me bytes) m ok)
-    by false are none = absurd (none-some m none)
+  of_grammar c bytes m is = by (list_all (λ b. nat_lt b 256) bytes) refl (is_ok (opening_by c bytes) m is) where
+    by : (b : Bool) → list_all (λ b. nat_lt b 256) bytes ≡ b → (if b then opening (judge_of c.ring c.keys) c.ring.f c.ring.clients c.ring.me bytes else Err NotMine) ≡ Ok m → IsMessage m
+    by true are ok = grammar c bytes m (are_bytes bytes are) ok
+    by false are missed = absurd (let e : Err NotMine ≡ Ok m = missed in cc)
 
   opened_formed : (p : Party) (c : Credentials) (bytes : List ℕ) (m : Msg) → opened c bytes ≡ Some m → IsFormedFor k p m
   opened_formed p c bytes m is =

@@ -1,5 +1,4 @@
 -- The lemmas that this crate's answers cite.
-pub mod SealLemmas
 pub mod MemberLemmas
 pub mod CommitLemmas
 pub mod LocalLemmas

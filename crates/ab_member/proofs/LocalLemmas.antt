@@ -15,7 +15,7 @@ use Rattle.ab_client.specs.Clients.{alone}
 use Rattle.ab_replica.specs.Sites.{IsSetupOf}
 use Rattle.ab_loop.specs.Cores.{NodeEvent}
 use Rattle.ab_loop.specs.Folds.{core_after, sends_in}
-use Rattle.ab_member.specs.Credentials.{sealed_all, sealed_for}
+use Rattle.ab_party.specs.Credentials.{sealed_all, sealed_for}
 use Rattle.ab_member.specs.Replicas.{ReplicaMember, call_of, own_setup, replica_after, replica_may_take, replica_rules, replica_takes}
 use Rattle.ab_member.specs.Clients.{ClientMember, client_after, client_may_take, client_rules, client_takes, cue_of}
 use Rattle.ab_member.specs.Locality.{IsLocalClient, IsLocalReplica, StartsIn, asked_locally, calls_in, cues_in, sent_locally}

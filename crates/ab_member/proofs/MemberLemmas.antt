@@ -1,13 +1,12 @@
 -- What holds of members in every event.
-use Rattle.std.proofs.Common.{◌≡◌, ℕ, ◌+◌, ◌-◌, ◌*◌, ◌^◌, ◌<◌, ◌≤◌, Bool, true, false, Result, Ok, Err, List, [], map, length, Option, Some, IsTrue, All, refl, sym, ap, ◌∙◌, subst, arith, slice_get, slice_set}
-use Rattle.std.specs.Prelude.{IfOk, OnOk, ◌≢◌, ◌&&◌, if◌then◌else◌}
+use Rattle.std.proofs.Common.{◌≡◌, ℕ, ◌+◌, ◌*◌, ◌<◌, Bool, List, [], map, length, Option, None, Some, IsTrue, refl, sym, ap, ◌∙◌, subst, arith, slice_get, slice_set, false}
+use Rattle.std.specs.Prelude.{if◌then◌else◌}
 use Rattle.std.specs.Option.{option_map}
 use Rattle.std.proofs.lemmas.Bool.{ltb-true}
 use Rattle.std.proofs.lemmas.List.{get_or-set_same, length-map, length-set}
 use Rattle.std.proofs.lemmas.Option.{slice_get-get_or}
 use Rattle.ab_num.specs.declared.cluster.Cluster.{Cluster}
-use Rattle.ab_num.specs.declared.memory.OutOfMemory.{OutOfMemory}
-use Rattle.ab_num.specs.declared.party.Party.TheVariants.{Replica, Client}
+use Rattle.ab_num.specs.declared.party.Party.TheVariants.{Replica}
 use Rattle.ab_num.specs.declared.plan.Height.{Height}
 use Rattle.ab_num.specs.declared.plan.Height.TheVariants.{Five, Ten}
 use Rattle.ab_num.specs.declared.plan.Kind.{Kind}
@@ -15,37 +14,32 @@ use Rattle.ab_num.specs.Bounds.{IsInBounds}
 use Rattle.ab_lms.specs.Nodes.{levels}
 use Rattle.ab_lms.proofs.Signed.{length-lms_signature}
 use Rattle.ab_keys.specs.Keys.{is_party}
-use Rattle.ab_keys.specs.Rings.{Ring}
 use Rattle.ab_key_text.specs.Keys.{IsWhole, PartyKeys, Secret}
 use Rattle.ab_msg.specs.declared.content.Content.{Content}
 use Rattle.ab_msg.specs.declared.message.Out.{Out}
 use Rattle.ab_msg.specs.Contents.{spell_content}
 use Rattle.ab_msg.specs.Fields.{IsSig}
-use Rattle.ab_msg.specs.Pens.{Pen}
 use Rattle.ab_sign.specs.declared.key.SignKey.{SignKey}
 use Rattle.ab_sign.specs.declared.key.SignKey.TheVariants as key
-use Rattle.ab_sign.specs.Signers.{Signing, leaves_of, pen_of, signature_at, signature_of}
+use Rattle.ab_sign.specs.Signers.{leaves_of, signature_at, signature_of}
 use Rattle.ab_abs.specs.declared.seen.Seen.{Seen}
 use Rattle.ab_abs.specs.Ensembles.{Proto}
-use Rattle.ab_abs.specs.Messages.{Call, IsFormed}
 use Rattle.ab_abs.specs.FormLaws.{KeepsForm}
 use Rattle.ab_abs.specs.Promises.{ServesAll}
-use Rattle.ab_abs.proofs.Certified.{all_of}
-use Rattle.ab_run.specs.Forms.{IsDraftOf, IsWrittenSetup}
-use Rattle.ab_run.specs.Replicas.{due}
+use Rattle.ab_run.specs.declared.phase.Phase.{Phase}
+use Rattle.ab_run.specs.declared.phase.Phase.TheVariants.{Idle, Waiting, Panicking}
+use Rattle.ab_run.specs.Clients.{asking}
+use Rattle.ab_run.specs.Forms.{IsWrittenSetup}
+use Rattle.ab_run.specs.Local.{after_moves, marks_in_moves, sent_in_moves}
 use Rattle.ab_run.specs.Runs.{first_cli}
-use Rattle.ab_run.specs.Local.{after_turns, rep_sends}
-use Rattle.ab_run.proofs.Written.{call_goes, first_written}
-use Rattle.ab_replica.specs.declared.effects.Effects.{Effects}
-use Rattle.ab_replica.specs.Sites.{IsPenAfter, IsPenOf, IsSetupOf, Site, first_site}
-use Rattle.ab_replica.specs.Doings.{Hears, entries_in}
-use Rattle.ab_member.specs.declared.given.Given.{Given}
-use Rattle.ab_member.specs.declared.given.Given.TheVariants as given
-use Rattle.ab_member.specs.Credentials.{Credentials, IsClusterOf, IsPartyRing, credentials_in, own_key, with_own}
-use Rattle.ab_member.specs.Given.{IsGiven, given_call}
-use Rattle.ab_member.specs.Replicas.{IsReplicaMember, ReplicaMember, first_replica, own_setup, replica_after}
-use Rattle.ab_run.specs.Clients.{Cli}
-use Rattle.ab_client.specs.Clients.{Seat, after, marks, sends}
+use Rattle.ab_run.proofs.Written.{first_written}
+use Rattle.ab_replica.specs.Sites.{Site, first_site}
+use Rattle.ab_client.specs.Clients.{Seat, alone, told}
+use Rattle.ab_party.specs.declared.fault.CommandFault.TheVariants.{Busy}
+use Rattle.ab_party.specs.Credentials.{Credentials, IsPartyRing}
+use Rattle.ab_party.specs.Parties.{ClientHears, IsReplicaOf, is_idle, seat_refusal}
+use Rattle.ab_member.specs.Keys.{IsClusterOf, credentials_in, own_key, with_own}
+use Rattle.ab_member.specs.Replicas.{ReplicaMember, first_replica, own_setup}
 use Rattle.ab_member.specs.Clients.{ClientMember, first_client}
 
 -- ---- keys
@@ -77,84 +71,25 @@ whole_signs k r whole me party =
     let lt : r < 3 * k.f + 1 = ltb-true r (3 * k.f + 1) (subst (λ p. IsTrue (is_party k.f k.clients p)) me party) in
     own_signs k r secret.0 (own_there k r secret.0 me secret.1 (omega (arith, lt, whole.public_of_each)))
 
--- ---- what comes
+-- ---- commands
 
-pub given_formed : (g : Given) → IsGiven g → IsFormed (given_call g)
-given_formed (given.Message m) is = is.of_grammar
-given_formed given.Time is = tt
-
--- ---- a replica
-
-pub same_signing : (keys : List SignKey) (me own used made : ℕ) → me ≡ own → used ≡ made → ◌≡◌ {A = Signing} (record { keys = keys; replica = me; used = used }) (record { keys = keys; replica = own; used = made })
-same_signing keys me own used made a b = λ j. record { keys = keys; replica = a j; used = b j }
-
-module _ {P : Type 0} (proto : Proto P) (serves : Kind → Bool) (m : ReplicaMember P) (is : IsReplicaMember proto serves m) where
-  pub written_setup : IsWrittenSetup (own_setup m) serves
-  written_setup = record { serves_all = is.serves_all; signs = λ r s n lt. is.signs s n }
-
-  pub within : m.site.me < 3 * m.site.cluster.f + 1
-  within =
-      let lt : m.site.me < 3 * m.credentials.ring.f + 1 = ltb-true m.site.me (3 * m.credentials.ring.f + 1) (subst (λ p. IsTrue (is_party m.credentials.ring.f m.credentials.ring.clients p)) is.own is.ring.party) in
-      subst (λ f. m.site.me < 3 * f + 1) is.f lt
-
-  -- its pen, as it was made
-  module _ (p : Signing) (own : p ≡ record { keys = m.credentials.keys; replica = m.site.me; used = m.site.rep.used }) where
-    pub pen_is : IsPenOf (pen_of p.keys p.replica p.used) (leaves_of p.keys p.replica - p.used) m.site
-    pen_is =
-        subst (λ (q : Signing). IsPenOf (pen_of q.keys q.replica q.used) (leaves_of q.keys q.replica - q.used) m.site) (sym own)
-        (record { used = refl; rest = omega (arith, is.used, is.signatures) })
-
-    pub setup_is : IsSetupOf (own_setup m) m.site (pen_of p.keys p.replica p.used)
-    setup_is =
-        subst (λ (q : Signing). IsSetupOf (own_setup m) m.site (pen_of q.keys q.replica q.used)) (sym own)
-        (record { cluster = refl; signatures = refl; sig = refl })
-
-  -- it has made no more signatures than it can, since a spent event changes nothing
-  used_by : (call : Call) (now : Site P) (outs : List Out) (marks : List Seen) (spent : Bool) (pen new : Pen) (left : ℕ) → Hears proto (own_setup m) m.site call now outs marks spent
-      → (spent ≡ false → IsPenAfter pen new left now) → now.rep.used ≤ now.signatures
-  used_by call now outs marks false pen new left hears after = omega (arith, (after refl).own.rest)
-  used_by call now outs marks true pen new left hears after =
-      let k = own_setup m in
-      let s = m.site in
-      let at : Bool → Site P = λ b. record s {
-        rep = after_turns k proto s.me s.rep (if b then [] else due k proto s.me s.rep call);
-        entries = s.entries + entries_in (if b then [] else due k proto s.me s.rep call);
-      } in
-      let same : now ≡ at true = hears.after ∙ ap at (sym hears.spends) in
-      subst (λ (q : Site P). q.rep.used ≤ q.signatures) (sym same) is.used
-
-  pub used_ok : (call : Call) (now : Site P) (result : Result Effects OutOfMemory) (pen after : Pen) (left : ℕ)
-      → IfOk result (λ e. Hears proto (own_setup m) m.site call now e.outs e.marks.items e.spent) → IfOk result (λ e. e.spent ≡ false → IsPenAfter pen after left now)
-      → OnOk result (now.rep.used ≤ now.signatures)
-  used_ok call now (Ok e) pen after left hears next = used_by call now e.outs e.marks.items e.spent pen after left hears next
-  used_ok call now (Err fault) pen after left hears next = tt
-
-  module _ (form : KeepsForm proto serves) (call : Call) (now : Site P) (outs : List Out) (marks : List Seen) (spent : Bool) (formed : IsFormed call)
-      (hears : Hears proto (own_setup m) m.site call now outs marks spent) (used : now.rep.used ≤ now.signatures) where
-    -- it is then the member that the rules lead to
-    pub goes_on : IsReplicaMember proto serves (record m { site = now })
-    goes_on =
-        let goes = call_goes (own_setup m) proto form written_setup m.site.me m.site.rep call within formed is.written in
-        let all : IsReplicaMember proto serves (replica_after proto m call) = record {
-          ring = is.ring;
-          own = is.own;
-          f = is.f;
-          signatures = is.signatures;
-          signs = is.signs;
-          used = subst (λ (q : Site P). q.rep.used ≤ q.signatures) hears.after used;
-          serves_all = is.serves_all;
-          written = goes.stands;
-        } in
-        subst (λ (q : Site P). IsReplicaMember proto serves (record m { site = q })) (sym hears.after) all
-
-    pub own_drafts : All (IsDraftOf m.credentials.ring.f m.credentials.ring.me) outs
-    own_drafts =
-        let goes = call_goes (own_setup m) proto form written_setup m.site.me m.site.rep call within formed is.written in
-        let r = Replica m.site.me in
-        subst (All (IsDraftOf m.credentials.ring.f m.credentials.ring.me)) (sym hears.sends)
-        (subst (λ p. All (IsDraftOf m.credentials.ring.f p) (rep_sends (own_setup m) proto m.site.me m.site.rep call)) (sym is.own)
-        (subst (λ f. All (IsDraftOf f r) (rep_sends (own_setup m) proto m.site.me m.site.rep call)) (sym is.f)
-        (all_of (IsDraftOf m.site.cluster.f r) (rep_sends (own_setup m) proto m.site.me m.site.rep call) goes.drafts)))
+-- a command changes nothing while a request is open
+pub busy_rests : (s now : Seat) (command : List ℕ) (outs : List Out) (seen : List Seen) (spent : Bool) → seat_refusal s ≡ Some Busy → now ≡ s → outs ≡ [] → seen ≡ [] → spent ≡ false
+    → ClientHears s (told command) now outs seen spent
+busy_rests s now command outs seen spent busy same nothing unseen unspent =
+    let still : asking s.me s.cli s.cli.phase (record { items = command }) ≡ [] = rests s.cli.phase busy in
+    record {
+      after = same ∙ ap (λ ms. record s { cli = after_moves s.cli ms }) (sym still);
+      sends = nothing ∙ ap (sent_in_moves (alone s.cluster) s.me s.cli) (sym still);
+      shows = unseen ∙ ap (marks_in_moves s.me s.cli) (sym still);
+      stamp = omega (arith, ap (λ (q : Seat). q.cli.stamp) same);
+      spends = unspent;
+    }
+  where
+    rests : (p : Phase) → (if is_idle p then None else Some Busy) ≡ Some Busy → asking s.me s.cli p (record { items = command }) ≡ []
+    rests Idle none = absurd (let e : None ≡ Some Busy = none in cc)
+    rests Waiting is = refl
+    rests Panicking is = refl
 
 -- ---- before the first event
 
@@ -166,7 +101,7 @@ ring_of_party k c of party = record {
 
 module _ {P : Type 0} (proto : Proto P) (serves : Kind → Bool) (form : KeepsForm proto serves) where
   pub first_replica_is : (k : PartyKeys) (c : Cluster) (r : ℕ) → IsClusterOf c k → IsWhole k → k.me ≡ Replica r → IsTrue (is_party k.f k.clients k.me) → ServesAll serves c
-      → IsReplicaMember proto serves (first_replica proto c k r)
+      → IsReplicaOf proto serves (credentials_in k) (first_replica proto c k r).site
   first_replica_is k c r of whole me party served =
       let m : ReplicaMember P = first_replica proto c k r in
       let signs : (s : Content) (n : ℕ) → IsSig (signature_of m.credentials.keys r n (spell_content s)) = whole_signs k r whole me party in

@@ -2,7 +2,6 @@
 use Rattle.std.specs.Prelude.{◌≡◌, ℕ, ◌+◌, ◌^◌, ◌≤◌, ◌&&◌, nat_le, nat_lt, if◌then◌else◌, Bool, false, List, [], ◌∷◌, length, All, Option, None, Some}
 use Rattle.std.specs.Option.{option_map}
 use Rattle.ab_num.specs.declared.cluster.Cluster.{Cluster}
-use Rattle.ab_num.specs.declared.party.Party.TheVariants.{Client}
 use Rattle.ab_key_text.specs.Keys.{PartyKeys}
 use Rattle.ab_abs.specs.declared.seen.Seen.{Seen}
 use Rattle.ab_abs.specs.declared.seen.Seen.TheVariants.{Invoked, Init, Cert, Committed}
@@ -16,7 +15,8 @@ use Rattle.ab_run.specs.Local.{Cue, cue_message, cue_time}
 use Rattle.ab_client.specs.Clients.{Seat, told, after, sends, marks}
 use Rattle.ab_loop.specs.declared.party_core.Commit.{Commit}
 use Rattle.ab_loop.specs.Cores.{NodeEvent, invoke, message, timeout, Reaction, Rules}
-use Rattle.ab_member.specs.Credentials.{Credentials, IsClusterOf, IsPartyRing, credentials_in, opened, sealed_all}
+use Rattle.ab_party.specs.Credentials.{Credentials, IsPartyRing, sealed_all}
+use Rattle.ab_member.specs.Keys.{IsClusterOf, credentials_in, opened}
 use Rattle.ab_member.specs.Replicas.{still}
 
 -- where it is, and what it opens and seals by
@@ -91,22 +91,9 @@ pub record IsFirstClient (k : PartyKeys) (n : ℕ) (m : ClientMember) : Type 0 w
   pub of_keys : IsClusterOf cluster k
   pub is : m ≡ first_client cluster k n
 
--- ---- what holds of it in every event
+-- ---- what it does
 
--- it has the ring of its own number in its cluster
-pub record IsClientMember (m : ClientMember) : Type 0 where
-  pub ring : IsPartyRing m.credentials.ring
-  pub own : m.credentials.ring.me ≡ Client m.seat.me
-  pub f : m.credentials.ring.f ≡ m.seat.cluster.f
-
--- a client takes a cue, by the rules of the run, and all that it sends gets bytes
-pub record Heard (s : Seat) (cue : Cue) (now : Seat) (outs : List Out) (seen : List Seen) : Type 0 where
-  pub after : now ≡ after s cue
-  pub sends : outs ≡ sends s cue
-  pub shows : seen ≡ marks s cue
-  pub drafts : s.me ≤ 15 → All (IsDraftOf s.cluster.f (Client s.me)) outs
-
--- the same of a client with its keys
+-- it takes a cue by the rules of the run, and all that it sends gets bytes
 pub record Does (m : ClientMember) (cue : Cue) (now : ClientMember) (outs : List Out) (seen : List Seen) : Type 0 where
   pub after : now ≡ client_after m cue
   pub sends : outs ≡ sends m.seat cue

@@ -1,6 +1,6 @@
 -- The definitions that the contracts of this crate cite.
-pub mod Credentials
+pub mod Keys
 pub mod Replicas
 pub mod Clients
-pub mod Given
+pub mod Reactions
 pub mod Locality

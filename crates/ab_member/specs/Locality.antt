@@ -24,7 +24,8 @@ use Rattle.ab_replica.specs.Sites.{IsSetupOf}
 use Rattle.ab_loop.specs.declared.party_core.Commit.{Commit}
 use Rattle.ab_loop.specs.Cores.{NodeEvent}
 use Rattle.ab_loop.specs.Folds.{commits_in, core_after, sends_in}
-use Rattle.ab_member.specs.Credentials.{Credentials, credentials_in, sealed_all}
+use Rattle.ab_party.specs.Credentials.{Credentials, sealed_all}
+use Rattle.ab_member.specs.Keys.{credentials_in}
 use Rattle.ab_member.specs.Replicas.{ReplicaMember, call_of, first_replica, replica_rules, replica_step}
 use Rattle.ab_member.specs.Clients.{ClientMember, client_rules, client_step, cue_of, first_client}
 

@@ -1,25 +1,19 @@
 -- One replica of a cluster, with its keys: what it does with what comes to it.
-use Rattle.std.specs.Prelude.{◌≡◌, ℕ, ◌+◌, ◌≤◌, Bool, false, [], Option, None, Some}
+use Rattle.std.specs.Prelude.{◌≡◌, ℕ, ◌+◌, false, [], Option, None, Some}
 use Rattle.std.specs.Option.{option_map}
 use Rattle.ab_num.specs.declared.cluster.Cluster.{Cluster}
-use Rattle.ab_num.specs.declared.party.Party.TheVariants.{Replica}
-use Rattle.ab_num.specs.declared.plan.Kind.{Kind}
-use Rattle.ab_msg.specs.declared.content.Content.{Content}
-use Rattle.ab_msg.specs.Contents.{spell_content}
-use Rattle.ab_msg.specs.Fields.{IsSig}
-use Rattle.ab_sign.specs.Signers.{leaves_of, pen_of, signature_of}
+use Rattle.ab_sign.specs.Signers.{leaves_of, pen_of}
 use Rattle.ab_key_text.specs.Keys.{PartyKeys}
 use Rattle.ab_abs.specs.Ensembles.{Proto}
 use Rattle.ab_abs.specs.Messages.{Call, took, timed}
-use Rattle.ab_abs.specs.Promises.{ServesAll}
 use Rattle.ab_run.specs.Setups.{RunSetup}
-use Rattle.ab_run.specs.Forms.{IsWrittenRep}
 use Rattle.ab_run.specs.Replicas.{is_spent, turns}
 use Rattle.ab_run.specs.Local.{rep_after, rep_sends}
 use Rattle.ab_replica.specs.Sites.{Site, first_site, setup_of, timer_number}
 use Rattle.ab_replica.specs.Doings.{entries_in}
 use Rattle.ab_loop.specs.Cores.{NodeEvent, invoke, message, timeout, Reaction, Rules}
-use Rattle.ab_member.specs.Credentials.{Credentials, IsClusterOf, IsPartyRing, credentials_in, opened, sealed_all}
+use Rattle.ab_party.specs.Credentials.{Credentials, sealed_all}
+use Rattle.ab_member.specs.Keys.{IsClusterOf, credentials_in, opened}
 
 -- where it is, and what it opens and seals by
 pub record ReplicaMember (P : Type 0) : Type 0 where
@@ -78,17 +72,3 @@ pub record IsFirstReplica {P : Type 0} (proto : Proto P) (k : PartyKeys) (r : �
   pub cluster : Cluster
   pub of_keys : IsClusterOf cluster k
   pub is : m ≡ first_replica proto cluster k r
-
--- ---- what holds of it in every event
-
--- it has the ring of its own number in its cluster, its key gives the signatures that it can make, each with the length of one, it made no
--- more of them, and it keeps what has bytes
-pub record IsReplicaMember {P : Type 0} (proto : Proto P) (serves : Kind → Bool) (m : ReplicaMember P) : Type 0 where
-  pub ring : IsPartyRing m.credentials.ring
-  pub own : m.credentials.ring.me ≡ Replica m.site.me
-  pub f : m.credentials.ring.f ≡ m.site.cluster.f
-  pub signatures : m.site.signatures ≡ leaves_of m.credentials.keys m.site.me
-  pub signs : (s : Content) (n : ℕ) → IsSig (signature_of m.credentials.keys m.site.me n (spell_content s))
-  pub used : m.site.rep.used ≤ m.site.signatures
-  pub serves_all : ServesAll serves m.site.cluster
-  pub written : IsWrittenRep proto serves m.site.cluster m.site.me m.site.rep

@@ -4,9 +4,9 @@
 
 mod client_member;
 mod commits;
-mod credentials;
-mod given;
+mod keys;
 mod laws;
+mod nothing;
 mod replica_member;
 
 pub use client_member::ClientMember;

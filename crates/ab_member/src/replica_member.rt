@@ -8,17 +8,18 @@ ghost use Rattle.ab_key_text.specs.Keys.{IsWhole};
 ghost use Rattle.ab_run.specs.Forms.{IsDraftOf};
 ghost use Rattle.ab_run.specs.Local.{rep_sends};
 ghost use Rattle.ab_run.specs.Replicas.{is_spent};
-ghost use Rattle.ab_replica.specs.Doings.{Hears};
-ghost use Rattle.ab_member.specs.Credentials.{IsPartyRing};
-ghost use Rattle.ab_member.specs.Given.{IsGiven, Reacts, given_call};
-ghost use Rattle.ab_member.specs.Replicas.{IsFirstReplica, IsReplicaMember, own_setup, replica_after, replica_takes};
+ghost use Rattle.ab_party.specs.Credentials.{IsPartyRing};
+ghost use Rattle.ab_party.specs.Cues.{IsCue, call_of};
+ghost use Rattle.ab_member.specs.Reactions.{Reacts};
+ghost use Rattle.ab_member.specs.Replicas.{IsFirstReplica, own_setup, replica_after, replica_takes};
 
-use crate::credentials::Credentials;
-use crate::given::{Given, nothing};
+use crate::keys::Keys;
+use crate::nothing::nothing;
 use ab_abs::Protocol;
 use ab_key_text::PartyKeys;
 use ab_loop::{NodeEventRef, PartyCore, Reaction};
 use ab_num::OutOfMemory;
+use ab_party::{Cue, hear_replica};
 use ab_replica::{Effects, Replica};
 use ab_svc::Service;
 use std::alloc::Global;
@@ -28,41 +29,18 @@ use std::marker::Model;
 #[derive(Drop)]
 pub struct ReplicaMember<S: Service, P: Protocol<S>> {
     replica: Replica<S, P>,
-    credentials: Credentials,
-    me: u8,
+    keys: Keys,
 }
 
 impl<S: Service, P: Protocol<S>> Model for ReplicaMember<S, P> {
-    ghost use Rattle.std.specs.Prelude.{◌≡◌};
-    ghost use Rattle.ab_member.specs.Replicas.{ReplicaMember as TheMember, IsReplicaMember};
+    ghost use Rattle.ab_party.specs.Parties.{IsReplicaOf};
+    ghost use Rattle.ab_member.specs.Replicas.{ReplicaMember as TheMember};
 
     ghost Value = { TheMember P };
 
-    ghost view = { λ m. record { site = m.replica; credentials = m.credentials } };
+    ghost view = { λ m. record { site = m.replica; credentials = m.keys } };
 
-    ghost invariant = { λ m. (m.me ≡ m.replica.me) × IsReplicaMember P.proto P.serves (record { site = m.replica; credentials = m.credentials }) };
-}
-
-/// A replica takes what comes, with the signatures that it has left. After an `Err` it is as before.
-fn hear<S: Service, P: Protocol<S>>(
-    alloc: Global,
-    credentials: &Credentials,
-    me: u8,
-    replica: &mut Replica<S, P>,
-    given: Given<'_>,
-) -> Result<Effects, OutOfMemory>
-    requires given { IsGiven given }
-    requires me { me ≡ replica.old.me }
-    requires member { IsReplicaMember P.proto P.serves (record { site = replica.old; credentials = credentials.now }) }
-    ensures hears { IfOk result (λ e. Hears P.proto (own_setup (record { site = replica.old; credentials = credentials.now })) replica.old (given_call given.entry) replica.new e.outs e.marks.items e.spent) }
-    ensures used { OnOk result (replica.new.rep.used ≤ replica.new.signatures) }
-    ensures err { OnErr result (replica.new ≡ replica.old) }
-{
-    let mut pen = credentials.pen(me, replica.used());
-    match given {
-        Given::Message(m) => replica.on(alloc, m, &mut pen),
-        Given::Time => replica.timeout(alloc, &mut pen),
-    }
+    ghost invariant = { λ m. IsReplicaOf P.proto P.serves m.keys m.replica };
 }
 
 impl<S: Service, P: Protocol<S>> ReplicaMember<S, P> {
@@ -74,39 +52,35 @@ impl<S: Service, P: Protocol<S>> ReplicaMember<S, P> {
         requires served { (i : ℕ) → 1 ≤ i → IsTrue (P.serves (kind_of keys.now.plan i)) }
         ensures { IfOk result (IsFirstReplica P.proto keys.now me) }
     {
-        let credentials = Credentials::of(alloc, keys)?;
-        let signatures = credentials.leaves(me);
+        let own = Keys::of(alloc, keys)?;
+        let signatures = own.leaves(me);
         let replica = Replica::new(alloc, keys.cluster(), me, signatures)?;
-        Ok(ReplicaMember {
-            replica,
-            credentials,
-            me,
-        })
+        Ok(ReplicaMember { replica, keys: own })
     }
 
     /// It takes what comes. After an `Err` it is as before.
-    fn hear(&mut self, alloc: Global, given: Given<'_>) -> Result<Effects, OutOfMemory>
-        requires { IsGiven given }
-        ensures after { OnOk result (self.new ≡ replica_after P.proto self.old (given_call given.entry)) }
-        ensures outs { IfOk result (λ e. e.outs ≡ rep_sends (own_setup self.old) P.proto self.old.site.me self.old.site.rep (given_call given.entry)) }
-        ensures spent { IfOk result (λ e. e.spent ≡ is_spent (own_setup self.old) P.proto self.old.site.me self.old.site.rep (given_call given.entry)) }
+    fn hear(&mut self, alloc: Global, cue: Cue<'_>) -> Result<Effects, OutOfMemory>
+        requires { IsCue cue }
+        ensures after { OnOk result (self.new ≡ replica_after P.proto self.old (call_of cue.entry)) }
+        ensures outs { IfOk result (λ e. e.outs ≡ rep_sends (own_setup self.old) P.proto self.old.site.me self.old.site.rep (call_of cue.entry)) }
+        ensures spent { IfOk result (λ e. e.spent ≡ is_spent (own_setup self.old) P.proto self.old.site.me self.old.site.rep (call_of cue.entry)) }
         ensures drafts { IfOk result (λ e. All (IsDraftOf self.old.credentials.ring.f self.old.credentials.ring.me) e.outs) }
         ensures ring { IsPartyRing self.new.credentials.ring }
         ensures err { OnErr result (self.new ≡ self.old) }
     {
-        let replica = &mut self.replica;
-        let effects = hear(alloc, &self.credentials, self.me, replica, given)?;
+        let keys = self.keys.lend();
+        let effects = hear_replica(alloc, &keys, &mut self.replica, cue)?;
         Ok(effects)
     }
 
     /// It takes what comes, and seals what it sends.
-    fn react(&mut self, alloc: Global, given: Given<'_>) -> Result<Reaction, OutOfMemory>
-        requires { IsGiven given }
-        ensures reacts { IfOk result (Reacts (replica_takes P.proto self.old (given_call given.entry)) self.new) }
-        ensures err { OnErr result ((self.new ≡ self.old) ⊎ (self.new ≡ replica_after P.proto self.old (given_call given.entry))) }
+    fn react(&mut self, alloc: Global, cue: Cue<'_>) -> Result<Reaction, OutOfMemory>
+        requires { IsCue cue }
+        ensures reacts { IfOk result (Reacts (replica_takes P.proto self.old (call_of cue.entry)) self.new) }
+        ensures err { OnErr result ((self.new ≡ self.old) ⊎ (self.new ≡ replica_after P.proto self.old (call_of cue.entry))) }
     {
-        let effects = self.hear(alloc, given)?;
-        let sends = self.credentials.seal_all(alloc, effects.outs.as_slice())?;
+        let effects = self.hear(alloc, cue)?;
+        let sends = self.keys.lend().seal_all(alloc, effects.outs.as_slice())?;
         Ok(Reaction {
             sends,
             commit: None,
@@ -123,11 +97,11 @@ impl<S: Service, P: Protocol<S>> PartyCore for ReplicaMember<S, P> {
     fn step(&mut self, alloc: Global, input: &NodeEventRef<'_>) -> Result<Reaction, OutOfMemory> {
         match input {
             NodeEventRef::Invoke(_) => Ok(nothing(alloc)),
-            NodeEventRef::Message(bytes) => match self.credentials.open(alloc, bytes) {
-                Some(m) => self.react(alloc, Given::Message(m)),
+            NodeEventRef::Message(bytes) => match self.keys.open(alloc, bytes) {
+                Some(m) => self.react(alloc, Cue::Message(m)),
                 None => Ok(nothing(alloc)),
             },
-            NodeEventRef::Timeout => self.react(alloc, Given::Time),
+            NodeEventRef::Timeout => self.react(alloc, Cue::Time),
         }
     }
 

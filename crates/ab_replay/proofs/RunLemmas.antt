@@ -21,8 +21,8 @@ use Rattle.ab_text.specs.declared.event.Event.TheVariants.{Invoke, Deliver, Time
 use Rattle.ab_msg.specs.Packets.{Packet}
 use Rattle.ab_world.specs.Packets.{nth}
 use Rattle.ab_run.specs.Local.{Cue}
-use Rattle.ab_cast.specs.declared.fault.CommandFault.{CommandFault}
-use Rattle.ab_cast.specs.declared.fault.CommandFault.TheVariants as command_fault
+use Rattle.ab_party.specs.declared.fault.CommandFault.{CommandFault}
+use Rattle.ab_party.specs.declared.fault.CommandFault.TheVariants as command_fault
 use Rattle.ab_cast.specs.declared.place.Place.{Place}
 use Rattle.ab_cast.specs.declared.place.Place.TheVariants as place
 use Rattle.ab_cast.specs.Setups.{Setup, party_at, place_of}

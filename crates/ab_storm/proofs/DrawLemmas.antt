@@ -23,7 +23,7 @@ use Rattle.ab_abs.specs.Ensembles.{Proto}
 use Rattle.ab_client.specs.Clients.{Seat}
 use Rattle.ab_msg.specs.Packets.{Packet}
 use Rattle.ab_world.specs.Packets.{nth}
-use Rattle.ab_cast.specs.declared.fault.CommandFault.TheVariants as command_fault
+use Rattle.ab_party.specs.declared.fault.CommandFault.TheVariants as command_fault
 use Rattle.ab_cast.specs.Setups.{Setup, own_place, numbered_place, place_of}
 use Rattle.ab_cast.specs.Cores.{client}
 use Rattle.ab_cast.specs.Casts.{is_free}

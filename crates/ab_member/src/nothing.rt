@@ -1,0 +1,19 @@
+//! What a party answers to what it does not take.
+
+ghost use Rattle.std.specs.Prelude.{◌≡◌, [], None, false};
+
+use ab_loop::Reaction;
+use std::alloc::Global;
+
+/// Nothing comes of an event.
+pub(crate) fn nothing(alloc: Global) -> Reaction
+    ensures sends { result.sends.items ≡ [] }
+    ensures commit { result.commit ≡ None }
+    ensures spent { result.spent ≡ false }
+{
+    Reaction {
+        sends: Vec::new(alloc),
+        commit: None,
+        spent: false,
+    }
+}
