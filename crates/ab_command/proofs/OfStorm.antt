@@ -9,6 +9,8 @@ use Rattle.ab_text.specs.EventLines.{IsEvent}
 use Rattle.ab_text.specs.Heads.{Script}
 use Rattle.ab_text.specs.Spelling.{IsSchedule}
 use Rattle.ab_words.specs.Commands.{StormCommand}
+use Rattle.ab_world.specs.Worlds.{World}
+use Rattle.ab_replay.specs.Protocols.{Any}
 use Rattle.ab_replay.specs.Replays.{Runs}
 use Rattle.ab_storm.specs.Runs.{events_in, IsClusterOf}
 use Rattle.ab_storm.specs.Drawn.{Draws}
@@ -19,8 +21,8 @@ use Rattle.ab_command.specs.Written.{script_in, IsOfStorm}
 in_grammar : (c : Cluster) (events : List Event) → All IsEvent events → IsSchedule (script_in c events)
 in_grammar c events lines = record { bounds = c.in_bounds; faulty = tt; events = recursion_from_All IsEvent events lines }
 
-pub of_storm : (k : StormCommand) (c : Cluster) (events : List Event) (s : Script) → IsClusterOf c k → Draws kv k events → s ≡ script_in c events → IsOfStorm k s
-of_storm k c events s sized draws is =
+pub of_storm : (k : StormCommand) (c : Cluster) (events : List Event) (s : Script) → IsClusterOf c k → (end : World Any) × Draws kv k events end → s ≡ script_in c events → IsOfStorm k s
+of_storm k c events s sized (end, draws) is =
     let own = draws.cluster in
     let f : c.f ≡ own.f = sized.f ∙ sym draws.sized.f in
     let clients : c.clients ≡ own.clients = sized.clients ∙ sym draws.sized.clients in
@@ -31,8 +33,8 @@ of_storm k c events s sized draws is =
       sized = draws.sized;
       is = whole;
       all = ap (λ (x : Script). length x.events) is ∙ draws.all;
-      end = draws.end;
+      end = end;
       storms = draws.runs;
-      replays = subst (λ (x : Script). Runs x (Ok draws.end)) (sym whole) (record { cluster = own; sized = record { f = refl; clients = refl; plan = refl }; runs = draws.runs });
+      replays = subst (λ (x : Script). Runs x (Ok end)) (sym whole) (record { cluster = own; sized = record { f = refl; clients = refl; plan = refl }; runs = draws.runs });
       grammar = subst IsSchedule (sym whole) (in_grammar own (events_in kv own k) (subst (All IsEvent) draws.drawn draws.lines));
     }

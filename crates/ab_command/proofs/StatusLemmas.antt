@@ -29,8 +29,8 @@ use Rattle.ab_replay.specs.Replays.{Performs, PerformsAs, IsRefused, ReplayCause
 use Rattle.ab_replay.proofs.RunLemmas.{one_end}
 use Rattle.ab_kv.specs.KvMachines.{kv_machine}
 use Rattle.ab_replay.specs.declared.refusal.Refusal.{Refusal}
-use Rattle.ab_replay.specs.declared.running.ReplayFault.{ReplayFault}
-use Rattle.ab_replay.specs.declared.running.ReplayFault.TheVariants as replaying
+use Rattle.ab_replay.specs.declared.fault.ReplayFault.{ReplayFault}
+use Rattle.ab_replay.specs.declared.fault.ReplayFault.TheVariants as replaying
 use Rattle.ab_storm.specs.Runs.{Storms}
 use Rattle.ab_command.specs.Endings.{HasInput, Says, SaysNoMemory, Settles, WritesOrSays}
 use Rattle.ab_command.specs.Outputs.{Gets, GetsFront, HasFailed, IsKept}

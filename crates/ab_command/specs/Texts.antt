@@ -5,8 +5,8 @@ use Rattle.ab_loop.specs.declared.fault.ServeFault.{ServeFault}
 use Rattle.ab_loop.specs.declared.fault.ServeFault.TheVariants as serving
 use Rattle.ab_node.specs.declared.stop.Stop.{Stop}
 use Rattle.ab_node.specs.declared.stop.Stop.TheVariants as stop
-use Rattle.ab_replay.specs.declared.running.ReplayFault.{ReplayFault}
-use Rattle.ab_replay.specs.declared.running.ReplayFault.TheVariants as replaying
+use Rattle.ab_replay.specs.declared.fault.ReplayFault.{ReplayFault}
+use Rattle.ab_replay.specs.declared.fault.ReplayFault.TheVariants as replaying
 use Rattle.ab_replay.specs.Refusals.{refusal_text}
 use Rattle.ab_command.specs.declared.status.Bound.TheVariants.{Bytes, Events, Packets}
 use Rattle.ab_command.specs.declared.status.Status.{Status}

@@ -17,7 +17,7 @@ use ab_kv::Kv;
 use ab_loop::ServeFault;
 use ab_node::{Stop, serve_text};
 use ab_replay::{AnyProtocol, replay};
-use ab_storm::{StormFault, run_storm};
+use ab_storm::{StormFault, sum_up};
 use ab_text::one_reading;
 use ab_words::{Command, KeysCommand, NodeCommand, StormCommand, command_in};
 use std::alloc::Global;
@@ -79,15 +79,15 @@ fn serve_storm<O: Sink, E: Sink>(
         → StatusCause result (call words (outside input
         (change (O.state out.old) (O.state out.new)) (change (E.state err.old) (E.state err.new)) link clock)) }
 {
-    let stormed = match run_storm::<Kv, AnyProtocol<Kv>>(alloc, asked) {
-        Ok(stormed) => stormed,
+    let summed = match sum_up::<Kv, AnyProtocol<Kv>>(alloc, asked) {
+        Ok(summed) => summed,
         Err(StormFault::TooManyPackets) => {
             return say(err, "limit packets\n", Status::Limit(Bound::Packets));
         }
         Err(StormFault::OutOfMemory) => return say_no_memory(err),
     };
-    let status = done(stormed.held);
-    write_or_say(out, err, stormed.summary.as_slice(), status)
+    let status = done(summed.held);
+    write_or_say(out, err, summed.summary.as_slice(), status)
 }
 
 /// Says why a node stopped that was served.

@@ -1,8 +1,8 @@
 -- What was to be said or written has its cause.
 use Rattle.std.proofs.Common.{◌≡◌, Bool, false, List, ℕ, IsTrue, inl, inr}
 use Rattle.ab_io.specs.States.{Change, SinkState, SourceState}
-use Rattle.ab_replay.specs.declared.running.ReplayFault.{ReplayFault}
-use Rattle.ab_replay.specs.declared.running.ReplayFault.TheVariants.{Read, TooLong, Refused, TooManyEvents, TooManyPackets, OutOfMemory}
+use Rattle.ab_replay.specs.declared.fault.ReplayFault.{ReplayFault}
+use Rattle.ab_replay.specs.declared.fault.ReplayFault.TheVariants.{Read, TooLong, Refused, TooManyEvents, TooManyPackets, OutOfMemory}
 use Rattle.ab_replay.specs.Replays.{ReplayCause}
 use Rattle.ab_command.specs.declared.status.Status.{Status}
 use Rattle.ab_command.specs.declared.status.Status.TheVariants.{Done}

@@ -1,29 +1,27 @@
 //! The picture of the run that a schedule spells.
 
-ghost use Rattle.std.specs.Prelude.{◌≡◌, ◌⊎◌, ℕ, List, ◌<◌, ◌≤◌, ◌^◌, All, IfErr, IfOk, IsTrue, None, OnOk, Ok, length, take};
+ghost use Rattle.std.specs.Prelude.{◌≡◌, ◌⊎◌, ℕ, List, ◌<◌, ◌≤◌, ◌^◌, All, IfErr, IfOk, IsTrue, OnOk, length, take};
 ghost use Rattle.ab_text.specs.Schedules.{script_of};
 ghost use Rattle.ab_abs.specs.Promises.{ServesAll};
 ghost use Rattle.ab_keys.specs.Keys.{is_party};
-ghost use Rattle.ab_replay.specs.Protocols.{Any, any, is_served};
 ghost use Rattle.ab_replay.specs.Replays.{run_in, EventsCause, TextCause, ReplayCause};
 ghost use Rattle.ab_replay.specs.Streams.{IsInput};
-ghost use Rattle.ab_world.specs.Runs.{outcome};
-ghost use Rattle.ab_world.specs.Worlds.{World};
 ghost use Rattle.ab_picture.specs.Composed.{IsPicture};
-ghost use Rattle.ab_draw.specs.Draws.{most_drawn, told_at, told_between, IsFrontOf, DrawsRun, Draws};
+ghost use Rattle.ab_draw.specs.Draws.{most_drawn, told_at, AllRun, IsFrontOf, DrawsRun, Draws};
 
-use crate::walking::{parcels, walk};
-use ab_cast::Setup;
+use crate::parcels::parcels_of;
+use ab_abs::Protocol;
 use ab_io::Source;
 use ab_kv::Kv;
 use ab_num::{OutOfMemory, ServiceName};
 use ab_picture::{Picture, Tale, compose, svg};
 use ab_replay::{
-    AnyWorld, MOST_EVENTS, ReadFault, ReplayFault, fault_of, read_all, refusal_of_text, run_events,
+    AnyProtocol, MOST_EVENTS, Played, ReadFault, ReplayFault, fault_of_text, play, read_all,
 };
 use ab_svc::{Echo, Service};
 use ab_text::{Event, Head, Schedule, read_is_in_form, read_schedule};
 use std::alloc::Global;
+use std::mem::drop;
 
 /// How many events are drawn.
 const MOST_DRAWN: usize = 2_000;
@@ -39,23 +37,23 @@ fn front(events: &[Event]) -> &[Event]
     }
 }
 
-/// The picture of what led to a world: these events, with how many packets there were after each of them.
-fn picture_of<S: Service>(
+/// The picture of these events of a run, which led to its end.
+fn picture_of<S: Service, P: Protocol<S>>(
     alloc: Global,
-    world: &AnyWorld<S>,
     head: &Head,
     events: &[Event],
-    counts: &[u64],
+    run: &Played<S, P>,
 ) -> Result<Picture, OutOfMemory>
     requires events { length events.now ≤ most_drawn }
-    requires counts { length counts.now ≤ most_drawn }
-    ensures picture { IfOk result (λ p. IsPicture head.now.cluster head.now.faulty (told_at world.now events.now counts.now) p) }
+    requires counts { length run.now.counts.items ≤ most_drawn }
+    ensures picture { IfOk result (λ p. IsPicture head.now.cluster head.now.faulty (told_at run.now.world events.now run.now.counts.items) p) }
     ensures count { IfOk result (λ p. length p.moments.items ≡ length events.now) }
 {
-    let parcels = parcels(alloc, world.sent())?;
+    let world = &run.world;
+    let parcels = parcels_of(alloc, world.sent())?;
     let told = Tale {
         events,
-        counts,
+        counts: run.counts.as_slice(),
         parcels: parcels.as_slice(),
         lines: world.seen(),
         premise: world.premise(),
@@ -63,80 +61,73 @@ fn picture_of<S: Service>(
     compose(alloc, &head.cluster, head.faulty.as_slice(), &told)
 }
 
-/// The picture of the run of these events, the first of which stands in the line after this one, from a world that begins.
-fn picture_in<S: Service>(
-    alloc: Global,
-    world: &mut AnyWorld<S>,
-    head: &Head,
-    events: &[Event],
-    line: u32,
-) -> Result<Picture, ReplayFault>
-    requires few { length events.now ≤ most_drawn }
-    requires begins { (world.old.cast.events ≡ 0) × (world.old.ended ≡ None) }
-    requires short { line < 2 ^ 31 }
-    ensures ok { IfOk result (λ p. (outcome (any S.machine) 1 world.old events.now ≡ Ok world.new) × IsPicture head.now.cluster head.now.faulty (told_between (any S.machine) world.old events.now world.new) p) }
-    ensures count { IfOk result (λ p. length p.moments.items ≡ length events.now) }
-    ensures cause { IfErr result (λ e. EventsCause e line (outcome (any S.machine) 1 world.old events.now)) }
-{
-    let counts = walk(alloc, world, events, line)?;
-    Ok(picture_of(alloc, world, head, events, counts.as_slice())?)
-}
-
-/// The picture of the first events of a schedule, with a service. The first event stands in the line after this one.
-fn front_picture<S: Service>(
+/// The picture of the first events of a schedule. The first event stands in the line after this one.
+fn front_picture<S: Service, P: Protocol<S>>(
     alloc: Global,
     schedule: &Schedule,
     line: u32,
 ) -> Result<Picture, ReplayFault>
-    requires served { ServesAll is_served schedule.now.head.cluster }
+    requires served { ServesAll P.serves schedule.now.head.cluster }
     requires parties { All (λ e. IsTrue (is_party schedule.now.head.cluster.f schedule.now.head.cluster.clients e.0)) schedule.now.head.faulty }
     requires few { length schedule.now.events < 100001 }
     requires short { line < 2 ^ 31 }
-    ensures ok { IfOk result (λ p. IsFrontOf (any S.machine) schedule.now.head.cluster (script_of schedule.now.head schedule.now.events) p) }
+    ensures ok { IfOk result (λ p. IsFrontOf P.proto schedule.now.head.cluster (script_of schedule.now.head schedule.now.events) p) }
     ensures few { IfOk result (λ p. length p.moments.items ≤ most_drawn) }
-    ensures cause { IfErr result (λ e. EventsCause e line (run_in (any S.machine) schedule.now.head.cluster (script_of schedule.now.head schedule.now.events))) }
+    ensures cause { IfErr result (λ e. EventsCause e line (run_in P.proto schedule.now.head.cluster (script_of schedule.now.head schedule.now.events))) }
 {
     let head = &schedule.head;
     let events = front(schedule.events.as_slice());
-    let setup = Setup::new(alloc, &head.cluster, head.faulty.as_slice(), head.lms)?;
-    let mut world = AnyWorld::<S>::new(alloc, setup)?;
-    picture_in(alloc, &mut world, head, events, line)
+    let run = match play::<S, P>(alloc, head, events, line) {
+        Ok(run) => run,
+        Err(fault) => return Err(fault),
+    };
+    let picture = picture_of(alloc, head, events, &run);
+    // By a call: in place the parts of each core would be taken apart.
+    drop(run);
+    Ok(picture?)
 }
 
-/// Runs all events of a schedule of more than are drawn, with a service.
-fn check<S: Service>(alloc: Global, schedule: &Schedule, line: u32) -> Result<(), ReplayFault>
-    requires served { ServesAll is_served schedule.now.head.cluster }
+/// Runs all events of a schedule of more than are drawn.
+fn run_all<S: Service, P: Protocol<S>>(
+    alloc: Global,
+    schedule: &Schedule,
+    line: u32,
+) -> Result<(), ReplayFault>
+    requires served { ServesAll P.serves schedule.now.head.cluster }
     requires parties { All (λ e. IsTrue (is_party schedule.now.head.cluster.f schedule.now.head.cluster.clients e.0)) schedule.now.head.faulty }
     requires few { length schedule.now.events < 100001 }
     requires short { line < 2 ^ 31 }
-    ensures ok { OnOk result ((length schedule.now.events ≤ most_drawn) ⊎ ((end : World Any) × (run_in (any S.machine) schedule.now.head.cluster (script_of schedule.now.head schedule.now.events) ≡ Ok end))) }
-    ensures cause { IfErr result (λ e. EventsCause e line (run_in (any S.machine) schedule.now.head.cluster (script_of schedule.now.head schedule.now.events))) }
+    ensures ok { OnOk result ((length schedule.now.events ≤ most_drawn) ⊎ AllRun P.proto schedule.now.head.cluster (script_of schedule.now.head schedule.now.events)) }
+    ensures cause { IfErr result (λ e. EventsCause e line (run_in P.proto schedule.now.head.cluster (script_of schedule.now.head schedule.now.events))) }
 {
-    let head = &schedule.head;
     let events = schedule.events.as_slice();
     if events.len() <= MOST_DRAWN {
         return Ok(());
     }
-    let setup = Setup::new(alloc, &head.cluster, head.faulty.as_slice(), head.lms)?;
-    let mut world = AnyWorld::<S>::new(alloc, setup)?;
-    run_events(alloc, &mut world, events, line)
+    match play::<S, P>(alloc, &schedule.head, events, line) {
+        Ok(run) => {
+            drop(run);
+            Ok(())
+        }
+        Err(fault) => Err(fault),
+    }
 }
 
 /// The text of the picture of a schedule's run, with a service: of its first events, where all events run.
-fn perform<S: Service>(
+fn perform<S: Service, P: Protocol<S>>(
     alloc: Global,
     schedule: &Schedule,
     line: u32,
 ) -> Result<Vec<u8>, ReplayFault>
-    requires served { ServesAll is_served schedule.now.head.cluster }
+    requires served { ServesAll P.serves schedule.now.head.cluster }
     requires parties { All (λ e. IsTrue (is_party schedule.now.head.cluster.f schedule.now.head.cluster.clients e.0)) schedule.now.head.faulty }
     requires few { length schedule.now.events < 100001 }
     requires short { line < 2 ^ 31 }
-    ensures ok { IfOk result (λ v. DrawsRun (any S.machine) (script_of schedule.now.head schedule.now.events) v.items) }
-    ensures cause { IfErr result (λ e. EventsCause e line (run_in (any S.machine) schedule.now.head.cluster (script_of schedule.now.head schedule.now.events))) }
+    ensures ok { IfOk result (λ v. DrawsRun P.proto (script_of schedule.now.head schedule.now.events) v.items) }
+    ensures cause { IfErr result (λ e. EventsCause e line (run_in P.proto schedule.now.head.cluster (script_of schedule.now.head schedule.now.events))) }
 {
-    let picture = front_picture::<S>(alloc, schedule, line)?;
-    check::<S>(alloc, schedule, line)?;
+    let picture = front_picture::<S, P>(alloc, schedule, line)?;
+    run_all::<S, P>(alloc, schedule, line)?;
     Ok(svg(alloc, &picture, schedule.events.as_slice().len() as u32)?)
 }
 
@@ -148,7 +139,7 @@ fn draw_text(alloc: Global, text: &[u8]) -> Result<Vec<u8>, ReplayFault>
 {
     let schedule = match read_schedule(alloc, text) {
         Ok(schedule) => schedule,
-        Err(fault) => return Err(fault_of(refusal_of_text(fault))),
+        Err(fault) => return Err(fault_of_text(fault)),
     };
     if schedule.events.as_slice().len() > MOST_EVENTS {
         return Err(ReplayFault::TooManyEvents);
@@ -157,8 +148,8 @@ fn draw_text(alloc: Global, text: &[u8]) -> Result<Vec<u8>, ReplayFault>
     read_is_in_form();
     let line = 7 + schedule.head.faulty.as_slice().len() as u32;
     match schedule.head.service {
-        ServiceName::Echo => perform::<Echo>(alloc, &schedule, line),
-        ServiceName::Kv => perform::<Kv>(alloc, &schedule, line),
+        ServiceName::Echo => perform::<Echo, AnyProtocol<Echo>>(alloc, &schedule, line),
+        ServiceName::Kv => perform::<Kv, AnyProtocol<Kv>>(alloc, &schedule, line),
     }
 }
 

@@ -2,8 +2,8 @@
 #![tactic(auto)]
 
 mod drawing;
+mod parcels;
 mod top;
-mod walking;
 
 pub use drawing::draw;
 pub use top::serve;

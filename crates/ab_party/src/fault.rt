@@ -1,14 +1,18 @@
 //! Why a core takes no command.
 
 use ab_num::OutOfMemory;
+use thiserror::Error;
 
 /// Why a core takes no command.
-#[derive(Clone, Copy, Debug, PartialEq, Eq)]
+#[derive(Clone, Copy, Debug, PartialEq, Eq, Error)]
 pub enum CommandFault {
     /// It is no client's.
+    #[error("the core is no client's")]
     NoClient,
     /// The client has a request open.
+    #[error("the client has a request open")]
     Busy,
+    #[error("out of memory")]
     OutOfMemory,
 }
 

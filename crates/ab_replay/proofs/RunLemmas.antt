@@ -1,5 +1,5 @@
 -- Runs without a refusal, and what the first refusal says of a text.
-use Rattle.std.proofs.Common.{◌≡◌, ℕ, zero, suc, ◌+◌, ◌*◌, ◌≤◌, ◌<◌, List, [], ◌∷◌, Bool, true, false, Option, None, Some, Result, Ok, Err, if◌then◌else◌, drop, get_or, length, refl, sym, ap, ◌∙◌, subst, inr, arith}
+use Rattle.std.proofs.Common.{◌≡◌, ℕ, zero, suc, ◌+◌, ◌*◌, ◌≤◌, ◌<◌, List, [], ◌∷◌, ◌++◌, Bool, true, false, Option, None, Some, Result, Ok, Err, if◌then◌else◌, drop, append_assoc, get_or, length, refl, sym, ap, ◌∙◌, subst, inr, arith}
 use Rattle.std.proofs.Math.Bridge.{le_prop}
 use Rattle.std.specs.Prelude.{IfErr}
 use Rattle.ab_num.specs.Bounds.{IsInBounds}
@@ -33,10 +33,9 @@ use Rattle.ab_world.specs.declared.fault.WorldFault.TheVariants.{BadCommand, NoP
 use Rattle.ab_world.specs.Runs.{outcome, refused_or}
 use Rattle.ab_world.specs.Steps.{WorldCause, Happening, ready, ready_in, happening, asked, asked_at, handed, addressed, delivered, rung, refuse_command, after, after_taking, moved_at, stepped, stepped_by, cue_from}
 use Rattle.ab_world.specs.Worlds.{World, start}
-use Rattle.ab_replay.specs.declared.refusal.Refusal.{Refusal}
-use Rattle.ab_replay.specs.declared.running.ReplayFault.{ReplayFault}
-use Rattle.ab_replay.specs.declared.running.ReplayFault.TheVariants.{Read, TooLong, Refused, TooManyEvents, TooManyPackets, OutOfMemory}
-use Rattle.ab_replay.specs.Replays.{IsClusterOf, RunsTo, run_in, setup_in, proto_of, head_lines, EventsCause, TextCause, fault_from, step_refusal}
+use Rattle.ab_replay.specs.declared.fault.ReplayFault.{ReplayFault}
+use Rattle.ab_replay.specs.declared.fault.ReplayFault.TheVariants.{Read, TooLong, Refused, TooManyEvents, TooManyPackets, OutOfMemory}
+use Rattle.ab_replay.specs.Replays.{IsClusterOf, RunsTo, run_in, setup_in, proto_of, head_lines, EventsCause, TextCause, counts_behind, counts_of, fault_of_step}
 
 -- ---- how many replicas a world has
 
@@ -268,20 +267,31 @@ module _ {P : Type 0} (proto : Proto P) where
       ap (λ r. refused_or proto (i + 1) r (λ v. outcome proto (i + 1 + 1) v (drop (i + 1) events))) (sym steps) ∙ ap (outcome proto (i + 1) w) (sym next) ∙ is
 
   -- the first event that is refused is the cause
-  pub refused_at : (w : World P) (e : Event) (line i at : ℕ) (fault : WorldFault) (r : Option Refusal) (f : ReplayFault) (o : Result (World P) (ℕ × WorldFault))
-      → f ≡ fault_from r → r ≡ step_refusal at fault → at ≡ line + (i + 1) → WorldCause proto fault w e
+  pub refused_at : (w : World P) (e : Event) (line i at : ℕ) (fault : WorldFault) (f : ReplayFault) (o : Result (World P) (ℕ × WorldFault))
+      → f ≡ fault_of_step at fault → at ≡ line + (i + 1) → w.ended ≡ None → w.cast.events < 100000 → WorldCause proto fault w e
       → (stepped proto w e ≡ Err fault → o ≡ Err (i + 1, fault)) → EventsCause f line o
-  refused_at w e line i at BadCommand r f o is refuses place cause next =
-      subst (λ (x : ReplayFault). EventsCause x line o) (sym (is ∙ ap fault_from refuses)) (i + 1, BadCommand, next cause, ap (λ k. step_refusal k BadCommand) (sym place))
-  refused_at w e line i at NoPacket r f o is refuses place cause next =
-      subst (λ (x : ReplayFault). EventsCause x line o) (sym (is ∙ ap fault_from refuses)) (i + 1, NoPacket, next cause, ap (λ k. step_refusal k NoPacket) (sym place))
-  refused_at w e line i at BadParty r f o is refuses place cause next =
-      subst (λ (x : ReplayFault). EventsCause x line o) (sym (is ∙ ap fault_from refuses)) (i + 1, BadParty, next cause, ap (λ k. step_refusal k BadParty) (sym place))
-  refused_at w e line i at Busy r f o is refuses place cause next =
-      subst (λ (x : ReplayFault). EventsCause x line o) (sym (is ∙ ap fault_from refuses)) (i + 1, Busy, next cause, ap (λ k. step_refusal k Busy) (sym place))
-  refused_at w e line i at EventLimit r f o is refuses place cause next = subst (λ (x : ReplayFault). EventsCause x line o) (sym (is ∙ ap fault_from refuses)) tt
-  refused_at w e line i at PacketLimit r f o is refuses place cause next = subst (λ (x : ReplayFault). EventsCause x line o) (sym (is ∙ ap fault_from refuses)) tt
-  refused_at w e line i at NoMemory r f o is refuses place cause next = subst (λ (x : ReplayFault). EventsCause x line o) (sym (is ∙ ap fault_from refuses)) tt
+  refused_at w e line i at BadCommand f o is place goes few cause next =
+      subst (λ (x : ReplayFault). EventsCause x line o) (sym is) (i + 1, BadCommand, next cause, ap (λ k. fault_of_step k BadCommand) (sym place))
+  refused_at w e line i at NoPacket f o is place goes few cause next =
+      subst (λ (x : ReplayFault). EventsCause x line o) (sym is) (i + 1, NoPacket, next cause, ap (λ k. fault_of_step k NoPacket) (sym place))
+  refused_at w e line i at BadParty f o is place goes few cause next =
+      subst (λ (x : ReplayFault). EventsCause x line o) (sym is) (i + 1, BadParty, next cause, ap (λ k. fault_of_step k BadParty) (sym place))
+  refused_at w e line i at Busy f o is place goes few cause next =
+      subst (λ (x : ReplayFault). EventsCause x line o) (sym is) (i + 1, Busy, next cause, ap (λ k. fault_of_step k Busy) (sym place))
+  refused_at w e line i at EventLimit f o is place goes few cause next = absurd (no_limit w e goes few cause)
+  refused_at w e line i at PacketLimit f o is place goes few cause next = subst (λ (x : ReplayFault). EventsCause x line o) (sym is) (i + 1, next cause)
+  refused_at w e line i at NoMemory f o is place goes few cause next = subst (λ (x : ReplayFault). EventsCause x line o) (sym is) tt
+
+  -- one event more is counted
+  pub counted : (w v : World P) (e : Event) (all rest : List Event) (old now whole : List ℕ) (n : ℕ) → stepped proto w e ≡ Ok v → all ≡ e ∷ rest → n ≡ length v.packets
+      → now ≡ old ++ n ∷ [] → old ++ counts_of proto w all ≡ whole → now ++ counts_of proto v rest ≡ whole
+  counted w v e all rest old now whole n step front is more was =
+      ap (λ t. t ++ counts_of proto v rest) more
+      ∙ append_assoc old (n ∷ []) (counts_of proto v rest)
+      ∙ ap (λ k. old ++ k ∷ counts_of proto v rest) is
+      ∙ ap (λ r. old ++ counts_behind r (λ u. length u.packets ∷ counts_of proto u rest)) (sym step)
+      ∙ ap (λ t. old ++ counts_of proto w t) (sym front)
+      ∙ was
 
 -- ---- errors that are handed on
 

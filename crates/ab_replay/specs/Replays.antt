@@ -3,6 +3,7 @@ use Rattle.std.specs.Prelude.{◌≡◌, ◌⊎◌, ◌↔◌, ⊤, ℕ, ◌+◌
 use Rattle.ab_num.specs.declared.party.Party.TheVariants.{Replica}
 use Rattle.ab_num.specs.declared.plan.ServiceName.{ServiceName}
 use Rattle.ab_num.specs.declared.plan.ServiceName.TheVariants.{Echo, Kv}
+use Rattle.ab_text.specs.declared.event.Event.{Event}
 use Rattle.ab_text.specs.declared.fault.TextFault.{TextFault}
 use Rattle.ab_text.specs.declared.fault.TextFault.TheVariants as text_fault
 use Rattle.ab_text.specs.declared.line.Premise.TheVariants.{Held}
@@ -13,24 +14,20 @@ use Rattle.ab_svc.specs.Machines.{Machine}
 use Rattle.ab_svc.specs.Echoes.{echo_machine}
 use Rattle.ab_kv.specs.KvMachines.{kv_machine}
 use Rattle.ab_num.specs.declared.cluster.Cluster.{Cluster}
-use Rattle.ab_text.specs.declared.line.Premise.{Premise}
-use Rattle.ab_msg.specs.Contents.{spell_content}
 use Rattle.ab_abs.specs.Ensembles.{Proto}
-use Rattle.ab_abs.specs.Instances.{EachIsAbstract}
-use Rattle.ab_abs.specs.Order.{Ordered}
 use Rattle.ab_replica.specs.Sites.{Site}
-use Rattle.ab_run.specs.Stages.{all_seen, named_on, stage_over}
-use Rattle.ab_premise.specs.Premises.{IsPremise}
-use Rattle.ab_cast.specs.Setups.{Setup, run_setup, is_bad}
+use Rattle.ab_cast.specs.Setups.{Setup, is_bad}
 use Rattle.ab_world.specs.declared.fault.WorldFault.{WorldFault}
 use Rattle.ab_world.specs.declared.fault.WorldFault.TheVariants as world_fault
 use Rattle.ab_world.specs.Lines.{entries_of}
-use Rattle.ab_world.specs.Runs.{outcome, inputs_of, came_to}
-use Rattle.ab_world.specs.Worlds.{World, start, opener, premise_of}
+use Rattle.ab_world.specs.Runs.{outcome}
+use Rattle.ab_world.specs.Steps.{stepped}
+use Rattle.ab_world.specs.Told.{IsTold}
+use Rattle.ab_world.specs.Worlds.{World, start, premise_of}
 use Rattle.ab_replay.specs.declared.refusal.RefusalCause.TheVariants.{BadLine, NoEnd, NoPacket, BadParty, Busy}
 use Rattle.ab_replay.specs.declared.refusal.Refusal.{Refusal}
-use Rattle.ab_replay.specs.declared.running.ReplayFault.{ReplayFault}
-use Rattle.ab_replay.specs.declared.running.ReplayFault.TheVariants as replaying
+use Rattle.ab_replay.specs.declared.fault.ReplayFault.{ReplayFault}
+use Rattle.ab_replay.specs.declared.fault.ReplayFault.TheVariants as replaying
 use Rattle.ab_replay.specs.Protocols.{Any, any}
 use Rattle.ab_replay.specs.Streams.{IsInput, IsTooLong}
 use Rattle.ab_io.specs.Causes.{Rose}
@@ -55,6 +52,20 @@ setup_in c s = record { cluster = c; faulty = s.faulty; lms = s.lms }
 abbrev pub run_in : {P : Type 0} → Proto P → Cluster → Script → Result (World P) (ℕ × WorldFault)
 run_in proto c s = outcome proto 1 (start proto (setup_in c s)) s.events
 
+-- nothing is counted behind a refusal
+abbrev pub counts_behind : {P : Type 0} → Result (World P) WorldFault → (World P → List ℕ) → List ℕ
+counts_behind (Ok w) rest = rest w
+counts_behind (Err fault) rest = []
+
+-- how many packets there are after each of these events
+abbrev pub counts_of : {P : Type 0} → Proto P → World P → List Event → List ℕ
+counts_of proto w [] = []
+counts_of proto w (e ∷ es) = counts_behind (stepped proto w e) (λ v. length v.packets ∷ counts_of proto v es)
+
+-- and after each event of a schedule in a cluster
+abbrev pub counts_in : {P : Type 0} → Proto P → Cluster → Script → List ℕ
+counts_in proto c s = counts_of proto (start proto (setup_in c s)) s.events
+
 -- the run of a schedule, in its cluster, comes to this
 pub record RunsTo {P : Type 0} (proto : Proto P) (s : Script) (r : Result (World P) (ℕ × WorldFault)) : Type 0 where
   pub cluster : Cluster
@@ -77,20 +88,9 @@ logs_from proto x r (s ∷ rest) = if is_bad x (Replica r) then logs_from proto 
 abbrev pub report_of : {P : Type 0} → Proto P → World P → List ℕ
 report_of proto w = report_text w.lines (logs_from proto w.cast.setup 0 w.cast.replicas) (premise_of w) w.cast.events (length w.packets)
 
--- ---- what a run promises
+-- ---- what is told
 
--- the observations of the run are ordered, and each instance keeps what Abstract promises of the service, under the last log of each
--- replica in each instance. In its cluster the run is that of the stage
-pub record KeepsPromises {S P : Type 0} (machine : Machine S) (proto : Proto P) (c : Cluster) (s : Script) : Type 0 where
-  pub ordered : let x = setup_in c s in
-      let end = stage_over (run_setup x) proto spell_content (opener x) (inputs_of proto (start proto x) s.events) in
-      Ordered machine (all_seen end) (named_on (run_setup x) end) (run_setup x).faulty
-  pub instances : let x = setup_in c s in
-      let end = stage_over (run_setup x) proto spell_content (opener x) (inputs_of proto (start proto x) s.events) in
-      EachIsAbstract machine (all_seen end) (named_on (run_setup x) end) (run_setup x).faulty
-
--- the run of a schedule with a service, by a protocol, leads here, and this is its report. Its premise line is that of the run, to the letter, and
--- where it says `held` the run keeps what Abstract promises
+-- the run of a schedule with a service, by a protocol, leads here, and this is its report, which tells of that run
 pub record Performs {S P : Type 0} (machine : Machine S) (proto : Proto P) (s : Script) (report : List ℕ) (held : Bool) : Type 0 where
   pub cluster : Cluster
   pub sized : IsClusterOf cluster s
@@ -98,9 +98,7 @@ pub record Performs {S P : Type 0} (machine : Machine S) (proto : Proto P) (s : 
   pub runs : run_in proto cluster s ≡ Ok end
   pub reports : report ≡ report_of proto end
   pub says : IsTrue held ↔ (premise_of end ≡ Held)
-  pub exact : (line : Premise) → (premise_of end ≡ line)
-      ↔ IsPremise (run_setup (setup_in cluster s)) proto (opener (setup_in cluster s)) s.faulty (came_to proto (setup_in cluster s) s.events) line
-  pub promises : premise_of end ≡ Held → KeepsPromises machine proto cluster s
+  pub told : IsTold machine proto (setup_in cluster s) s.events end
 
 -- the same with the service that is named
 abbrev pub PerformsAs : ServiceName → Script → List ℕ → Bool → Type 0
@@ -114,28 +112,23 @@ pub record Replays (text report : List ℕ) (held : Bool) : Type 0 where
   pub reads : ReadsText text (Ok schedule)
   pub performs : PerformsAs schedule.service schedule report held
 
--- ---- refusals
+-- ---- faults
 
--- a refusal as a fault. Where nothing is refused, memory was
-abbrev pub fault_from : Option Refusal → ReplayFault
-fault_from None = replaying.OutOfMemory
-fault_from (Some r) = replaying.Refused r
+-- why a text that is no schedule has no report
+abbrev pub fault_of_text : TextFault → ReplayFault
+fault_of_text (text_fault.BadLine n) = replaying.Refused (record { line = n; cause = BadLine })
+fault_of_text (text_fault.NoEnd n) = replaying.Refused (record { line = n; cause = NoEnd })
+fault_of_text text_fault.OutOfMemory = replaying.OutOfMemory
 
--- the refusal of a text that is no schedule
-abbrev pub text_refusal : TextFault → Option Refusal
-text_refusal (text_fault.BadLine n) = Some (record { line = n; cause = BadLine })
-text_refusal (text_fault.NoEnd n) = Some (record { line = n; cause = NoEnd })
-text_refusal text_fault.OutOfMemory = None
-
--- the refusal of an event in this line. No schedule that was read has a bad command
-abbrev pub step_refusal : ℕ → WorldFault → Option Refusal
-step_refusal line world_fault.BadCommand = Some (record { line = line; cause = BadLine })
-step_refusal line world_fault.NoPacket = Some (record { line = line; cause = NoPacket })
-step_refusal line world_fault.BadParty = Some (record { line = line; cause = BadParty })
-step_refusal line world_fault.Busy = Some (record { line = line; cause = Busy })
-step_refusal line world_fault.EventLimit = None
-step_refusal line world_fault.PacketLimit = None
-step_refusal line world_fault.OutOfMemory = None
+-- why a schedule has no report whose event in this line was not taken. No schedule that was read has a bad command
+abbrev pub fault_of_step : ℕ → WorldFault → ReplayFault
+fault_of_step line world_fault.BadCommand = replaying.Refused (record { line = line; cause = BadLine })
+fault_of_step line world_fault.NoPacket = replaying.Refused (record { line = line; cause = NoPacket })
+fault_of_step line world_fault.BadParty = replaying.Refused (record { line = line; cause = BadParty })
+fault_of_step line world_fault.Busy = replaying.Refused (record { line = line; cause = Busy })
+fault_of_step line world_fault.EventLimit = replaying.TooManyEvents
+fault_of_step line world_fault.PacketLimit = replaying.TooManyPackets
+fault_of_step line world_fault.OutOfMemory = replaying.OutOfMemory
 
 -- the line before that of the first event
 abbrev pub head_lines : Script → ℕ
@@ -145,7 +138,7 @@ head_lines s = 7 + length s.faulty
 pub record IsBadText (text : List ℕ) (r : Refusal) : Type 0 where
   pub fault : TextFault
   pub reads : ReadsText text (Err fault)
-  pub refuses : text_refusal fault ≡ Some r
+  pub refuses : fault_of_text fault ≡ replaying.Refused r
 
 -- the schedule is read, and an event is refused
 pub record IsBadEvent (text : List ℕ) (r : Refusal) : Type 0 where
@@ -155,7 +148,7 @@ pub record IsBadEvent (text : List ℕ) (r : Refusal) : Type 0 where
   pub reads : ReadsText text (Ok schedule)
   pub few : length schedule.events < 100001
   pub runs : Runs schedule (Err (event, fault))
-  pub refuses : step_refusal (head_lines schedule + event) fault ≡ Some r
+  pub refuses : fault_of_step (head_lines schedule + event) fault ≡ replaying.Refused r
 
 -- the first line that is refused, and why
 abbrev pub IsRefused : List ℕ → Refusal → Type 0
@@ -175,7 +168,7 @@ pub record HasTooManyBytes (text : List ℕ) : Type 0 where
 
 -- when each fault of a run over events comes, where the first of them stands in the line after this one
 abbrev pub EventsCause : {P : Type 0} → ReplayFault → ℕ → Result (World P) (ℕ × WorldFault) → Type 0
-EventsCause (replaying.Refused r) line o = (n : ℕ) × (f : WorldFault) × (o ≡ Err (n, f)) × (step_refusal (line + n) f ≡ Some r)
+EventsCause (replaying.Refused r) line o = (n : ℕ) × (f : WorldFault) × (o ≡ Err (n, f)) × (fault_of_step (line + n) f ≡ replaying.Refused r)
 EventsCause replaying.OutOfMemory line o = ⊤
 EventsCause replaying.TooManyPackets line o = (n : ℕ) × (o ≡ Err (n, world_fault.PacketLimit))
 EventsCause replaying.TooManyEvents line o = ⊥

@@ -5,20 +5,26 @@ ghost use Rattle.ab_replay.specs.Streams.{IsAllOf, ReadCause, Writes, most_bytes
 
 use ab_io::{Failed, Refused, Sink, Source};
 use std::alloc::Global;
+use thiserror::Error;
 
 /// The most bytes that an input may have.
 const MOST: usize = 67_108_864;
 
-#[derive(Clone, Copy, Debug, PartialEq, Eq)]
+#[derive(Clone, Copy, Debug, PartialEq, Eq, Error)]
 pub enum ReadFault {
+    #[error("reading failed")]
     Failed,
+    #[error("the input is too long")]
     TooLong,
+    #[error("out of memory")]
     OutOfMemory,
 }
 
-#[derive(Clone, Copy, Debug, PartialEq, Eq)]
+#[derive(Clone, Copy, Debug, PartialEq, Eq, Error)]
 pub enum WriteFault {
+    #[error("writing failed")]
     Failed,
+    #[error("out of memory")]
     OutOfMemory,
 }
 

@@ -77,11 +77,9 @@ module _ {P : Type 0} (proto : Proto P) (k : StormCommand) (x : Setup) (w : Worl
   run_is : outcome proto 1 w (drawn_events proto events s w) ≡ run_in proto x.cluster k
   run_is = λ j. outcome proto 1 (starts_so j) (events_are j)
 
-  -- its events are kept
-  pub all_kept : (r : Result (List Event) StormFault) (end : World P) → OnOk r (outcome proto 1 w (drawn_events proto events s w) ≡ Ok end) → IfOk r (λ kept. kept ≡ drawn_events proto events s w)
-      → IfOk r (λ kept. All IsEvent kept) → IfOk r (λ kept. Draws proto k kept)
-  all_kept (Err e) end leads is lines = tt
-  all_kept (Ok kept) end leads is lines =
+  -- its events are kept, and lead to the end
+  pub all_kept : (kept : List Event) (end : World P) → outcome proto 1 w (drawn_events proto events s w) ≡ Ok end → kept ≡ drawn_events proto events s w → All IsEvent kept → Draws proto k kept end
+  all_kept kept end leads is lines =
       let runs : run_in proto x.cluster k ≡ Ok end = sym run_is ∙ leads in
       let drawn : kept ≡ events_in proto x.cluster k = is ∙ events_are in
       record {
@@ -89,12 +87,10 @@ module _ {P : Type 0} (proto : Proto P) (k : StormCommand) (x : Setup) (w : Worl
         sized = sized;
         drawn = drawn;
         all = ap length drawn ∙ all_drawn proto k.events 1 (storm_of x.cluster k.seed) (start proto (storm_setup x.cluster)) end runs;
-        end = end;
         runs = runs;
         lines = lines;
       }
 
   -- or it ends
-  pub all_ended : (r : Result (List Event) StormFault) → IfErr r (λ e. EndCause e (outcome proto 1 w (drawn_events proto events s w))) → IfErr r (λ e. StormCause proto e k)
-  all_ended (Ok kept) cause = tt
-  all_ended (Err e) cause = ends_storm proto k x.cluster e sized (subst (EndCause e) run_is cause)
+  pub all_ended : (e : StormFault) → EndCause e (outcome proto 1 w (drawn_events proto events s w)) → StormCause proto e k
+  all_ended e cause = ends_storm proto k x.cluster e sized (subst (EndCause e) run_is cause)

@@ -8,13 +8,12 @@ use Rattle.ab_abs.specs.Ensembles.{Proto}
 use Rattle.ab_world.specs.Worlds.{World}
 use Rattle.ab_storm.specs.Runs.{events_in, run_in, IsClusterOf}
 
--- these are the events that the storm draws that is asked for. They are as many as it asks for, no event is refused, and each has a line
--- in a schedule
-pub record Draws {P : Type 0} (proto : Proto P) (k : StormCommand) (events : List Event) : Type 0 where
+-- these are the events that the storm draws that is asked for, and they lead to this world. They are as many as it asks for, and each has
+-- a line in a schedule
+pub record Draws {P : Type 0} (proto : Proto P) (k : StormCommand) (events : List Event) (end : World P) : Type 0 where
   pub cluster : Cluster
   pub sized : IsClusterOf cluster k
   pub drawn : events ≡ events_in proto cluster k
   pub all : length events ≡ k.events
-  pub end : World P
   pub runs : run_in proto cluster k ≡ Ok end
   pub lines : All IsEvent events

@@ -4,24 +4,19 @@ use Rattle.std.specs.List.{range_with_len}
 use Rattle.ab_num.specs.declared.cluster.Cluster.{Cluster}
 use Rattle.ab_num.specs.declared.plan.Height.TheVariants.{Ten}
 use Rattle.ab_text.specs.declared.event.Event.{Event}
-use Rattle.ab_text.specs.declared.line.Premise.{Premise}
 use Rattle.ab_text.specs.declared.line.Premise.TheVariants.{Held}
 use Rattle.ab_words.specs.Commands.{StormCommand}
 use Rattle.ab_storm.specs.Storms.{Storm, next_of}
 use Rattle.ab_svc.specs.Machines.{Machine}
-use Rattle.ab_msg.specs.Contents.{spell_content}
 use Rattle.ab_abs.specs.Ensembles.{Proto}
-use Rattle.ab_abs.specs.Instances.{EachIsAbstract}
-use Rattle.ab_abs.specs.Order.{Ordered}
-use Rattle.ab_run.specs.Stages.{all_seen, named_on, stage_over}
-use Rattle.ab_premise.specs.Premises.{IsPremise}
-use Rattle.ab_cast.specs.Setups.{Setup, run_setup}
+use Rattle.ab_cast.specs.Setups.{Setup}
 use Rattle.ab_cast.specs.Casts.{is_free}
 use Rattle.ab_world.specs.declared.fault.WorldFault.{WorldFault}
 use Rattle.ab_world.specs.declared.fault.WorldFault.TheVariants as world_fault
-use Rattle.ab_world.specs.Runs.{outcome, inputs_of, came_to}
+use Rattle.ab_world.specs.Runs.{outcome}
 use Rattle.ab_world.specs.Steps.{stepped}
-use Rattle.ab_world.specs.Worlds.{World, start, opener, premise_of}
+use Rattle.ab_world.specs.Told.{IsTold}
+use Rattle.ab_world.specs.Worlds.{World, start, premise_of}
 use Rattle.ab_storm.specs.declared.running.StormFault.{StormFault}
 use Rattle.ab_storm.specs.declared.running.StormFault.TheVariants as storm_fault
 use Rattle.ab_storm.specs.Summaries.{summary_of}
@@ -75,18 +70,9 @@ pub record StormsTo {P : Type 0} (proto : Proto P) (k : StormCommand) (r : Resul
   pub sized : IsClusterOf cluster k
   pub runs : run_in proto cluster k ≡ r
 
--- ---- what a run promises
+-- ---- what is told
 
--- the observations of the run of these events are ordered, and each instance keeps what Abstract promises of the service, under the
--- last log of each replica in each instance
-pub record KeepsPromises {S P : Type 0} (machine : Machine S) (proto : Proto P) (x : Setup) (events : List Event) : Type 0 where
-  pub ordered : let end = stage_over (run_setup x) proto spell_content (opener x) (inputs_of proto (start proto x) events) in
-      Ordered machine (all_seen end) (named_on (run_setup x) end) (run_setup x).faulty
-  pub instances : let end = stage_over (run_setup x) proto spell_content (opener x) (inputs_of proto (start proto x) events) in
-      EachIsAbstract machine (all_seen end) (named_on (run_setup x) end) (run_setup x).faulty
-
--- the storm that is asked for draws all its events, and this is the summary of their run. Its premise line is that of the run, to the
--- letter, and where it says `held` the run keeps what Abstract promises
+-- the storm that is asked for draws all its events, and this is the summary of their run, which tells of that run
 pub record Storms {S P : Type 0} (machine : Machine S) (proto : Proto P) (k : StormCommand) (summary : List ℕ) (held : Bool) : Type 0 where
   pub cluster : Cluster
   pub sized : IsClusterOf cluster k
@@ -95,9 +81,7 @@ pub record Storms {S P : Type 0} (machine : Machine S) (proto : Proto P) (k : St
   pub runs : run_in proto cluster k ≡ Ok end
   pub sums : summary ≡ summary_of end
   pub says : IsTrue held ↔ (premise_of end ≡ Held)
-  pub exact : (line : Premise) → (premise_of end ≡ line)
-      ↔ IsPremise (run_setup (storm_setup cluster)) proto (opener (storm_setup cluster)) [] (came_to proto (storm_setup cluster) (events_in proto cluster k)) line
-  pub promises : premise_of end ≡ Held → KeepsPromises machine proto (storm_setup cluster) (events_in proto cluster k)
+  pub told : IsTold machine proto (storm_setup cluster) (events_in proto cluster k) end
 
 -- ---- faults
 

@@ -1,28 +1,34 @@
-//! A storm is run.
+//! A storm is run: its events are drawn, each where the world stands after those before it, and kept.
 
-ghost use Rattle.std.specs.Prelude.{◌≡◌, ◌<◌, ◌≤◌, ℕ, IsTrue, IsSome, IfOk, IfErr, OnOk, Ok, Some};
+ghost use Rattle.std.specs.Prelude.{◌≡◌, ◌<◌, ◌≤◌, ◌++◌, ◌∷◌, ◌*◌, ◌+◌, [], ℕ, All, IsTrue, IsSome, IfOk, IfErr, OnOk, Ok, Some, length};
 ghost use Rattle.ab_num.specs.Places.{kind_of};
+ghost use Rattle.ab_text.specs.EventLines.{IsEvent};
 ghost use Rattle.ab_world.specs.Runs.{outcome};
 ghost use Rattle.ab_world.specs.Steps.{stepped};
-ghost use Rattle.ab_world.specs.Worlds.{start};
+ghost use Rattle.ab_world.specs.Worlds.{World as TheWorld};
 ghost use Rattle.ab_storm.specs.Standing.{Goes};
-ghost use Rattle.ab_storm.specs.Runs.{idle_of, drawn_at, drawn_events, end_of, storm_setup, IsClusterOf, Storms, StepCause, EndCause, StormCause};
+ghost use Rattle.ab_storm.specs.Runs.{idle_of, drawn_at, drawn_events, end_of, storm_setup, IsClusterOf, StepCause, EndCause, StormCause};
+ghost use Rattle.ab_storm.specs.Drawn.{Draws};
 
 use crate::generator::Storm;
-use crate::summary::summary;
 use ab_abs::Protocol;
 use ab_cast::Setup;
-use ab_num::{Cluster, Height, OutOfMemory};
+use ab_num::{Height, OutOfMemory};
 use ab_svc::Service;
+use ab_text::{Event, Items};
 use ab_words::StormCommand;
-use ab_world::{World, WorldFault, premise_is_exact, worlds_keep_promises};
+use ab_world::{World, WorldFault};
 use std::alloc::Global;
+use std::mem::drop;
+use thiserror::Error;
 
-/// Why a storm has no summary.
-#[derive(Clone, Copy, Debug, PartialEq, Eq)]
+/// Why a storm doesn't run to its end, or has no summary.
+#[derive(Clone, Copy, Debug, PartialEq, Eq, Error)]
 pub enum StormFault {
     /// The bytes of its packets would pass what a world keeps.
+    #[error("the packets would pass their limit")]
     TooManyPackets,
+    #[error("out of memory")]
     OutOfMemory,
 }
 
@@ -37,11 +43,11 @@ impl From<OutOfMemory> for StormFault {
     }
 }
 
-/// What a storm gives: the summary, and whether its premise line says `held`.
+/// What a storm leads to: the events that it drew, and the world after them.
 #[derive(Drop)]
-pub struct Stormed {
-    pub summary: Vec<u8>,
-    pub held: bool,
+pub struct Stormed<S: Service, P: Protocol<S>> {
+    pub events: Items<Event>,
+    pub world: World<S, P>,
 }
 
 /// For each number whether it is that of a client who has no request open.
@@ -64,81 +70,119 @@ pub fn ended_by(fault: WorldFault) -> StormFault
     }
 }
 
-/// One event more, drawn where the world stands.
+/// Keeps an event behind others.
+fn keep(kept: &mut Items<Event>, event: Event) -> Result<(), StormFault>
+    ensures ok { OnOk result (kept.new ≡ kept.old ++ event ∷ []) }
+    ensures err { IfErr result (λ e. e ≡ StormFault.OutOfMemory) }
+{
+    match kept.push(event) {
+        Ok(()) => Ok(()),
+        Err(_) => Err(StormFault::OutOfMemory),
+    }
+}
+
+/// One event more, drawn where the world stands, and kept behind those before it.
 fn step<S: Service, P: Protocol<S>>(
     alloc: Global,
     storm: &mut Storm,
     world: &mut World<S, P>,
+    kept: &mut Items<Event>,
 ) -> Result<(), StormFault>
     requires goes { Goes storm.old world.old }
     requires few { world.old.cast.events < 100000 }
     ensures ok { OnOk result (stepped P.proto world.old (drawn_at storm.old world.old).0 ≡ Ok world.new) }
+    ensures kept { OnOk result (kept.new ≡ kept.old ++ (drawn_at storm.old world.old).0 ∷ []) }
+    ensures line { IsEvent (drawn_at storm.old world.old).0 }
     ensures next { storm.new ≡ (drawn_at storm.old world.old).1 }
     ensures cause { IfErr result (λ e. StepCause e (stepped P.proto world.old (drawn_at storm.old world.old).0)) }
 {
     let event = storm.next(world.packets(), &idle_clients(world));
     match world.step(alloc, &event) {
-        Ok(()) => Ok(()),
+        Ok(()) => keep(kept, event),
         Err(fault) => Err(ended_by(fault)),
     }
 }
 
 /// So many events, one after another.
-fn run_events<S: Service, P: Protocol<S>>(
+fn draw_events<S: Service, P: Protocol<S>>(
     alloc: Global,
     storm: &mut Storm,
     world: &mut World<S, P>,
     events: u32,
-) -> Result<(), StormFault>
+) -> Result<Items<Event>, StormFault>
     requires few { events ≤ 100000 }
     requires goes { Goes storm.old world.old }
     requires begins { world.old.cast.events ≡ 0 }
     ensures ok { OnOk result (outcome P.proto 1 world.old (drawn_events P.proto events storm.old world.old) ≡ Ok world.new) }
     ensures goes { OnOk result (Goes storm.new world.new) }
+    ensures kept { IfOk result (λ kept. kept ≡ drawn_events P.proto events storm.old world.old) }
+    ensures lines { IfOk result (λ kept. All IsEvent kept) }
     ensures cause { IfErr result (λ e. EndCause e (outcome P.proto 1 world.old (drawn_events P.proto events storm.old world.old))) }
 {
+    let mut kept = Items::new(alloc);
     for _done in 0..events {
-        step(alloc, storm, world)?;
+        step(alloc, storm, world, &mut kept)?;
     }
-    Ok(())
+    Ok(kept)
 }
 
-/// Runs the storm that is asked for in the world that its cluster begins with, and sums it up.
-fn summary_in<S: Service, P: Protocol<S>>(
+/// The storm that is asked for, in a cluster with this setup.
+fn storm_over<S: Service, P: Protocol<S>>(
     alloc: Global,
     asked: &StormCommand,
-    cluster: &Cluster,
-    world: &mut World<S, P>,
-) -> Result<Stormed, StormFault>
+    setup: Setup,
+) -> Result<Stormed<S, P>, StormFault>
     requires served { (i : ℕ) → 1 ≤ i → IsTrue (P.serves (kind_of asked.now.plan i)) }
     requires few { asked.now.events ≤ 100000 }
-    requires sized { IsClusterOf cluster.now asked.now }
-    requires begins { world.old ≡ start P.proto (storm_setup cluster.now) }
-    ensures ok { IfOk result (λ v. Storms S.machine P.proto asked.now v.summary.items v.held) }
+    requires setup { setup ≡ storm_setup setup.cluster }
+    requires sized { IsClusterOf setup.cluster asked.now }
+    ensures ok { IfOk result (λ s. Draws P.proto asked.now s.events s.world) }
+    ensures replicas { IfOk result (λ s. length s.world.cast.replicas ≡ 3 * s.world.cast.setup.cluster.f + 1) }
     ensures cause { IfErr result (λ e. StormCause P.proto e asked.now) }
 {
-    let mut storm = Storm::new(asked.seed(), cluster);
-    run_events(alloc, &mut storm, world, asked.events())?;
-    premise_is_exact::<S, P>();
-    worlds_keep_promises::<S, P>();
-    let held = world.premise().is_held();
-    let summary = summary(alloc, world)?;
-    Ok(Stormed { summary, held })
+    let mut storm = Storm::new(asked.seed(), setup.cluster());
+    let mut world = World::<S, P>::new(alloc, setup)?;
+    match draw_events(alloc, &mut storm, &mut world, asked.events()) {
+        Ok(events) => Ok(Stormed { events, world }),
+        Err(fault) => {
+            // By a call: in place the parts of each core would be taken apart.
+            drop(world);
+            Err(fault)
+        }
+    }
 }
 
 /// Runs the storm that is asked for: in a cluster with the service S, trees of height 10 and no faulty party, whose replicas
-/// go by P, which serves each kind of the plan.
-pub fn run_storm<S: Service, P: Protocol<S>>(
+/// go by P, which serves each kind of the plan. The world has each replica of the cluster.
+pub fn storm<S: Service, P: Protocol<S>>(
     alloc: Global,
     asked: &StormCommand,
-) -> Result<Stormed, StormFault>
+) -> Result<Stormed<S, P>, StormFault>
     requires served { (i : ℕ) → 1 ≤ i → IsTrue (P.serves (kind_of asked.now.plan i)) }
     requires few { asked.now.events ≤ 100000 }
-    ensures ok { IfOk result (λ v. Storms S.machine P.proto asked.now v.summary.items v.held) }
+    ensures ok { IfOk result (λ s. Draws P.proto asked.now s.events s.world) }
+    ensures replicas { IfOk result (λ s. length s.world.cast.replicas ≡ 3 * s.world.cast.setup.cluster.f + 1) }
     ensures cause { IfErr result (λ e. StormCause P.proto e asked.now) }
 {
-    let cluster = asked.cluster();
-    let setup = Setup::new(alloc, cluster, &[], Height::Ten)?;
-    let mut world = World::<S, P>::new(alloc, setup)?;
-    summary_in(alloc, asked, cluster, &mut world)
+    let setup = Setup::new(alloc, asked.cluster(), &[], Height::Ten)?;
+    storm_over(alloc, asked, setup)
+}
+
+/// The events of the storm that is asked for, as `storm` draws them.
+pub fn storm_events<S: Service, P: Protocol<S>>(
+    alloc: Global,
+    asked: &StormCommand,
+) -> Result<Items<Event>, StormFault>
+    requires served { (i : ℕ) → 1 ≤ i → IsTrue (P.serves (kind_of asked.now.plan i)) }
+    requires few { asked.now.events ≤ 100000 }
+    ensures ok { IfOk result (λ events. (end : TheWorld P) × Draws P.proto asked.now events end) }
+    ensures cause { IfErr result (λ e. StormCause P.proto e asked.now) }
+{
+    match storm::<S, P>(alloc, asked) {
+        Ok(Stormed { events, world }) => {
+            drop(world);
+            Ok(events)
+        }
+        Err(fault) => Err(fault),
+    }
 }

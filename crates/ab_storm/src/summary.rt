@@ -1,16 +1,29 @@
 //! The summary of a storm.
 
-ghost use Rattle.std.specs.Prelude.{◌≡◌, ◌<◌, ◌*◌, ◌+◌, IfOk, Some, length, slice_get, string_bytes};
+ghost use Rattle.std.specs.Prelude.{◌≡◌, ◌<◌, ◌≤◌, ◌*◌, ◌+◌, ℕ, IfErr, IfOk, IsTrue, Some, length, slice_get, string_bytes};
 ghost use Rattle.std.specs.List.{count_by};
 ghost use Rattle.std.specs.Option.{option_map};
+ghost use Rattle.ab_num.specs.Places.{kind_of};
+ghost use Rattle.ab_storm.specs.Drawn.{Draws};
+ghost use Rattle.ab_storm.specs.Runs.{Storms, StormCause};
 ghost use Rattle.ab_storm.specs.Summaries.{is_of, highest, sizes_text, counts_text, top_text, summary_of};
 
+use crate::running::{StormFault, Stormed, storm};
 use ab_abs::Protocol;
 use ab_num::OutOfMemory;
 use ab_svc::Service;
 use ab_text::{Line, write_premise};
-use ab_world::World;
+use ab_words::StormCommand;
+use ab_world::{World, runs_are_told};
 use std::alloc::{AllocError, Global};
+use std::mem::drop;
+
+/// The summary of a storm, and whether its premise line says `held`.
+#[derive(Drop)]
+pub struct Summed {
+    pub summary: Vec<u8>,
+    pub held: bool,
+}
 
 /// Lines that a summary counts.
 #[derive(Clone, Copy, Debug, PartialEq, Eq)]
@@ -105,7 +118,7 @@ fn top_line<S: Service, P: Protocol<S>>(
 }
 
 /// The summary of a run that the world is at the end of.
-pub(crate) fn summary<S: Service, P: Protocol<S>>(
+fn summary<S: Service, P: Protocol<S>>(
     alloc: Global,
     world: &World<S, P>,
 ) -> Result<Vec<u8>, OutOfMemory>
@@ -120,4 +133,42 @@ pub(crate) fn summary<S: Service, P: Protocol<S>>(
     out.extend_from_slice(top.as_bytes())?;
     write_premise(alloc, &mut out, &world.premise())?;
     Ok(out)
+}
+
+/// What is told of a storm that was run.
+fn tell<S: Service, P: Protocol<S>>(
+    alloc: Global,
+    asked: &StormCommand,
+    stormed: &Stormed<S, P>,
+) -> Result<Summed, OutOfMemory>
+    requires served { (i : ℕ) → 1 ≤ i → IsTrue (P.serves (kind_of asked.now.plan i)) }
+    requires drawn { Draws P.proto asked.now stormed.now.events stormed.now.world }
+    requires replicas { length stormed.now.world.cast.replicas ≡ 3 * stormed.now.world.cast.setup.cluster.f + 1 }
+    ensures { IfOk result (λ v. Storms S.machine P.proto asked.now v.summary.items v.held) }
+{
+    runs_are_told::<S, P>();
+    let world = &stormed.world;
+    let summary = summary(alloc, world)?;
+    let held = world.premise().is_held();
+    Ok(Summed { summary, held })
+}
+
+/// Runs the storm that is asked for, as `storm` does, and sums it up.
+pub fn sum_up<S: Service, P: Protocol<S>>(
+    alloc: Global,
+    asked: &StormCommand,
+) -> Result<Summed, StormFault>
+    requires served { (i : ℕ) → 1 ≤ i → IsTrue (P.serves (kind_of asked.now.plan i)) }
+    requires few { asked.now.events ≤ 100000 }
+    ensures ok { IfOk result (λ v. Storms S.machine P.proto asked.now v.summary.items v.held) }
+    ensures cause { IfErr result (λ e. StormCause P.proto e asked.now) }
+{
+    let stormed = match storm::<S, P>(alloc, asked) {
+        Ok(stormed) => stormed,
+        Err(fault) => return Err(fault),
+    };
+    let told = tell(alloc, asked, &stormed);
+    // By a call: in place the parts of each core would be taken apart.
+    drop(stormed);
+    Ok(told?)
 }

@@ -1,12 +1,15 @@
 //! Why packets are not kept.
 
 use std::alloc::AllocError;
+use thiserror::Error;
 
 /// Why packets were not kept.
-#[derive(Clone, Copy, Debug, PartialEq, Eq)]
+#[derive(Clone, Copy, Debug, PartialEq, Eq, Error)]
 pub enum SendFault {
     /// There would be more bytes than are kept at most.
+    #[error("the packets would pass their limit")]
     Limit,
+    #[error("out of memory")]
     OutOfMemory,
 }
 

@@ -1,46 +1,38 @@
-use Rattle.std.proofs.Common.{◌≡◌, ◌≤◌, Ok, length, take, ap, ◌∙◌, arith}
-use Rattle.std.proofs.lemmas.Result.{IfErr-weaker, IfOk-weaker}
+use Rattle.std.proofs.Common.{take, ap, ◌∙◌, arith}
+use Rattle.ab_num.proofs.Results.{kept_err}
 use Rattle.ab_text.specs.Schedules.{script_of}
-use Rattle.ab_world.specs.Runs.{outcome}
-use Rattle.ab_picture.specs.Composed.{IsPicture}
-use Rattle.ab_replay.specs.Protocols.{any}
+use Rattle.ab_replay.specs.declared.fault.ReplayFault.TheVariants.{OutOfMemory}
 use Rattle.ab_replay.specs.Replays.{run_in, EventsCause}
-use Rattle.ab_draw.specs.Draws.{most_drawn, told_between, IsFrontOf}
-use Rattle.ab_draw.proofs.Fronts.{few_drawn, front_cause, front_made}
+use Rattle.ab_draw.specs.Draws.{most_drawn}
+use Rattle.ab_draw.proofs.Fronts.{counts_drawn, few_drawn, front_cause, front_is}
 use Rattle.ab_draw.proofs.drawing.front_picture.Goals as goal
+
+pub picture_of-requires-clause-events : goal.picture_of-requires-clause-events
+picture_of-requires-clause-events g c = few_drawn c.as_slice.result.now c.front-events.result.now c.front-events.ensures
+
+pub picture_of-requires-clause-counts : goal.picture_of-requires-clause-counts
+picture_of-requires-clause-counts g c =
+    counts_drawn g.P.Protocol.proto c.args.schedule.now.head c.as_slice.result.now c.front-events.result.now c.in-Ok.run.counts.items c.front-events.ensures c.in-Ok.ensures.counts
 
 pub returns-clause-ok : goal.returns-clause-ok
 returns-clause-ok g c =
-    let proto = any g.S.Service.machine in
     let head = c.args.schedule.now.head in
-    let events = c.args.schedule.now.events in
-    let fs = c.front-events.result.now in
-    let w = c.in_ok-world.world in
-    let end = c.picture_in.new.world in
-    IfOk-weaker c.picture_in.result
-    (λ p. (outcome proto 1 w fs ≡ Ok end) × IsPicture head.cluster head.faulty (told_between proto w fs end) p)
-    (λ p. IsFrontOf proto head.cluster (script_of head events) p)
-    (λ p is. front_made proto head events fs c.as_slice-2.result.now c.in_ok-setup.setup w end p
-    (c.front-events.ensures ∙ ap (take most_drawn) c.as_slice.ensures) c.as_slice-2.ensures c.in_ok-setup.ensures c.in_ok-world.ensures is)
-    c.picture_in.ensures.ok
-
-pub returns-clause-cause : goal.returns-clause-cause
-returns-clause-cause g c =
-    let proto = any g.S.Service.machine in
-    let head = c.args.schedule.now.head in
-    let events = c.args.schedule.now.events in
-    let fs = c.front-events.result.now in
-    let w = c.in_ok-world.world in
-    IfErr-weaker c.picture_in.result (λ e. EventsCause e c.args.line (outcome proto 1 w fs)) (λ e. EventsCause e c.args.line (run_in proto head.cluster (script_of head events)))
-    (λ e is. front_cause proto e c.args.line head events fs c.as_slice-2.result.now c.in_ok-setup.setup w
-    (c.front-events.ensures ∙ ap (take most_drawn) c.as_slice.ensures) c.as_slice-2.ensures c.in_ok-setup.ensures c.in_ok-world.ensures is)
-    c.picture_in.ensures.cause
-
-pub picture_in-requires-clause-few : goal.picture_in-requires-clause-few
-picture_in-requires-clause-few g c = few_drawn c.as_slice.result.now c.front-events.result.now c.front-events.ensures
+    front_is g.P.Protocol.proto head c.args.schedule.now.events c.front-events.result.now c.in-Ok.run.world c.in-Ok.run.counts.items c.in_ok-picture.field-0
+    (c.front-events.ensures ∙ ap (λ es. take most_drawn es) c.as_slice.ensures) c.in-Ok.ensures.ok c.in-Ok.ensures.counts c.in_ok-picture.ensures.picture
 
 pub returns-clause-few : goal.returns-clause-few
 returns-clause-few g c =
-    let fs = c.front-events.result.now in
-    let few : length fs ≤ most_drawn = few_drawn c.as_slice.result.now fs c.front-events.ensures in
-    IfOk-weaker c.picture_in.result (λ p. length p.moments.items ≡ length fs) (λ p. length p.moments.items ≤ most_drawn) (λ p is. omega (arith, is, few)) c.picture_in.ensures.count
+    let few = few_drawn c.as_slice.result.now c.front-events.result.now c.front-events.ensures in
+    omega (arith, c.in_ok-picture.ensures.count, few)
+
+pub returns-in-Err-clause-cause : goal.returns-in-Err-clause-cause
+returns-in-Err-clause-cause g c =
+    let head = c.args.schedule.now.head in
+    front_cause g.P.Protocol.proto c.in-Err.fault c.args.line head c.args.schedule.now.events c.front-events.result.now
+    (c.front-events.ensures ∙ ap (λ es. take most_drawn es) c.as_slice.ensures) c.in-Err.ensures.cause
+
+pub returns-in_err-picture-clause-cause : goal.returns-in_err-picture-clause-cause
+returns-in_err-picture-clause-cause g c =
+    let head = c.args.schedule.now.head in
+    let s = script_of head c.args.schedule.now.events in
+    kept_err c.from_residual.result OutOfMemory (λ e. EventsCause e c.args.line (run_in g.P.Protocol.proto head.cluster s)) c.from_residual.ensures.1 tt

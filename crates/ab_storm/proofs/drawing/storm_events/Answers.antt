@@ -1,9 +1,0 @@
-use Rattle.ab_storm.proofs.Keeping.{sets_own, sized_own}
-use Rattle.ab_storm.proofs.drawing.storm_events.Goals as goal
-
-pub events_over-requires-clause-setup : goal.events_over-requires-clause-setup
-events_over-requires-clause-setup g c = sets_own c.in_ok-setup.setup c.cluster.result.now c.in_ok-setup.ensures
-
-pub events_over-requires-clause-sized : goal.events_over-requires-clause-sized
-events_over-requires-clause-sized g c =
-    sized_own c.in_ok-setup.setup c.cluster.result.now c.args.asked.now c.in_ok-setup.ensures (record { f = c.cluster.ensures.f; clients = c.cluster.ensures.clients; plan = c.cluster.ensures.plan })

@@ -1,0 +1,58 @@
+-- What is told of a run, in a report or a summary.
+use Rattle.std.specs.Prelude.{◌≡◌, ◌↔◌, ℕ, Bool, false, nat_le, List, map, reverse, slice_get, take, Some}
+use Rattle.std.specs.List.{filter}
+use Rattle.ab_num.specs.declared.party.Party.TheVariants.{Replica}
+use Rattle.ab_text.specs.declared.event.Event.{Event}
+use Rattle.ab_text.specs.declared.line.Line.{Line}
+use Rattle.ab_text.specs.declared.line.Premise.{Premise}
+use Rattle.ab_text.specs.declared.line.Premise.TheVariants.{Held}
+use Rattle.ab_svc.specs.Machines.{Machine}
+use Rattle.ab_abs.specs.Ensembles.{Proto}
+use Rattle.ab_abs.specs.Instances.{EachIsAbstract}
+use Rattle.ab_abs.specs.Order.{Ordered}
+use Rattle.ab_replica.specs.Sites.{Site}
+use Rattle.ab_run.specs.declared.noted.Noted.{Noted}
+use Rattle.ab_run.specs.Inputs.{events_in}
+use Rattle.ab_run.specs.Runs.{Run, run, named_by}
+use Rattle.ab_premise.specs.Premises.{IsPremise}
+use Rattle.ab_cast.specs.Setups.{Setup, run_setup, is_bad}
+use Rattle.ab_world.specs.Lines.{is_observed, line_of_noted}
+use Rattle.ab_world.specs.Runs.{came_to}
+use Rattle.ab_world.specs.Worlds.{World, opener, premise_of}
+
+-- the run of these events, in a cluster that is set up so: that of what they bring to the parties' own cores
+abbrev pub run_of : {P : Type 0} → Proto P → Setup → List Event → Run P
+run_of proto x es = run (run_setup x) proto (events_in (opener x) (came_to proto x es))
+
+-- it was seen in one of the first n events
+abbrev pub up_to : ℕ → Noted → Bool
+up_to n o = nat_le o.event n
+
+-- the lines of observations tell what is seen in the run, in its order: with the numbers of the first n events stands what is seen in
+-- the run of these
+pub record TellsSeen {P : Type 0} (proto : Proto P) (x : Setup) (es : List Event) (lines : List Line) : Type 0 where
+  pub noted : List Noted
+  pub told : filter is_observed lines ≡ map line_of_noted noted
+  pub all : map (λ o. o.what) noted ≡ reverse (run_of proto x es).seen
+  pub numbered : (n : ℕ) → map (λ o. o.what) (filter (up_to n) noted) ≡ reverse (run_of proto x (take n es)).seen
+
+-- replica r stands where the run leaves it, with the last log that the run keeps of it there
+pub record EndsThere {P : Type 0} (proto : Proto P) (x : Setup) (es : List Event) (r : ℕ) (s : Site P) : Type 0 where
+  pub stands : s.rep ≡ (run_of proto x es).reps r
+  pub log : (proto.state s.rep.value).log ≡ (run_of proto x es).log s.rep.at r
+
+-- the observations of the run are ordered, and each instance keeps what Abstract promises of the service, under the last log of each
+-- replica in each instance
+pub record KeepsPromises {S P : Type 0} (machine : Machine S) (proto : Proto P) (x : Setup) (es : List Event) : Type 0 where
+  pub ordered : let w = run_of proto x es in
+      Ordered machine (reverse w.seen) (named_by (run_setup x) w) (run_setup x).faulty
+  pub instances : let w = run_of proto x es in
+      EachIsAbstract machine (reverse w.seen) (named_by (run_setup x) w) (run_setup x).faulty
+
+-- what a world tells of the run of the events that led to it: what was seen; the logs of the correct replicas; the premise line, which is
+-- that of the run, to the letter; and where it says `held` the run keeps what Abstract promises
+pub record IsTold {S P : Type 0} (machine : Machine S) (proto : Proto P) (x : Setup) (es : List Event) (end : World P) : Type 0 where
+  pub seen : TellsSeen proto x es end.lines
+  pub logs : (r : ℕ) (s : Site P) → is_bad x (Replica r) ≡ false → slice_get end.cast.replicas r ≡ Some s → EndsThere proto x es r s
+  pub exact : (line : Premise) → (premise_of end ≡ line) ↔ IsPremise (run_setup x) proto (opener x) x.faulty (came_to proto x es) line
+  pub promises : premise_of end ≡ Held → KeepsPromises machine proto x es
