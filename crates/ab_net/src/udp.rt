@@ -47,7 +47,8 @@ impl<R: Net + Drop> UdpLink<R> {
     }
 }
 
-/// A port of this machine.
+/// A port of the loopback address 127.0.0.1. A socket that is bound to it takes what is sent to this address alone: nothing
+/// from another machine, and nothing for another address of this one.
 fn address(port: u16) -> SocketAddrV4 {
     SocketAddrV4::new(Ipv4Addr::LOCALHOST, port)
 }

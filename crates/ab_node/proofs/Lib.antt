@@ -1,3 +1,8 @@
 -- The lemmas that the proofs of this crate share.
 pub mod PartyLemmas
 pub mod TextLemmas
+pub mod MemberLemmas
+pub mod CommitLemmas
+pub mod LocalLemmas
+pub mod JointLemmas
+pub mod FormedLemmas

@@ -1,3 +1,8 @@
 -- The definitions that the contracts of this crate cite.
 pub mod Timers
 pub mod Nodes
+pub mod Keys
+pub mod Replicas
+pub mod Clients
+pub mod Reactions
+pub mod Locality

@@ -18,8 +18,8 @@ use Rattle.ab_loop.specs.declared.node_setting.NodeSetting.{NodeSetting}
 use Rattle.ab_loop.specs.Cores.{Rules}
 use Rattle.ab_loop.specs.Edges.{Edge}
 use Rattle.ab_loop.specs.Runs.{HasFaultOf, HasServed, Start, start_of}
-use Rattle.ab_member.specs.Replicas.{IsFirstReplica, ReplicaMember, replica_rules}
-use Rattle.ab_member.specs.Clients.{ClientMember, IsFirstClient, client_rules}
+use Rattle.ab_node.specs.Replicas.{IsFirstReplica, ReplicaMember, replica_rules}
+use Rattle.ab_node.specs.Clients.{ClientMember, IsFirstClient, client_rules}
 use Rattle.ab_replay.specs.declared.refusal.RefusalCause.TheVariants.{BadLine, NoEnd}
 use Rattle.ab_replay.specs.declared.refusal.Refusal.{Refusal}
 use Rattle.ab_replay.specs.Protocols.{Any}

@@ -12,12 +12,13 @@ ghost use Rattle.ab_replay.specs.Protocols.{any};
 ghost use Rattle.ab_replay.specs.Streams.{IsInput};
 ghost use Rattle.ab_node.specs.Nodes.{ClientCause, ClientServed, CoreServed, CoreStopped, IsServed, ReplicaCause, ReplicaServed, StopCause, TextCause, node_call, setting_of, stop_from, text_refusal};
 
+use crate::client_member::ClientMember;
+use crate::replica_member::ReplicaMember;
 use crate::stop::Stop;
 use ab_io::{Clock, Link, Sink, Source};
 use ab_key_text::{Commands, NodeFault, PartyKeys, keys_are_whole, read_node};
 use ab_kv::Kv;
 use ab_loop::{Job, NodeSetting, PartyCore, ServeFault, Served, serve};
-use ab_member::{ClientMember, ReplicaMember};
 use ab_num::{Party, ServiceName};
 use ab_replay::{AnyProtocol, ReadFault, Refusal, RefusalCause, read_all};
 use ab_svc::{Echo, Service};

@@ -15,8 +15,8 @@ use ab_kv::Kv;
 use ab_loop::{
     Commands, Job, NodeEventRef, NodeSetting, PartyCore, Reaction, ServeFault, Served, serve,
 };
-use ab_member::{ClientMember, ReplicaMember};
 use ab_msg::Packet;
+use ab_node::{ClientMember, ReplicaMember};
 use ab_num::{Cluster, Height, OutOfMemory, Party, Plan, ServiceName};
 use ab_piece::cut;
 use ab_quorum::Quorum;

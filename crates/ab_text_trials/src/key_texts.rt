@@ -1,6 +1,9 @@
 //! Key texts that another implementation made, and the faults of altered ones.
 
-use ab_key_text::{KeyFault, NodeFault, PartyKeys, read_node};
+use ab_key_text::{
+    KeyFault, NodeFault, PartyKeys, fault_is_first, read_is_spelled, read_node,
+    spelled_nodes_are_read,
+};
 use ab_keys::{KeyRing, is_party};
 use ab_num::{Cluster, Height, Party, Plan, ServiceName};
 use std::alloc::Global;
@@ -135,6 +138,9 @@ fn expect_read(rt: &impl Abort, alloc: Global, text: &str) {
 
 #[test]
 fn read_text(rt: HostRuntime) {
+    read_is_spelled();
+    spelled_nodes_are_read();
+    fault_is_first();
     expect_read(&rt, rt.alloc(), OF_C0);
     expect_read(&rt, rt.alloc(), OF_R6);
     let open = OF_C0.strip_suffix("\n").expect(&rt, "it ends so");

@@ -1,5 +1,0 @@
-use Rattle.ab_member.proofs.LocalLemmas.{client_local}
-use Rattle.ab_member.proofs.laws.clients_are_local.Goals as goal
-
-pub returns : goal.returns
-returns c = λ k m events. client_local k m events

@@ -1,5 +1,0 @@
-use Rattle.ab_member.proofs.JointLemmas.{are_run}
-use Rattle.ab_member.proofs.laws.members_make_a_run.Goals as goal
-
-pub returns : goal.returns
-returns g c = λ k proto counted w xs. are_run k proto counted w xs

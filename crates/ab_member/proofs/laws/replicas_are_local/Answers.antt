@@ -1,5 +1,0 @@
-use Rattle.ab_member.proofs.LocalLemmas.{replica_local}
-use Rattle.ab_member.proofs.laws.replicas_are_local.Goals as goal
-
-pub returns : goal.returns
-returns g c = λ k proto counted m events. replica_local k proto counted m events

@@ -1,6 +1,0 @@
--- The definitions that the contracts of this crate cite.
-pub mod Keys
-pub mod Replicas
-pub mod Clients
-pub mod Reactions
-pub mod Locality
