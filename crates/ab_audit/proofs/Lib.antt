@@ -1,0 +1,10 @@
+-- Lemmas of this crate.
+pub mod ListLemmas
+pub mod EqLemmas
+pub mod SubjectLemmas
+pub mod KeptLemmas
+pub mod StatementLemmas
+pub mod NewsLemmas
+pub mod ExactLemmas
+pub mod OnceLemmas
+pub mod AccusedLemmas

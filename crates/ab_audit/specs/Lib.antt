@@ -1,0 +1,5 @@
+-- The definitions that the contracts of this crate cite.
+pub mod Accusations
+pub mod Statements
+pub mod Kept
+pub mod Audits

@@ -1,0 +1,34 @@
+//! What an audit accuses of.
+
+ghost use Rattle.std.specs.Prelude.{◌≡◌, ◌↔◌, ℕ, List, All, Contains, flat_map};
+ghost use Rattle.std.specs.List.{IsDistinct};
+ghost use Rattle.ab_num.specs.declared.party.Party.{Party};
+ghost use Rattle.ab_form.specs.Formats.{IsBytes};
+ghost use Rattle.ab_msg.specs.declared.message.Msg.{Msg as Message};
+ghost use Rattle.ab_check.specs.Checks.{checks_of};
+ghost use Rattle.ab_sign.specs.declared.key.SignKey.{SignKey};
+ghost use Rattle.ab_audit.specs.declared.accusation.Accusation.{Accusation};
+ghost use Rattle.ab_audit.specs.Accusations.{IsAccused, accusation_eq};
+ghost use Rattle.ab_audit.specs.Audits.{begun, told_all};
+ghost use Rattle.ab_audit.specs.Statements.{signed_at, statements_in};
+
+use ab_check::claims_are_checked;
+use ab_content::contents_have_their_own_bytes;
+use ab_open::{messages_are_formats, opened_messages_are_of_the_grammar};
+
+/// Whatever party takes a message, all that is signed in it is among what the party checks.
+pub fn signed_statements_are_checked()
+    ensures { (f : ℕ) (me : Party) (m : Message) → flat_map signed_at (checks_of f me m) ≡ statements_in m }
+{}
+
+/// Whom an audit accuses contradicts itself by the messages that came, and whoever does is accused, once.
+pub fn audits_accuse_contradictions()
+    ensures accused { (keys : List SignKey) (inputs : List (List ℕ)) (a : Accusation) → All IsBytes inputs
+        → Contains (told_all (begun keys) inputs).kept.accused a ↔ IsAccused keys inputs a }
+    ensures once { (keys : List SignKey) (inputs : List (List ℕ)) → IsDistinct accusation_eq (told_all (begun keys) inputs).kept.accused }
+{
+    contents_have_their_own_bytes();
+    claims_are_checked();
+    messages_are_formats();
+    opened_messages_are_of_the_grammar();
+}
