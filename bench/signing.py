@@ -3,7 +3,7 @@
 
 usage: signing.py [--runs N]
 
-A program (bench/signing/main.rt) is put above `ab_hss` in a copy of it and of the crates below; `rt run` proves what is new there, and
+A program (bench/signing/main.body) is put above `ab_hss` in a copy of it and of the crates below; `rt run` proves what is new there, and
 builds. The program is then run N times (5). It tells how long each call took by the clock, so of each call the least of all runs counts:
 a call during which the system ran another process is seldom so each time. All take some two minutes where `ab_hss` is proved."""
 
@@ -17,7 +17,7 @@ from pathlib import Path
 
 from programs import TOP, end_in_order, parser_of
 
-SOURCE = Path(__file__).resolve().with_suffix("") / "main.rt"
+SOURCE = Path(__file__).resolve().with_suffix("") / "main.body"
 # The leaves of a bottom tree. The call that uses the last of them makes the inner nodes of the next tree.
 LEAVES = 1024
 
@@ -40,7 +40,7 @@ def built(folder):
     (folder / "crates.txt").write_text("".join(f"{crate}:{below}\n" for crate, below in crates.items()) + "signing: ab_hss\n")
     crate = folder / "crates" / "signing"
     (crate / "src").mkdir(parents=True)
-    shutil.copy(SOURCE, crate / "src")
+    shutil.copy(SOURCE, crate / "src" / "main.rt")
     done = subprocess.run(["rt", "run"], cwd=crate, capture_output=True, text=True)
     program = crate / "out" / "signing"
     if done.returncode or not program.exists():

@@ -21,7 +21,7 @@ use Rattle.ab_command.specs.Written.{script_in, IsOfStorm}
 in_grammar : (c : Cluster) (events : List Event) → All IsEvent events → IsSchedule (script_in c events)
 in_grammar c events lines = record { bounds = c.in_bounds; faulty = tt; events = recursion_from_All IsEvent events lines }
 
-pub of_storm : (k : StormCommand) (c : Cluster) (events : List Event) (s : Script) → IsClusterOf c k → (end : World Any) × Draws kv k events end → s ≡ script_in c events → IsOfStorm k s
+pub of_storm : (k : StormCommand) (c : Cluster) (events : List Event) (s : Script) → IsClusterOf c k → ((end : World Any) × Draws kv k events end) → s ≡ script_in c events → IsOfStorm k s
 of_storm k c events s sized (end, draws) is =
     let own = draws.cluster in
     let f : c.f ≡ own.f = sized.f ∙ sym draws.sized.f in

@@ -42,18 +42,18 @@ fn picture_of<S: Service, P: Protocol<S>>(
     alloc: Global,
     head: &Head,
     events: &[Event],
-    run: &Played<S, P>,
+    played: &Played<S, P>,
 ) -> Result<Picture, OutOfMemory>
     requires events { length events.now ≤ most_drawn }
-    requires counts { length run.now.counts.items ≤ most_drawn }
-    ensures picture { IfOk result (λ p. IsPicture head.now.cluster head.now.faulty (told_at run.now.world events.now run.now.counts.items) p) }
+    requires counts { length played.now.counts.items ≤ most_drawn }
+    ensures picture { IfOk result (λ p. IsPicture head.now.cluster head.now.faulty (told_at played.now.world events.now played.now.counts.items) p) }
     ensures count { IfOk result (λ p. length p.moments.items ≡ length events.now) }
 {
-    let world = &run.world;
+    let world = &played.world;
     let parcels = parcels_of(alloc, world.sent())?;
     let told = Tale {
         events,
-        counts: run.counts.as_slice(),
+        counts: played.counts.as_slice(),
         parcels: parcels.as_slice(),
         lines: world.seen(),
         premise: world.premise(),
@@ -77,14 +77,17 @@ fn front_picture<S: Service, P: Protocol<S>>(
 {
     let head = &schedule.head;
     let events = front(schedule.events.as_slice());
-    let run = match play::<S, P>(alloc, head, events, line) {
-        Ok(run) => run,
+    let played = match play::<S, P>(alloc, head, events, line) {
+        Ok(played) => played,
         Err(fault) => return Err(fault),
     };
-    let picture = picture_of(alloc, head, events, &run);
+    let picture = picture_of(alloc, head, events, &played);
     // By a call: in place the parts of each core would be taken apart.
-    drop(run);
-    Ok(picture?)
+    drop(played);
+    match picture {
+        Ok(picture) => Ok(picture),
+        Err(_) => Err(ReplayFault::OutOfMemory),
+    }
 }
 
 /// Runs all events of a schedule of more than are drawn.
@@ -105,8 +108,8 @@ fn run_all<S: Service, P: Protocol<S>>(
         return Ok(());
     }
     match play::<S, P>(alloc, &schedule.head, events, line) {
-        Ok(run) => {
-            drop(run);
+        Ok(played) => {
+            drop(played);
             Ok(())
         }
         Err(fault) => Err(fault),

@@ -1,5 +1,5 @@
 -- What holds of members in every event.
-use Rattle.std.proofs.Common.{◌≡◌, ℕ, ◌+◌, ◌*◌, ◌<◌, Bool, List, [], map, length, Option, None, Some, IsTrue, refl, sym, ap, ◌∙◌, subst, arith, slice_get, slice_set, false}
+use Rattle.std.proofs.Common.{◌≡◌, ℕ, ◌+◌, ◌*◌, ◌<◌, Bool, All, List, [], map, length, Option, None, Some, IsTrue, refl, sym, ap, ◌∙◌, subst, arith, slice_get, slice_set, false}
 use Rattle.std.specs.Prelude.{if◌then◌else◌}
 use Rattle.std.specs.Option.{option_map}
 use Rattle.std.proofs.lemmas.Bool.{ltb-true}
@@ -21,26 +21,29 @@ use Rattle.ab_msg.specs.Contents.{spell_content}
 use Rattle.ab_msg.specs.Fields.{IsSig}
 use Rattle.ab_sign.specs.declared.key.SignKey.{SignKey}
 use Rattle.ab_sign.specs.declared.key.SignKey.TheVariants as key
-use Rattle.ab_sign.specs.Signers.{leaves_of, signature_at, signature_of}
+use Rattle.ab_sign.specs.Signers.{leaves_of, pen_of, signature_at, signature_of}
 use Rattle.ab_abs.specs.declared.seen.Seen.{Seen}
 use Rattle.ab_abs.specs.Ensembles.{Proto}
+use Rattle.ab_abs.specs.Messages.{Call}
 use Rattle.ab_abs.specs.FormLaws.{KeepsForm}
 use Rattle.ab_abs.specs.Promises.{ServesAll}
 use Rattle.ab_run.specs.declared.phase.Phase.{Phase}
 use Rattle.ab_run.specs.declared.phase.Phase.TheVariants.{Idle, Waiting, Panicking}
 use Rattle.ab_run.specs.Clients.{asking}
-use Rattle.ab_run.specs.Forms.{IsWrittenSetup}
-use Rattle.ab_run.specs.Local.{after_moves, marks_in_moves, sent_in_moves}
+use Rattle.ab_run.specs.Forms.{IsDraftOf, IsWrittenSetup}
+use Rattle.ab_run.specs.Setups.{RunSetup}
+use Rattle.ab_run.specs.Local.{Cue, after_moves, marks_in_moves, sent_in_moves}
 use Rattle.ab_run.specs.Runs.{first_cli}
 use Rattle.ab_run.proofs.Written.{first_written}
-use Rattle.ab_replica.specs.Sites.{Site, first_site}
+use Rattle.ab_replica.specs.Sites.{IsSetupOf, Site, first_site}
+use Rattle.ab_replica.specs.Doings.{Hears}
 use Rattle.ab_client.specs.Clients.{Seat, alone, told}
 use Rattle.ab_party.specs.declared.fault.CommandFault.TheVariants.{Busy}
 use Rattle.ab_party.specs.Credentials.{Credentials, IsPartyRing}
-use Rattle.ab_party.specs.Parties.{ClientHears, IsReplicaOf, is_idle, seat_refusal}
+use Rattle.ab_party.specs.Parties.{ClientHears, IsClientOf, IsReplicaOf, is_idle, seat_refusal}
 use Rattle.ab_node.specs.Keys.{IsClusterOf, credentials_in, own_key, with_own}
-use Rattle.ab_node.specs.Replicas.{ReplicaMember, first_replica, own_setup}
-use Rattle.ab_node.specs.Clients.{ClientMember, first_client}
+use Rattle.ab_node.specs.Replicas.{ReplicaMember, first_replica, own_setup, replica_after}
+use Rattle.ab_node.specs.Clients.{ClientMember, Does, first_client}
 
 -- ---- keys
 
@@ -90,6 +93,29 @@ busy_rests s now command outs seen spent busy same nothing unseen unspent =
     rests Idle none = absurd (let e : None ≡ Some Busy = none in cc)
     rests Waiting is = refl
     rests Panicking is = refl
+
+-- ---- what comes
+
+-- a replica that takes what comes, by the keys that it lends
+module _ {P : Type 0} (proto : Proto P) (m : ReplicaMember P) (keys : Credentials) (same : keys ≡ m.credentials) (call : Call) (now : Site P) (outs : List Out) (seen : List Seen) (spent : Bool)
+    (hears : (k : RunSetup) → IsSetupOf k m.site (pen_of keys.keys m.site.me 0) → Hears proto k m.site call now outs seen spent) where
+  pub own_hears : Hears proto (own_setup m) m.site call now outs seen spent
+  own_hears =
+      hears (own_setup m) (subst (λ (k : Credentials). IsSetupOf (own_setup m) m.site (pen_of k.keys m.site.me 0)) (sym same) (record { cluster = refl; signatures = refl; sig = refl }))
+
+  pub goes_on : record m { site = now } ≡ replica_after proto m call
+  goes_on = ap (λ (s : Site P). record m { site = s }) own_hears.after
+
+-- the same of a client
+pub does : (m : ClientMember) (keys : Credentials) → keys ≡ m.credentials → (cue : Cue) (now : Seat) (outs : List Out) (seen : List Seen) (spent : Bool)
+    → IsClientOf keys now → ClientHears m.seat cue now outs seen spent → All (IsDraftOf keys.ring.f keys.ring.me) outs → Does m cue (record m { seat = now }) outs seen
+does m keys same cue now outs seen spent own hears drafts = record {
+  after = ap (λ (s : Seat). record m { seat = s }) hears.after;
+  sends = hears.sends;
+  shows = hears.shows;
+  drafts = subst (λ (k : Credentials). All (IsDraftOf k.ring.f k.ring.me) outs) same drafts;
+  ring = subst (λ (k : Credentials). IsPartyRing k.ring) same own.ring;
+}
 
 -- ---- before the first event
 

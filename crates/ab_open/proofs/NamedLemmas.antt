@@ -169,18 +169,18 @@ pre_prepare-names P f me c tag o =
 
 -- ---- values
 
-pub requests_of : (rs : List Request) → value_requests (map value.Request rs) ≡ rs
-requests_of [] = refl
-requests_of (m ∷ rs) = ap (λ (xs : List Request). m ∷ xs) (requests_of rs)
+requests-of : (rs : List Request) → value_requests (map value.Request rs) ≡ rs
+requests-of [] = refl
+requests-of (m ∷ rs) = ap (λ (xs : List Request). m ∷ xs) (requests-of rs)
 
-pub histories_of : (rs : List Request) → value_histories (map value.Request rs) ≡ []
-histories_of [] = refl
-histories_of (m ∷ rs) = histories_of rs
+histories-of : (rs : List Request) → value_histories (map value.Request rs) ≡ []
+histories-of [] = refl
+histories-of (m ∷ rs) = histories-of rs
 
 pub values-test : (P : Party → Bool) (h rs : List Request) → list_all P (values_name (value.Base h ∷ map value.Request rs)) ≡ (list_all P (clients_of rs) && list_all P (clients_of h))
 values-test P h rs =
-    ap (λ (xs : List Request). list_all P (clients_of xs ++ flat_map clients_of (h ∷ value_histories (map value.Request rs)))) (requests_of rs)
-    ∙ ap (λ (hs : List (List Request)). list_all P (clients_of rs ++ flat_map clients_of (h ∷ hs))) (histories_of rs)
+    ap (λ (xs : List Request). list_all P (clients_of xs ++ flat_map clients_of (h ∷ value_histories (map value.Request rs)))) (requests-of rs)
+    ∙ ap (λ (hs : List (List Request)). list_all P (clients_of rs ++ flat_map clients_of (h ∷ hs))) (histories-of rs)
     ∙ ap (λ (xs : List Party). list_all P (clients_of rs ++ xs)) (append-nil (clients_of h))
     ∙ list_all-append P (clients_of rs) (clients_of h)
 

@@ -278,7 +278,7 @@ module _ {P : Type 0} (proto : Proto P) where
       subst (λ (x : ReplayFault). EventsCause x line o) (sym is) (i + 1, BadParty, next cause, ap (λ k. fault_of_step k BadParty) (sym place))
   refused_at w e line i at Busy f o is place goes few cause next =
       subst (λ (x : ReplayFault). EventsCause x line o) (sym is) (i + 1, Busy, next cause, ap (λ k. fault_of_step k Busy) (sym place))
-  refused_at w e line i at EventLimit f o is place goes few cause next = absurd (no_limit w e goes few cause)
+  refused_at w e line i at EventLimit f o is place goes few cause next = absurd (no_limit proto w e goes few cause)
   refused_at w e line i at PacketLimit f o is place goes few cause next = subst (λ (x : ReplayFault). EventsCause x line o) (sym is) (i + 1, next cause)
   refused_at w e line i at NoMemory f o is place goes few cause next = subst (λ (x : ReplayFault). EventsCause x line o) (sym is) tt
 

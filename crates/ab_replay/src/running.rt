@@ -76,7 +76,10 @@ fn perform<S: Service, P: Protocol<S>>(
     let told = tell(alloc, schedule, &played.world);
     // By a call: in place the parts of each core would be taken apart.
     drop(played);
-    Ok(told?)
+    match told {
+        Ok(told) => Ok(told),
+        Err(_) => Err(ReplayFault::OutOfMemory),
+    }
 }
 
 /// The report of the schedule that a text spells.

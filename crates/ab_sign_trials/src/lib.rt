@@ -1,9 +1,6 @@
-//! Tests of key rings, one-time signatures, trees, signers, signatures in two levels and audits: apart from their crates, so that
-//! these aren't proved once more for them.
+//! Tests of key rings, one-time signatures, trees, signers and signatures in two levels: apart from their crates, so that these aren't proved once more for them.
 #![tactic(auto)]
 
-#[cfg(test)]
-mod audits;
 #[cfg(test)]
 mod known;
 #[cfg(test)]

@@ -170,5 +170,8 @@ pub fn sum_up<S: Service, P: Protocol<S>>(
     let told = tell(alloc, asked, &stormed);
     // By a call: in place the parts of each core would be taken apart.
     drop(stormed);
-    Ok(told?)
+    match told {
+        Ok(told) => Ok(told),
+        Err(_) => Err(StormFault::OutOfMemory),
+    }
 }

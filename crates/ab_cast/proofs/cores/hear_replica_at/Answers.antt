@@ -9,8 +9,8 @@ use Rattle.ab_cast.proofs.CastLemmas.{read_there, put_back, the_same}
 use Rattle.ab_cast.proofs.ReplicaLemmas.{heard, own_keys, replica_party, stands}
 use Rattle.ab_cast.proofs.cores.hear_replica_at.Goals as goal
 
-pub credentials-requires : goal.credentials-requires
-credentials-requires g c = replica_party c.args.setup.now c.args.r c.requires.replica
+pub credentials-keys-requires : goal.credentials-keys-requires
+credentials-keys-requires g c = replica_party c.args.setup.now c.args.r c.requires.replica
 
 pub hear_replica-requires-clause-own : goal.hear_replica-requires-clause-own
 hear_replica-requires-clause-own g c =

@@ -9,8 +9,8 @@ use Rattle.ab_cast.proofs.CastLemmas.{read_there, put_back, the_same}
 use Rattle.ab_cast.proofs.ReplicaLemmas.{client_heard, client_party, seat_keys}
 use Rattle.ab_cast.proofs.cores.tell_client_at.Goals as goal
 
-pub credentials-requires : goal.credentials-requires
-credentials-requires c = client_party c.args.setup.now c.args.c c.requires.client
+pub credentials-keys-requires : goal.credentials-keys-requires
+credentials-keys-requires c = client_party c.args.setup.now c.args.c c.requires.client
 
 pub tell_client-requires-clause-own : goal.tell_client-requires-clause-own
 tell_client-requires-clause-own c =

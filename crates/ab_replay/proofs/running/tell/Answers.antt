@@ -1,4 +1,4 @@
-use Rattle.std.proofs.Common.{◌↔◌, IsTrue, subst}
+use Rattle.std.proofs.Common.{◌≡◌, ◌↔◌, IsTrue, subst}
 use Rattle.ab_text.specs.declared.line.Premise.{Premise}
 use Rattle.ab_text.specs.declared.line.Premise.TheVariants.{Held}
 use Rattle.ab_text.specs.Schedules.{script_of}

@@ -5,7 +5,7 @@ use Rattle.ab_client.specs.Clients.{Seat}
 use Rattle.ab_cast.specs.declared.place.Place.TheVariants as place
 use Rattle.ab_party.specs.Cues.{cue_of}
 use Rattle.ab_cast.specs.Casts.{Cast, IsCast, IsTaken}
-use Rattle.ab_cast.proofs.CastLemmas.{WhereCommits, no_replica_commits, client_commits, at_core, at_there, replica_core, client_core, replica_stays, replica_taken, replica_twin_stays, replica_twin_taken, twin_of, client_stays, client_taken, client_twin_stays, client_twin_taken, client_twin_within}
+use Rattle.ab_cast.proofs.CastLemmas.{WhereCommits, no_replica_commits, client_commits, at_core, at_there, replica_core, client_core, replica_stays, replica_taken, replica_twin_stays, replica_twin_taken, twin_of, client_stays, client_taken, client_twin_stays, client_twin_taken, client_twin_within, seat_at}
 use Rattle.ab_cast.proofs.cast.Cast.give.Goals as goal
 
 pub invariant_of-self-in-Replica : goal.invariant_of-self-in-Replica
@@ -211,3 +211,15 @@ returns-in_err-effects-in-ClientTwin-clause-err g c =
 
 pub overflow_add-self-in-ClientTwin : goal.overflow_add-self-in-ClientTwin
 overflow_add-self-in-ClientTwin g c = omega (arith, c.requires.few, ap (λ y. y.events) c.self.view_is)
+
+pub hear_client_at-requires-clause-own : goal.hear_client_at-requires-clause-own
+hear_client_at-requires-clause-own g c s at =
+    let seat = c.self.invariant.seats c.in-Client.c s at in
+    (seat.own, seat.placed)
+
+pub hear_client_at-requires-in-ClientTwin-clause-own : goal.hear_client_at-requires-in-ClientTwin-clause-own
+hear_client_at-requires-in-ClientTwin-clause-own g c s at =
+    let x : Cast g.row.P.Denot = record { setup = c.self.inside.setup; replicas = c.self.inside.replicas.items; clients = c.self.inside.clients.items; replica_twins = c.self.inside.replica_twins.items; client_twins = c.self.inside.client_twins.items; events = c.self.inside.events } in
+    let there = at_there x c.args.self.now c.self.view_is c.args.place (place.ClientTwin c.in-ClientTwin.c c.in-ClientTwin.at) c.in-ClientTwin.is c.requires.there.0 c.requires.there.1 in
+    let seat = seat_at g.P.Protocol.proto g.P.Protocol.serves x c.self.invariant c.in-ClientTwin.c c.in-ClientTwin.at s there at in
+    (seat.own, seat.placed)

@@ -106,3 +106,15 @@ returns-in-ReplicaTwin-clause-cause g c =
     let x = c.args.self.now in
     at_core x x refl c.args.place (place.ReplicaTwin c.in-ReplicaTwin.field-0 c.in-ReplicaTwin.field-1) c.in-ReplicaTwin.is (λ y q s. command_refusal s ≡ Some NoClient)
     (replica_core x.replica_twins c.in-ReplicaTwin.field-1 (λ s. command_refusal s ≡ Some NoClient) (λ s here. refl))
+
+pub tell_client_at-requires-clause-own : goal.tell_client_at-requires-clause-own
+tell_client_at-requires-clause-own g c s at =
+    let seat = c.self.invariant.seats c.in-Client.c s at in
+    (seat.own, seat.placed)
+
+pub tell_client_at-requires-in-ClientTwin-clause-own : goal.tell_client_at-requires-in-ClientTwin-clause-own
+tell_client_at-requires-in-ClientTwin-clause-own g c s at =
+    let x : Cast g.row.P.Denot = record { setup = c.self.inside.setup; replicas = c.self.inside.replicas.items; clients = c.self.inside.clients.items; replica_twins = c.self.inside.replica_twins.items; client_twins = c.self.inside.client_twins.items; events = c.self.inside.events } in
+    let there = at_there x c.args.self.now c.self.view_is c.args.place (place.ClientTwin c.in-ClientTwin.c c.in-ClientTwin.at) c.in-ClientTwin.is c.requires.there.0 c.requires.there.1 in
+    let seat = seat_at g.P.Protocol.proto g.P.Protocol.serves x c.self.invariant c.in-ClientTwin.c c.in-ClientTwin.at s there at in
+    (seat.own, seat.placed)
