@@ -16,6 +16,8 @@ mod outside;
 #[cfg(test)]
 mod parts;
 #[cfg(test)]
+mod shares;
+#[cfg(test)]
 mod stores;
 #[cfg(test)]
 mod tags;

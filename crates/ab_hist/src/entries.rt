@@ -1,10 +1,10 @@
-//! The entries of histories.
+//! The entries of a chunk of a history.
 
 ghost use Rattle.std.specs.Prelude.{◌≡◌, ◌-◌, ◌<◌, ◌≤◌, ◌↔◌, [], ◌∷◌, ◌++◌, length, take, slice_get, map, IsTrue, Some, OnOk, OnErr, IfOk, IfSome, IfNone, Contains, vec_len};
 ghost use Rattle.std.specs.Vec.{vec_capacity};
 ghost use Rattle.ab_hist.specs.Requests.{key_of};
-ghost use Rattle.ab_hist.specs.Digests.{digest_of};
-ghost use Rattle.ab_hist.specs.Histories.{IsHistory, IsNext, CanPush, place_in};
+ghost use Rattle.ab_hist.specs.Histories.{IsHistory, IsNext};
+ghost use Rattle.ab_hist.specs.Chunks.{begun, grown, front, digest_from};
 
 use crate::digest::link;
 use crate::index::Index;
@@ -12,9 +12,10 @@ use crate::request::{Request, copy_requests};
 use std::alloc::{AllocError, Global};
 use std::marker::Model;
 
-/// A list of requests in which the stamps of each client rise. A digest is kept for each place, and
-/// an index of the entries, so that no call but `copy` and `cut` walks the list.
+/// At most 64 requests, in which the stamps of each client rise, and the digest of the entries before them. A digest is kept
+/// for each place, and an index of the entries, so that no call but `copy` and `cut` walks the list.
 pub(crate) struct Entries {
+    start: [u8; 32],
     requests: Vec<Request>,
     digests: Vec<[u8; 32]>,
     index: Index,
@@ -24,6 +25,7 @@ pub(crate) struct Entries {
 impl Drop for Entries {
     fn drop(self) {
         let Entries {
+            start: _,
             requests: _,
             digests: _,
             index: _,
@@ -32,15 +34,14 @@ impl Drop for Entries {
 }
 
 impl Model for Entries {
-    ghost use Rattle.std.specs.Prelude.{List};
-    ghost use Rattle.ab_hist.specs.declared.request.Request.{Request as Entry};
+    ghost use Rattle.ab_hist.specs.Chunks.{Chunk};
     ghost use Rattle.ab_hist.specs.Kept.{IsKept};
 
-    ghost Value = { List Entry };
+    ghost Value = { Chunk };
 
-    ghost view = { λ h. h.requests.items };
+    ghost view = { λ h. record { start = h.start; requests = h.requests.items } };
 
-    ghost invariant = { λ h. IsKept h.requests.items h.digests.items h.index };
+    ghost invariant = { λ h. IsKept h.start h.requests.items h.digests.items h.index };
 }
 
 /// Adds an entry where there is room for it.
@@ -73,11 +74,12 @@ fn index_of(alloc: Global, requests: &[Request]) -> Result<Index, AllocError>
 }
 
 impl Entries {
-    /// No entries.
-    pub(crate) fn new(alloc: Global) -> Entries
-        ensures { result ≡ [] }
+    /// No entries yet after those with the digest `start`.
+    pub(crate) fn new(alloc: Global, start: [u8; 32]) -> Entries
+        ensures { result ≡ begun start }
     {
         Entries {
+            start,
             requests: Vec::new(alloc),
             digests: Vec::new(alloc),
             index: Index::new(alloc),
@@ -85,30 +87,33 @@ impl Entries {
     }
 
     pub(crate) fn len(&self) -> usize
-        ensures len { result ≡ length self.now }
+        ensures len { result ≡ length self.now.requests }
     {
         self.requests.len()
     }
 
     /// The entries, in their order.
     pub(crate) fn requests(&self) -> &[Request]
-        ensures { result.now ≡ self.now }
+        ensures { result.now ≡ self.now.requests }
     {
         self.requests.as_slice()
     }
 
-    /// The digest of the first `n` entries.
-    #[tactic(auto, unfolding(crate::specs::Digests::digest_of))]
+    /// The digest of the entries before these and of the first `n` of these.
     pub(crate) fn digest_at(&self, n: usize) -> [u8; 32]
-        requires { n ≤ length self.now }
-        ensures { result ≡ digest_of (take n self.now) }
+        requires { n ≤ length self.now.requests }
+        ensures { result ≡ digest_from self.now.start (take n self.now.requests) }
     {
-        if n == 0 { [0; 32] } else { self.digests[n - 1] }
+        if n == 0 {
+            self.start
+        } else {
+            self.digests[n - 1]
+        }
     }
 
     /// Whether the stamp of `m` is above the latest one of its client.
     pub(crate) fn is_later(&self, m: &Request) -> bool
-        ensures { IsTrue result ↔ IsNext self.now m.now }
+        ensures { IsTrue result ↔ IsNext self.now.requests m.now }
     {
         match self.index.latest(m.client) {
             Some(stamp) => stamp < m.stamp,
@@ -118,9 +123,8 @@ impl Entries {
 
     /// The place whose entry equals `m`.
     pub(crate) fn place_of(&self, m: &Request) -> Option<usize>
-        ensures place { result ≡ place_in self.now m.now }
-        ensures found { IfSome result (λ n. (1 ≤ n) × (slice_get self.now (n - 1) ≡ Some m.now)) }
-        ensures none { IfNone result (¬ Contains self.now m.now) }
+        ensures found { IfSome result (λ n. (1 ≤ n) × (slice_get self.now.requests (n - 1) ≡ Some m.now)) }
+        ensures none { IfNone result (¬ Contains self.now.requests m.now) }
     {
         let place = self.index.index_of(m)?;
         if self.requests[place] == *m {
@@ -132,8 +136,8 @@ impl Entries {
 
     /// Adds an entry that may come next.
     pub(crate) fn push(&mut self, m: Request) -> Result<(), AllocError>
-        requires { CanPush self.old m }
-        ensures ok { OnOk result (self.new ≡ self.old ++ m ∷ []) }
+        requires { (length self.old.requests < 64) × IsNext self.old.requests m }
+        ensures ok { OnOk result (self.new ≡ grown self.old m) }
         ensures err { OnErr result (self.new ≡ self.old) }
     {
         let digest = link(&self.digest_at(self.len()), &m);
@@ -152,6 +156,7 @@ impl Entries {
         let digests = Vec::from_slice(alloc, &self.digests)?;
         let index = index_of(alloc, &self.requests)?;
         Ok(Entries {
+            start: self.start,
             requests,
             digests,
             index,
@@ -160,8 +165,8 @@ impl Entries {
 
     /// Keeps the first `n` entries.
     pub(crate) fn cut(&mut self, n: usize)
-        requires { n ≤ length self.old }
-        ensures { self.new ≡ take n self.old }
+        requires { n ≤ length self.old.requests }
+        ensures { self.new ≡ front n self.old }
     {
         self.requests.truncate(n);
         self.digests.truncate(n);

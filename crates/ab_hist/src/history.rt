@@ -1,21 +1,23 @@
 //! Histories.
 
-ghost use Rattle.std.specs.Prelude.{◌≡◌, ◌-◌, ◌<◌, ◌≤◌, ◌↔◌, [], ◌∷◌, ◌++◌, length, take, slice_get, IsTrue, Some, OnOk, OnErr, IsErrOf, IfOk, IfSome, IfNone, Contains};
+ghost use Rattle.std.specs.Prelude.{◌≡◌, ◌-◌, ◌<◌, ◌≤◌, ◌↔◌, [], ◌∷◌, ◌++◌, length, take, slice_get, IsTrue, IsFalse, Some, OnOk, OnErr, IsErrOf, IfOk, IfSome, IfNone, Contains};
 ghost use mathlib.Core.List.{IsPrefix};
 ghost use Rattle.ab_hist.specs.Digests.{digest_of};
-ghost use Rattle.ab_hist.specs.Histories.{IsHistory, IsNext, CanPush, may_follow, place_in, can_push as test_push};
-ghost use Rattle.ab_hist.specs.Shared.{kept_in, IsShared};
+ghost use Rattle.ab_hist.specs.Histories.{IsHistory, IsNext, CanPush, place_in, can_push as test_push};
+ghost use Rattle.ab_hist.specs.Chunks.{Chunk, IsChained, begun, grown, entries_of};
 
-use crate::entries::Entries;
+use crate::part::Part;
 use crate::request::Request;
 use ab_num::OutOfMemory;
 use std::alloc::{AllocError, Global};
 use std::marker::Model;
-use std::rc::Rc;
 use thiserror::Error;
 
 /// How many requests a history may hold.
 const CAPACITY: usize = 1024;
+
+/// How many of them a chunk holds.
+const CHUNK: usize = 64;
 
 /// Why a request was not added.
 #[derive(Clone, Copy, Debug, PartialEq, Eq, Error)]
@@ -28,30 +30,29 @@ pub enum PushFault {
     OutOfMemory,
 }
 
-/// A list of requests in which the stamps of each client rise: the first of some entries. Copies share the entries, until
-/// one of them gets another. No call walks the list but `is_prefix_of`; `push`, where the entries are shared; and `can_push`,
-/// where some of them were cut off and none came since.
+/// A list of requests in which the stamps of each client rise, in chunks of 64. Copies share the chunks; a `push` on a copy
+/// copies the last one. No call walks the entries but `is_prefix_of` and `is_equal`.
 pub struct History {
-    kept: Option<Rc<Entries>>,
+    parts: Vec<Part>,
     len: usize,
 }
 
 impl Drop for History {
     fn drop(self) {
-        let History { kept: _, len: _ } = self;
+        let History { parts: _, len: _ } = self;
     }
 }
 
 impl Model for History {
-    ghost use Rattle.std.specs.Prelude.{List, take};
+    ghost use Rattle.std.specs.Prelude.{List};
     ghost use Rattle.ab_hist.specs.declared.request.Request.{Request as Entry};
-    ghost use Rattle.ab_hist.specs.Shared.{kept_in, IsShared};
+    ghost use Rattle.ab_hist.specs.Chunks.{entries_of, IsChunked};
 
     ghost Value = { List Entry };
 
-    ghost view = { λ h. take h.len (kept_in h.kept) };
+    ghost view = { λ h. entries_of h.parts.items };
 
-    ghost invariant = { λ h. IsShared (kept_in h.kept) h.len };
+    ghost invariant = { λ h. IsChunked h.parts.items h.len };
 }
 
 impl From<AllocError> for PushFault {
@@ -65,56 +66,89 @@ impl From<AllocError> for PushFault {
     }
 }
 
-/// Entries that copies can share.
-fn shared(alloc: Global, entries: Entries) -> Result<Rc<Entries>, AllocError>
-    ensures { IfOk result (λ kept. kept.value ≡ entries) }
+/// Adds an entry to the last chunk, which has room for it.
+fn grow_last(alloc: Global, parts: &mut Vec<Part>, m: Request) -> Result<(), AllocError>
+    requires some { 0 < length parts.old.items }
+    requires next { (c : Chunk) → slice_get parts.old.items (length parts.old.items - 1) ≡ Some c → (length c.requests < 64) × IsNext c.requests m }
+    ensures ok { OnOk result ((c : Chunk) → slice_get parts.old.items (length parts.old.items - 1) ≡ Some c → parts.new.items ≡ take (length parts.old.items - 1) parts.old.items ++ grown c m ∷ []) }
+    ensures err { OnErr result (parts.new.items ≡ parts.old.items) }
 {
-    Ok(Rc::new(alloc, entries)?)
+    let last = parts.len() - 1;
+    parts[last].push(alloc, m)
 }
 
-/// The first `n` entries, which nothing shares.
-fn own(alloc: Global, kept: &Option<Rc<Entries>>, n: usize) -> Result<Entries, AllocError>
-    requires { n ≤ length (kept_in kept.now) }
-    ensures { IfOk result (λ entries. entries ≡ take n (kept_in kept.now)) }
-{
-    let mut entries = match kept {
-        Some(kept) => kept.copy(alloc)?,
-        None => Entries::new(alloc),
-    };
-    entries.cut(n);
-    Ok(entries)
-}
-
-/// Keeps the first `n` entries and adds one, in a copy where anything else shares them.
-fn grow(
+/// Begins a chunk with an entry.
+fn begin_chunk(
     alloc: Global,
-    kept: &mut Option<Rc<Entries>>,
-    n: usize,
+    parts: &mut Vec<Part>,
+    digest: [u8; 32],
     m: Request,
 ) -> Result<(), AllocError>
-    requires shared { IsShared (kept_in kept.old) n }
-    requires next { CanPush (take n (kept_in kept.old)) m }
-    ensures ok { OnOk result (kept_in kept.new ≡ take n (kept_in kept.old) ++ m ∷ []) }
-    ensures err { OnErr result (IsShared (kept_in kept.new) n × (take n (kept_in kept.new) ≡ take n (kept_in kept.old))) }
+    ensures ok { OnOk result (parts.new.items ≡ parts.old.items ++ grown (begun digest) m ∷ []) }
+    ensures err { OnErr result (parts.new.items ≡ parts.old.items) }
 {
-    if let Some(shared) = kept {
-        if let Some(entries) = Rc::get_mut(shared) {
-            entries.cut(n);
-            return entries.push(m);
+    parts.reserve(1)?;
+    let part = Part::begin(alloc, digest, m)?;
+    match parts.push(part) {
+        Ok(()) => {}
+        Err(_) => unreachable!(),
+    }
+    Ok(())
+}
+
+/// Whether no chunk has room for another entry.
+fn are_full(parts: &Vec<Part>) -> bool
+    ensures full { IsTrue result → (c : Chunk) → slice_get parts.now.items (length parts.now.items - 1) ≡ Some c → 64 ≤ length c.requests }
+    ensures room { IsFalse result → (0 < length parts.now.items) × ((c : Chunk) → slice_get parts.now.items (length parts.now.items - 1) ≡ Some c → length c.requests < 64) }
+{
+    let count = parts.len();
+    count == 0 || parts[count - 1].len() >= CHUNK
+}
+
+/// Adds an entry after those with the digest `digest`.
+fn add(alloc: Global, parts: &mut Vec<Part>, digest: [u8; 32], m: Request) -> Result<(), AllocError>
+    requires chained { IsChained parts.old.items }
+    requires digest { digest ≡ digest_of (entries_of parts.old.items) }
+    requires next { IsNext (entries_of parts.old.items) m }
+    ensures chained { OnOk result (IsChained parts.new.items) }
+    ensures ok { OnOk result (entries_of parts.new.items ≡ entries_of parts.old.items ++ m ∷ []) }
+    ensures err { OnErr result (parts.new.items ≡ parts.old.items) }
+{
+    if are_full(parts) {
+        begin_chunk(alloc, parts, digest, m)
+    } else {
+        grow_last(alloc, parts, m)
+    }
+}
+
+/// Keeps the first `n` entries.
+fn keep(parts: &mut Vec<Part>, n: usize)
+    requires chained { IsChained parts.old.items }
+    requires within { n ≤ length (entries_of parts.old.items) }
+    ensures chained { IsChained parts.new.items }
+    ensures front { entries_of parts.new.items ≡ take n (entries_of parts.old.items) }
+{
+    let whole = n / CHUNK;
+    let rest = n % CHUNK;
+    if whole < parts.len() {
+        if rest == 0 {
+            parts.truncate(whole);
+        } else {
+            parts[whole].cut(rest);
+            parts.truncate(whole + 1);
         }
     }
-    let mut entries = own(alloc, kept, n)?;
-    entries.push(m)?;
-    *kept = Some(shared(alloc, entries)?);
-    Ok(())
 }
 
 impl History {
     /// A history without entries.
-    pub fn new(_alloc: Global) -> History
+    pub fn new(alloc: Global) -> History
         ensures { result ≡ [] }
     {
-        History { kept: None, len: 0 }
+        History {
+            parts: Vec::new(alloc),
+            len: 0,
+        }
     }
 
     pub fn len(&self) -> usize
@@ -125,22 +159,13 @@ impl History {
         self.len
     }
 
-    /// The entries, in their order.
-    pub fn entries(&self) -> &[Request]
-        ensures { result.now ≡ self.now }
-    {
-        match &self.kept {
-            Some(kept) => &kept.requests()[..self.len],
-            None => &[],
-        }
-    }
-
     /// The entry at place `n`.
     pub fn at(&self, n: usize) -> &Request
         requires { (1 ≤ n) × (n ≤ length self.now) }
         ensures { slice_get self.now (n - 1) ≡ Some result.now }
     {
-        &self.entries()[n - 1]
+        let part = &self.parts[(n - 1) / CHUNK];
+        &part.requests()[(n - 1) % CHUNK]
     }
 
     /// The digest of the first `n` entries.
@@ -149,10 +174,11 @@ impl History {
         requires { n ≤ length self.now }
         ensures { result ≡ digest_of (take n self.now) }
     {
-        match &self.kept {
-            Some(kept) => kept.digest_at(n),
-            None => [0; 32],
+        if n == 0 {
+            return [0; 32];
         }
+        let part = &self.parts[(n - 1) / CHUNK];
+        part.digest_at((n - 1) % CHUNK + 1)
     }
 
     /// Whether `m` may come next.
@@ -169,20 +195,16 @@ impl History {
         self.len < CAPACITY && self.is_later(m)
     }
 
-    /// Whether the stamp of `m` is above the latest one of its client. Where entries were cut off that others share, the list is walked.
+    /// Whether the stamp of `m` is above the latest one of its client.
     fn is_later(&self, m: &Request) -> bool
         ensures { IsTrue result ↔ IsNext self.now m.now }
     {
-        match &self.kept {
-            Some(kept) => {
-                if self.len == kept.len() {
-                    kept.is_later(m)
-                } else {
-                    self.entries().iter().all(|e| may_follow(m, e))
-                }
+        for part in &self.parts {
+            if !part.is_later(m) {
+                return false;
             }
-            None => true,
         }
+        true
     }
 
     /// The place whose entry equals `m`.
@@ -191,11 +213,14 @@ impl History {
         ensures found { IfSome result (λ n. (1 ≤ n) × (slice_get self.now (n - 1) ≡ Some m.now)) }
         ensures none { IfNone result (¬ Contains self.now m.now) }
     {
-        let Some(kept) = &self.kept else {
-            return None;
-        };
-        let place = kept.place_of(m)?;
-        if place <= self.len { Some(place) } else { None }
+        let mut before = 0;
+        for part in &self.parts {
+            if let Some(place) = part.place_of(m) {
+                return Some(before + place);
+            }
+            before += part.len();
+        }
+        None
     }
 
     /// Whether `h` begins with these entries.
@@ -203,10 +228,22 @@ impl History {
         ensures front { IsTrue result ↔ (take (length self.now) h.now ≡ self.now) }
         ensures prefix { IsTrue result ↔ IsPrefix self.now h.now }
     {
-        match h.entries().get(..self.len) {
-            Some(front) => front == self.entries(),
-            None => false,
+        if h.len < self.len {
+            return false;
         }
+        for n in 0..self.len {
+            if self.at(n + 1) != h.at(n + 1) {
+                return false;
+            }
+        }
+        true
+    }
+
+    /// Whether the two have the same entries.
+    pub fn is_equal(&self, h: &History) -> bool
+        ensures { IsTrue result ↔ (self.now ≡ h.now) }
+    {
+        self.len == h.len && self.is_prefix_of(h)
     }
 
     /// Adds an entry.
@@ -222,21 +259,22 @@ impl History {
         if !self.is_later(&m) {
             return Err(PushFault::Repeat);
         }
-        grow(alloc, &mut self.kept, self.len, m)?;
+        let digest = self.digest_at(self.len);
+        add(alloc, &mut self.parts, digest, m)?;
         self.len += 1;
         Ok(())
     }
 
     /// An equal history.
-    pub fn copy(&self, _alloc: Global) -> Result<History, OutOfMemory>
+    pub fn copy(&self, alloc: Global) -> Result<History, OutOfMemory>
         ensures { IfOk result (λ h. h ≡ self.now) }
     {
-        let kept = match &self.kept {
-            Some(kept) => Some(kept.clone()?),
-            None => None,
-        };
+        let mut parts = Vec::with_capacity(alloc, self.parts.len())?;
+        for part in &self.parts {
+            parts.push(part.copy()?)?;
+        }
         Ok(History {
-            kept,
+            parts,
             len: self.len,
         })
     }
@@ -246,13 +284,7 @@ impl History {
         requires { n ≤ length self.old }
         ensures { self.new ≡ take n self.old }
     {
+        keep(&mut self.parts, n);
         self.len = n;
     }
-}
-
-/// Whether `m` may follow an entry.
-fn may_follow(m: &Request, e: &Request) -> bool
-    ensures { result ≡ may_follow m.now e.now }
-{
-    e.client != m.client || e.stamp < m.stamp
 }

@@ -36,7 +36,7 @@ fn is_last(last: &Option<History>, history: &History) -> bool
     ensures { IsTrue result → last.now ≡ Some history.now }
 {
     match last {
-        Some(last) => last.entries() == history.entries(),
+        Some(last) => last.is_equal(history),
         None => false,
     }
 }

@@ -198,7 +198,7 @@ fn a_base_stands_in_slot_0(rt: HostRuntime) {
     let c = Cluster::new(1, 1, Plan::Backup).expect(&rt, "a cluster");
     let first = told(&rt, alloc, &c, 1, pre_prepare(1, 0, no_cert(alloc)));
     let empty = match &first {
-        Reading::PrePrepareBase { by: 0, base, .. } => base.entries().is_empty(),
+        Reading::PrePrepareBase { by: 0, base, .. } => base.len() == 0,
         _ => false,
     };
     drop(first);

@@ -19,3 +19,5 @@ mod quorums;
 mod routes;
 #[cfg(test)]
 mod solos;
+#[cfg(test)]
+mod trees;
