@@ -2,6 +2,7 @@
 
 use ab_io::{Clock, Got, LONGEST_DATAGRAM, Link, Refused};
 use ab_net::{StdClock, UdpLink};
+use std::net::{Ipv4Addr, SocketAddrV4, UdpSocket};
 
 #[test]
 fn a_datagram_comes_to_oneself(rt: HostRuntime) {
@@ -21,6 +22,30 @@ fn a_datagram_comes_to_oneself(rt: HostRuntime) {
     assert!(rt; link.send(port, b"hello") == Ok(()));
     assert!(rt; link.recv(&mut buf, 1000) == Got::Bytes(5));
     assert!(rt; buf.starts_with(b"hello"));
+}
+
+/// The link listens at 127.0.0.1 alone, so what is sent to another address of the same machine isn't for it.
+#[test]
+fn a_datagram_to_another_address_is_not_taken(rt: HostRuntime) {
+    let mut link = UdpLink::new(rt.clone().expect(&rt, "memory"));
+    let mut port = 0;
+    for free in 47111..47211u16 {
+        if link.open(free).is_ok() {
+            port = free;
+            break;
+        }
+    }
+    let here = Ipv4Addr::LOCALHOST;
+    let elsewhere = Ipv4Addr::new(127, 0, 0, 2);
+    let socket = UdpSocket::bind(&rt, SocketAddrV4::new(here, 0)).expect(&rt, "a socket");
+    let mut buf = Vec::from_elem(rt.alloc(), 0u8, LONGEST_DATAGRAM).expect(&rt, "memory");
+    let sent = socket.send_to(b"elsewhere", SocketAddrV4::new(elsewhere, port));
+    assert!(rt; sent.is_ok());
+    assert!(rt; link.recv(&mut buf, 200) == Got::Quiet);
+    let sent = socket.send_to(b"here", SocketAddrV4::new(here, port));
+    assert!(rt; sent.is_ok());
+    assert!(rt; link.recv(&mut buf, 1000) == Got::Bytes(4));
+    assert!(rt; buf.starts_with(b"here"));
 }
 
 #[test]
