@@ -1,5 +1,5 @@
 -- A core of a party, and what it does with what comes to it.
-use Rattle.std.specs.Prelude.{◌≡◌, ℕ, ◌+◌, Bool, false, List, []}
+use Rattle.std.specs.Prelude.{ℕ, ◌+◌, Bool, false, List, []}
 use Rattle.ab_num.specs.declared.party.Party.{Party}
 use Rattle.ab_num.specs.declared.party.Party.TheVariants.{Replica, Client}
 use Rattle.ab_msg.specs.declared.content.Content.{Content}

@@ -8,10 +8,8 @@ use Rattle.ab_num.specs.declared.party.Party.TheVariants.{Replica, Client}
 use Rattle.ab_num.specs.declared.cluster.Cluster.{Cluster}
 use Rattle.ab_num.specs.declared.plan.Height.{Height}
 use Rattle.ab_lms.specs.Nodes.{levels}
-use Rattle.ab_check.specs.Checks.{Judge}
 use Rattle.ab_sign.specs.declared.key.SignKey.{SignKey}
 use Rattle.ab_sign.specs.Signers.{derived_keys, pen_of}
-use Rattle.ab_sign.specs.Judges.{judge_of}
 use Rattle.ab_keys.specs.Keys.{is_party}
 use Rattle.ab_keys.specs.Rings.{Ring, ring_of}
 use Rattle.ab_abs.specs.Faults.{is_faulty}
@@ -48,10 +46,6 @@ ring_at x p = ring_of x.cluster.f x.cluster.clients x.cluster.plan (replicate 32
 -- what a party opens, signs and seals by
 abbrev pub credentials_at : Setup → Party → Credentials
 credentials_at x p = record { ring = ring_at x p; keys = keys_of x }
-
--- who tells for a party whether a tag or a signature is right
-abbrev pub judge_at : Setup → Party → Judge
-judge_at x p = judge_of (ring_at x p) (keys_of x)
 
 -- ---- where cores are
 

@@ -8,13 +8,13 @@ ghost use Rattle.ab_num.specs.Parties.{party_eq};
 ghost use Rattle.ab_keys.specs.Keys.{is_party};
 ghost use Rattle.ab_keys.specs.Rings.{ring_of};
 ghost use Rattle.ab_cast.specs.declared.place.Place.TheVariants as place;
-ghost use Rattle.ab_cast.specs.Setups.{credentials_at, is_bad, keys_of, signatures_of, place_of, twin_place, ring_at, replica_twins, client_twins};
+ghost use Rattle.ab_cast.specs.Setups.{credentials_at, is_bad, signatures_of, place_of, twin_place, ring_at, replica_twins, client_twins};
 
 use crate::place::Place;
 use ab_keys::{KeyRing, is_party};
 use ab_num::{Cluster, Height, OutOfMemory, Party};
 use ab_party::Credentials;
-use ab_sign::{Signers, Verifier};
+use ab_sign::Signers;
 use std::alloc::Global;
 use std::marker::Model;
 
@@ -201,14 +201,6 @@ impl Setup {
         ensures { result ≡ credentials_at self.now party }
     {
         Credentials::new(self.ring(party), &self.signers)
-    }
-
-    /// Who tells for a party of the cluster whether a tag or a signature is right.
-    pub fn verifier(&self, party: Party) -> Verifier<'_>
-        requires { IsTrue (is_party self.now.cluster.f self.now.cluster.clients party) }
-        ensures { result ≡ record { ring = ring_at self.now party; keys = keys_of self.now } }
-    {
-        Verifier::new(self.ring(party), &self.signers)
     }
 
     /// The ring of a party of the cluster.

@@ -1,8 +1,7 @@
 -- Whatever events come, each packet goes to a party of the cluster.
 use Rattle.std.proofs.Common.{◌≡◌, ℕ, ◌+◌, Bool, true, false, All, IsTrue, Option, None, Some, List, [], ◌∷◌, Result, Ok, Err, refl, sym, ◌∙◌, subst}
 use Rattle.std.specs.Prelude.{if◌then◌else◌, nat_le}
-use Rattle.std.specs.List.{filter}
-use Rattle.std.proofs.lemmas.List.Elements.{All-nil, All-append, All-map, filter_passes}
+use Rattle.std.proofs.lemmas.List.Elements.{All-nil, All-append, All-cons}
 use Rattle.ab_num.specs.declared.party.Party.{Party}
 use Rattle.ab_text.specs.declared.event.Event.{Event}
 use Rattle.ab_keys.specs.Keys.{is_party}
@@ -11,6 +10,7 @@ use Rattle.ab_open.specs.declared.fault.OpenFault.{OpenFault}
 use Rattle.ab_abs.specs.Ensembles.{Proto}
 use Rattle.ab_run.specs.Local.{Cue}
 use Rattle.ab_msg.specs.Packets.{Packet}
+use Rattle.ab_party.specs.Credentials.{sealed_by, sealed_for}
 use Rattle.ab_world.specs.Packets.{total, most_bytes}
 use Rattle.ab_cast.specs.declared.place.Place.{Place}
 use Rattle.ab_cast.specs.Setups.{Setup, party_at, ring_at}
@@ -18,7 +18,7 @@ use Rattle.ab_cast.specs.Cores.{Core, core_after, core_sends}
 use Rattle.ab_cast.specs.Casts.{core_at}
 use Rattle.ab_world.specs.declared.fault.WorldFault.{WorldFault}
 use Rattle.ab_world.specs.declared.fault.WorldFault.TheVariants.{PacketLimit}
-use Rattle.ab_world.specs.Steps.{Happening, packet_by, posted, cue_from, moved, moved_at, after_taking, after, ready, stepped, stepped_by}
+use Rattle.ab_world.specs.Steps.{Happening, posted, cue_from, moved, moved_at, after_taking, after, ready, stepped, stepped_by}
 use Rattle.ab_world.specs.Runs.{outcome, refused_or}
 use Rattle.ab_world.specs.Worlds.{World, start}
 use Rattle.ab_world.proofs.StepLemmas.{core_setup}
@@ -27,9 +27,13 @@ abbrev pub IsWithin : Setup → Packet → Type 0
 IsWithin x q = IsTrue (is_party x.cluster.f x.cluster.clients q.to)
 
 posted_within : (x : Setup) (p : Party) (outs : List Out) → All (IsWithin x) (posted x p outs)
-posted_within x p outs =
-    let goes : Out → Bool = λ o. is_party x.cluster.f x.cluster.clients o.to in
-    All-map (IsWithin x) (packet_by (ring_at x p)) (filter goes outs) (filter_passes goes outs)
+posted_within x p [] = All-nil (IsWithin x)
+posted_within x p (o ∷ outs) =
+    All-append (IsWithin x) (sealed_for (ring_at x p) o) (posted x p outs) (one (is_party x.cluster.f x.cluster.clients o.to) refl) (posted_within x p outs)
+  where
+    one : (b : Bool) → is_party x.cluster.f x.cluster.clients o.to ≡ b → All (IsWithin x) (if b then sealed_by (ring_at x p) o ∷ [] else [])
+    one true is = All-cons (IsWithin x) (sealed_by (ring_at x p) o) [] is (All-nil (IsWithin x))
+    one false is = All-nil (IsWithin x)
 
 module _ {P : Type 0} (proto : Proto P) (x : Setup) where
   -- a world of this setup whose packets go to parties of the cluster
