@@ -9,8 +9,8 @@ use Rattle.ab_text.specs.declared.event.Event.TheVariants.{Invoke, Deliver, Time
 use Rattle.ab_text.specs.declared.line.Line.{Line}
 use Rattle.ab_text.specs.declared.line.Line.TheVariants as line
 use Rattle.ab_picture.specs.declared.picture.Arrow.{Arrow}
-use Rattle.ab_picture.specs.declared.picture.Cue.{Cue}
-use Rattle.ab_picture.specs.declared.picture.Cue.TheVariants.{Invoked, Delivered, TimedOut, Injected}
+use Rattle.ab_picture.specs.declared.picture.Trigger.{Trigger}
+use Rattle.ab_picture.specs.declared.picture.Trigger.TheVariants.{Invoked, Delivered, TimedOut, Injected}
 use Rattle.ab_picture.specs.declared.picture.Mark.{Mark}
 use Rattle.ab_picture.specs.declared.picture.Moment.{Moment}
 use Rattle.ab_picture.specs.declared.picture.SentPacket.{SentPacket}
@@ -90,11 +90,11 @@ core_of parcels (Deliver k None) = option_map (λ p. record { party = p.to; twin
 core_of parcels (Timeout core) = Some core
 core_of parcels (Inject core bytes) = Some core
 
-abbrev pub cue_of : Event → Cue
-cue_of (Invoke core command) = Invoked
-cue_of (Deliver k core) = Delivered
-cue_of (Timeout core) = TimedOut
-cue_of (Inject core bytes) = Injected
+abbrev pub trigger_of : Event → Trigger
+trigger_of (Invoke core command) = Invoked
+trigger_of (Deliver k core) = Delivered
+trigger_of (Timeout core) = TimedOut
+trigger_of (Inject core bytes) = Injected
 
 -- how many packets there are after n events
 abbrev pub count_at : List ℕ → ℕ → ℕ
@@ -109,7 +109,7 @@ has_panic parcels before now = list_any (λ p. p.code == 5) (take (now - before)
 abbrev pub moment_of : List ℕ → List SentPacket → ℕ → Event → Moment
 moment_of counts parcels n e = record {
   core = core_of parcels e;
-  cue = cue_of e;
+  trigger = trigger_of e;
   panics = has_panic parcels (count_at counts n) (count_at counts (n + 1));
 }
 

@@ -3,12 +3,12 @@
 ghost use Rattle.std.specs.Prelude.{◌≡◌, ◌^◌, ◌<◌, [], ◌++◌, IfOk, OnOk, length};
 ghost use Rattle.std.specs.List.{cons_option};
 ghost use Rattle.std.specs.Option.{option_map};
-ghost use Rattle.ab_picture.specs.Pictures.{parcel_at, code_at, sender_of, is_delivered, is_delivery, arrow_of, arrow_to, arrows_of, stub_at, stub_of, stubs_of, core_of, cue_of, count_at, has_panic, moment_of, moments_of};
+ghost use Rattle.ab_picture.specs.Pictures.{parcel_at, code_at, sender_of, is_delivered, is_delivery, arrow_of, arrow_to, arrows_of, stub_at, stub_of, stubs_of, core_of, trigger_of, count_at, has_panic, moment_of, moments_of};
 ghost use Rattle.ab_picture.specs.Composed.{IsPicture, tale_of};
 
 use crate::lanes::lanes;
 use crate::marks::marks;
-use crate::picture::{Arrow, Cue, Moment, Picture, SentPacket, Stub, Tale};
+use crate::picture::{Arrow, Moment, Picture, SentPacket, Stub, Tale, Trigger};
 use ab_num::{Cluster, OutOfMemory, Party};
 use ab_text::{Core, Event};
 use std::alloc::Global;
@@ -65,15 +65,15 @@ fn core_of(parcels: &[SentPacket], event: &Event) -> Option<Core>
     }
 }
 
-/// What an event is.
-fn cue_of(event: &Event) -> Cue
-    ensures { result ≡ cue_of event.now }
+/// What sets an event off.
+fn trigger_of(event: &Event) -> Trigger
+    ensures { result ≡ trigger_of event.now }
 {
     match event {
-        Event::Invoke { .. } => Cue::Invoked,
-        Event::Deliver { .. } => Cue::Delivered,
-        Event::Timeout { .. } => Cue::TimedOut,
-        Event::Inject { .. } => Cue::Injected,
+        Event::Invoke { .. } => Trigger::Invoked,
+        Event::Deliver { .. } => Trigger::Delivered,
+        Event::Timeout { .. } => Trigger::TimedOut,
+        Event::Inject { .. } => Trigger::Injected,
     }
 }
 
@@ -110,7 +110,7 @@ fn moment_of(told: &Tale, earlier: usize, event: &Event) -> Moment
     let now = count_at(told.counts, earlier + 1);
     Moment {
         core: core_of(told.parcels, event),
-        cue: cue_of(event),
+        trigger: trigger_of(event),
         panics: has_panic(told.parcels, before, now),
     }
 }

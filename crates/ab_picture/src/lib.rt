@@ -15,5 +15,5 @@ mod picture;
 mod whole;
 
 pub use composing::compose;
-pub use picture::{Arrow, Cue, Lane, Mark, Moment, Picture, SentPacket, Sign, Stub, Tale};
+pub use picture::{Arrow, Lane, Mark, Moment, Picture, SentPacket, Sign, Stub, Tale, Trigger};
 pub use whole::svg;

@@ -4,7 +4,7 @@ ghost use Rattle.std.specs.Prelude.{◌^◌, ◌<◌};
 
 use crate::layout::{x_of, x_of_event, x_of_party, y_of};
 use crate::names::message_name;
-use crate::picture::{Arrow, Cue, Lane, Mark, Moment, Picture, Sign, Stub};
+use crate::picture::{Arrow, Lane, Mark, Moment, Picture, Sign, Stub, Trigger};
 use ab_num::Party;
 use ab_text::{Core, Premise, party_string};
 use std::alloc::{AllocError, Global};
@@ -221,24 +221,30 @@ pub(crate) fn stub_string(
 }
 
 /// The sign of what an event is.
-fn cue_string(alloc: Global, cue: Cue, class: &str, x: u64, y: u64) -> Result<String, AllocError> {
+fn trigger_string(
+    alloc: Global,
+    trigger: Trigger,
+    class: &str,
+    x: u64,
+    y: u64,
+) -> Result<String, AllocError> {
     let left = x.saturating_sub(5);
     let top = y.saturating_sub(5);
-    match cue {
-        Cue::Delivered => {
+    match trigger {
+        Trigger::Delivered => {
             format!(in alloc; "<circle class=\"{class}\" cx=\"{x}\" cy=\"{y}\" r=\"3.5\"/>\n")
         }
-        Cue::Invoked => {
+        Trigger::Invoked => {
             format!(in alloc;
                 "<rect class=\"{class}\" x=\"{left}\" y=\"{top}\" width=\"10\" height=\"10\"/>\n"
             )
         }
-        Cue::TimedOut => {
+        Trigger::TimedOut => {
             format!(in alloc;
                 "<circle class=\"hollow {class}\" cx=\"{x}\" cy=\"{y}\" r=\"6\"/><path class=\"thin {class}\" d=\"M{x} {top}V{y}h4\"/>\n"
             )
         }
-        Cue::Injected => {
+        Trigger::Injected => {
             format!(in alloc;
                 "<path class=\"hollow {class}\" d=\"M{x} {y}m-7 0l7 -7 7 7 -7 7z\"/>\n"
             )
@@ -247,12 +253,12 @@ fn cue_string(alloc: Global, cue: Cue, class: &str, x: u64, y: u64) -> Result<St
 }
 
 /// What is written beside an event that is no delivery.
-fn cue_name(cue: Cue) -> &'static str {
-    match cue {
-        Cue::Delivered => "",
-        Cue::Invoked => "invoke",
-        Cue::TimedOut => "timeout",
-        Cue::Injected => "inject",
+fn trigger_name(trigger: Trigger) -> &'static str {
+    match trigger {
+        Trigger::Delivered => "",
+        Trigger::Invoked => "invoke",
+        Trigger::TimedOut => "timeout",
+        Trigger::Injected => "inject",
     }
 }
 
@@ -281,9 +287,9 @@ pub(crate) fn moment_string(
     let x = x_of(picture.lanes.as_slice(), core);
     let y = y_of(event);
     let class = event_class(&picture.premise, event);
-    let sign = cue_string(alloc, moment.cue, class, x, y)?;
+    let sign = trigger_string(alloc, moment.trigger, class, x, y)?;
     let panic = panic_string(alloc, moment.panics, x, y)?;
-    let name = cue_name(moment.cue);
+    let name = trigger_name(moment.trigger);
     let at = x + 24;
     let base = y - 3;
     format!(in alloc; "{panic}<text class=\"name cue\" x=\"{at}\" y=\"{base}\">{name}</text>{sign}")

@@ -29,9 +29,9 @@ pub struct Lane {
     pub faulty: bool,
 }
 
-/// What an event is.
+/// What sets an event off.
 #[derive(Clone, Copy)]
-pub enum Cue {
+pub enum Trigger {
     Invoked,
     Delivered,
     TimedOut,
@@ -42,7 +42,7 @@ pub enum Cue {
 #[derive(Clone, Copy)]
 pub struct Moment {
     pub core: Option<Core>,
-    pub cue: Cue,
+    pub trigger: Trigger,
     pub panics: bool,
 }
 
