@@ -10,7 +10,7 @@ use Rattle.ab_num.specs.declared.party.Party.TheVariants.{Replica}
 use Rattle.ab_num.proofs.Lists.{Contains-tail, Contains-cons_cases, Contains-none}
 use Rattle.ab_abs.specs.Faults.{is_faulty}
 use Rattle.ab_lock.specs.Steps.{Change, SlotEntry, Step, accepts, signs, prepares, changes, enters, executes, entry_of, IsAt, Follows}
-use Rattle.ab_lock.specs.Quorums.{IsCertified, HasPrepared, RestsOn, NoCollision, Premises}
+use Rattle.ab_lock.specs.Quorums.{IsCertified, HasPrepared, RestsOn, NoCollision, TracePremises}
 use Rattle.ab_msg.specs.Carried.{is_replica}
 use Rattle.ab_lock.specs.Acts.{KnowsChanges, LockContent, Prepare, Commit, ViewChange, maker_of, LockAct, steps_of, commit_of, made, WasMade, Knows, taken, its_own, IsHonest, KnowsQuorum, Backs, AreLawful}
 
@@ -216,7 +216,7 @@ module _ {V X : Type 0} (digest : V → X) (f : ℕ) (faulty : List Party) (acts
 
   -- the premises of Lock, from acts
   pub premises_of : (Source : ℕ → V → Type 0) (goes : List V → V → Bool) (k : ℕ) → count_by is_replica faulty ≤ f → AreLawful digest f Source goes k acts → NoCollision digest f faulty (steps_of acts)
-      → Premises digest f faulty (steps_of acts) Source goes k
+      → TracePremises digest f faulty (steps_of acts) Source goes k
   premises_of Source goes k few lawful apart = record {
     few = few;
     follows = λ r ok. lawful_follows digest f Source goes k acts lawful r;

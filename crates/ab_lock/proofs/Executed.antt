@@ -6,7 +6,7 @@ use mathlib.Core.List.{IsPrefix}
 use Rattle.ab_num.specs.declared.party.Party.{Party}
 use Rattle.ab_num.proofs.Lists.{slice_get_there}
 use Rattle.ab_lock.specs.Steps.{Step, accepts, signs, prepares, enters, executes, state_of}
-use Rattle.ab_lock.specs.Quorums.{Occurs, IsCommittedLocally, IsCorrect, IsCertified, IsCommitted, Lock, in_accepted, in_prepared, in_executed, Premises}
+use Rattle.ab_lock.specs.Quorums.{Occurs, IsCommittedLocally, IsCorrect, IsCertified, IsCommitted, Lock, in_accepted, in_prepared, in_executed, TracePremises}
 use Rattle.ab_lock.proofs.Lists.{first_in, nth_same}
 use Rattle.ab_lock.proofs.Traces.{was_allowed, executed_step, ComesFrom, by_itself, from_choice, signed_from}
 use Rattle.ab_lock.proofs.QuorumLemmas.{correct_part}
@@ -27,7 +27,7 @@ module _ {A : Type 0} where
         | inr p ↦ inr (p.0, ap (λ z. z ∷ (ys ++ p.0)) (sym e) ∙ ap (λ zs. x ∷ zs) p.1)
       ]
 
-module _ {V X : Type 0} (digest : V → X) (f : ℕ) (faulty : List Party) (traces : ℕ → List (Step V X)) (Source : ℕ → V → Type 0) (goes : List V → V → Bool) (k : ℕ) (p : Premises digest f faulty traces Source goes k) where
+module _ {V X : Type 0} (digest : V → X) (f : ℕ) (faulty : List Party) (traces : ℕ → List (Step V X)) (Source : ℕ → V → Type 0) (goes : List V → V → Bool) (k : ℕ) (p : TracePremises digest f faulty traces Source goes k) where
   abbrev Correct : ℕ → Type 0
   Correct r = IsCorrect f faulty r
 

@@ -4,7 +4,7 @@ use Rattle.std.specs.Prelude.{Contains}
 use Rattle.std.proofs.lemmas.Option.{none-some}
 use Rattle.ab_num.specs.declared.party.Party.{Party}
 use Rattle.ab_lock.specs.Steps.{Step, accepts, signs, prepares, changes, enters, executes, state_of, Follows}
-use Rattle.ab_lock.specs.Quorums.{IsCorrect, in_prepared, in_executed, Premises}
+use Rattle.ab_lock.specs.Quorums.{IsCorrect, in_prepared, in_executed, TracePremises}
 use Rattle.ab_hist.proofs.KeptLemmas.{slice_get-take}
 use Rattle.ab_lock.proofs.Lists.{nth_same}
 use Rattle.std.proofs.lemmas.List.{length-take-le}
@@ -14,7 +14,7 @@ use Rattle.ab_lock.proofs.Traces.{views_below, executed_step, prepared_now}
 use Rattle.ab_lock.proofs.Locks.{certified_of}
 use Rattle.ab_lock.proofs.Executed.{lock, committed_prepared}
 
-module _ {V X : Type 0} (digest : V → X) (f : ℕ) (faulty : List Party) (traces : ℕ → List (Step V X)) (Source : ℕ → V → Type 0) (goes : List V → V → Bool) (k : ℕ) (p : Premises digest f faulty traces Source goes k) (r : ℕ) (ok : IsCorrect f faulty r) where
+module _ {V X : Type 0} (digest : V → X) (f : ℕ) (faulty : List Party) (traces : ℕ → List (Step V X)) (Source : ℕ → V → Type 0) (goes : List V → V → Bool) (k : ℕ) (p : TracePremises digest f faulty traces Source goes k) (r : ℕ) (ok : IsCorrect f faulty r) where
   -- these steps are among the replica's
   abbrev AreIts : List (Step V X) → Type 0
   AreIts steps = (step : Step V X) → Contains steps step → Contains (traces r) step

@@ -6,7 +6,7 @@ use Rattle.std.proofs.lemmas.Option.{none-some, slice_get_within}
 use Rattle.std.proofs.lemmas.List.{length-map}
 use Rattle.ab_num.specs.declared.party.Party.{Party}
 use Rattle.ab_lock.specs.Steps.{Cert, SlotEntry, Change, Step, prepares, enters, entry_of, IsBest, Ends, full, none, unfit, IsChosen}
-use Rattle.ab_lock.specs.Quorums.{AreReplicas, IsCorrect, IsCertified, AreChanges, in_prepared, in_change, Premises}
+use Rattle.ab_lock.specs.Quorums.{AreReplicas, IsCorrect, IsCertified, AreChanges, in_prepared, in_change, TracePremises}
 use Rattle.ab_hist.proofs.KeptLemmas.{slice_get-take}
 use Rattle.ab_lock.proofs.Lists.{first_in, take_same, nth_map}
 use Rattle.std.proofs.Math.Seq.{take-length}
@@ -15,7 +15,7 @@ use Rattle.ab_lock.proofs.Consistent.{Fit}
 use Rattle.ab_lock.proofs.Traces.{was_allowed, signs_once, prepared_fit, change_names, entered, prepared_good}
 use Rattle.ab_lock.proofs.QuorumLemmas.{quorums_meet, third_meets, correct_part}
 
-module _ {V X : Type 0} (digest : V → X) (f : ℕ) (faulty : List Party) (traces : ℕ → List (Step V X)) (Source : ℕ → V → Type 0) (goes : List V → V → Bool) (k : ℕ) (p : Premises digest f faulty traces Source goes k) where
+module _ {V X : Type 0} (digest : V → X) (f : ℕ) (faulty : List Party) (traces : ℕ → List (Step V X)) (Source : ℕ → V → Type 0) (goes : List V → V → Bool) (k : ℕ) (p : TracePremises digest f faulty traces Source goes k) where
   abbrev Correct : ℕ → Type 0
   Correct r = IsCorrect f faulty r
 

@@ -1,7 +1,7 @@
 -- The promises, from the premises on acts.
 use Rattle.std.specs.Prelude.{ℕ, Bool, IsTrue, List}
 use Rattle.ab_num.specs.declared.party.Party.{Party}
-use Rattle.ab_lock.specs.Quorums.{Premises}
+use Rattle.ab_lock.specs.Quorums.{TracePremises}
 use Rattle.ab_lock.specs.Acts.{LockAct, steps_of}
 use Rattle.ab_lock.specs.Promises.{LockPremises, ViewsLock, ExecutedAgree, ExecutedMayStand}
 use Rattle.ab_lock.proofs.ActLemmas.{premises_of}
@@ -11,7 +11,7 @@ module _ {V X : Type 0} (digest : V → X) (may_stand : ℕ → V → Bool) (goe
   abbrev Source : ℕ → V → Type 0
   Source n value = IsTrue (may_stand n value)
 
-  premises : Premises digest f faulty (steps_of acts) Source goes k
+  premises : TracePremises digest f faulty (steps_of acts) Source goes k
   premises = premises_of digest f faulty acts met.honest Source goes k met.few met.lawful met.apart
 
   pub views_lock : ViewsLock f faulty acts digest

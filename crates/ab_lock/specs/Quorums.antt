@@ -88,7 +88,7 @@ module _ {V X : Type 0} (digest : V → X) where
       RestsOn (executes v n value) = IsCommittedLocally v n (digest value)
 
       -- goes says which value may follow which values, and k is the last slot
-      pub record Premises (goes : List V → V → Bool) (k : ℕ) : Type 0 where
+      pub record TracePremises (goes : List V → V → Bool) (k : ℕ) : Type 0 where
         pub few : count_by is_replica faulty ≤ f
         pub follows : (r : ℕ) → IsCorrect f faulty r → Follows digest goes k (traces r)
         pub rests : (r : ℕ) → IsCorrect f faulty r → (step : Step V X) → Contains (traces r) step → RestsOn step

@@ -20,7 +20,7 @@ use Rattle.ab_abs.specs.Acts.{Setting, State, Act, observations, state_of, log_a
 use Rattle.ab_abs.specs.Backing.{IsCorrect}
 use Rattle.ab_abs.specs.OrderRules.{WasClaimed}
 use Rattle.ab_lock.specs.Steps.{Change, Cert, accepts, enters, state_of as core_of, Follows}
-use Rattle.ab_lock.specs.Quorums.{RestsOn, NoCollision, Occurs, in_accepted, in_prepared, in_change, in_executed, Premises}
+use Rattle.ab_lock.specs.Quorums.{RestsOn, NoCollision, Occurs, in_accepted, in_prepared, in_change, in_executed, TracePremises}
 use Rattle.ab_lock.specs.Quorums as quorums
 use Rattle.ab_lock.specs.Acts as lock
 use Rattle.ab_lock.specs.Acts.{Prepare, Commit, ViewChange, made, Knows, taken, its_own, Backs}
@@ -139,7 +139,7 @@ module _ (x : Setting) (k : ℕ) (acts : List Act) (sound : IsPbftSound x k acts
       (λ t m n one two e. sound.premises.slots.requests m n (stands_ordered t (Order m) one) (stands_ordered t (Order n) two) e)
 
   -- the premises of the lock over views
-  pub premises : Premises slot_digest x.cluster.f x.faulty traces (IsSource x acts) goes k
+  pub premises : TracePremises slot_digest x.cluster.f x.faulty traces (IsSource x acts) goes k
   premises = record {
     few = sound.premises.plain.few;
     follows = λ r good. follows r;
