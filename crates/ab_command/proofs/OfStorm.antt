@@ -9,10 +9,11 @@ use Rattle.ab_text.specs.EventLines.{IsEvent}
 use Rattle.ab_text.specs.Heads.{Script}
 use Rattle.ab_text.specs.Spelling.{IsSchedule}
 use Rattle.ab_words.specs.Commands.{StormCommand}
+use Rattle.ab_party.specs.Clusters.{IsSized}
 use Rattle.ab_world.specs.Worlds.{World}
 use Rattle.ab_replay.specs.Protocols.{Any}
 use Rattle.ab_replay.specs.Replays.{Runs}
-use Rattle.ab_storm.specs.Runs.{events_in, IsClusterOf}
+use Rattle.ab_storm.specs.Runs.{events_in}
 use Rattle.ab_storm.specs.Drawn.{Draws}
 use Rattle.ab_command.specs.Statuses.{kv}
 use Rattle.ab_command.specs.Written.{script_in, IsOfStorm}
@@ -21,7 +22,7 @@ use Rattle.ab_command.specs.Written.{script_in, IsOfStorm}
 in_grammar : (c : Cluster) (events : List Event) → All IsEvent events → IsSchedule (script_in c events)
 in_grammar c events lines = record { bounds = c.in_bounds; faulty = tt; events = recursion_from_All IsEvent events lines }
 
-pub of_storm : (k : StormCommand) (c : Cluster) (events : List Event) (s : Script) → IsClusterOf c k → ((end : World Any) × Draws kv k events end) → s ≡ script_in c events → IsOfStorm k s
+pub of_storm : (k : StormCommand) (c : Cluster) (events : List Event) (s : Script) → IsSized c k.f k.clients k.plan → ((end : World Any) × Draws kv k events end) → s ≡ script_in c events → IsOfStorm k s
 of_storm k c events s sized (end, draws) is =
     let own = draws.cluster in
     let f : c.f ≡ own.f = sized.f ∙ sym draws.sized.f in

@@ -8,10 +8,11 @@ use Rattle.ab_text.specs.Heads.{Script}
 use Rattle.ab_text.specs.Spelling.{IsSchedule, IsSpelled}
 use Rattle.ab_text.specs.Texts.{schedule_text}
 use Rattle.ab_words.specs.Commands.{StormCommand}
+use Rattle.ab_party.specs.Clusters.{IsSized}
 use Rattle.ab_world.specs.Worlds.{World}
 use Rattle.ab_replay.specs.Protocols.{Any}
 use Rattle.ab_replay.specs.Replays.{Runs}
-use Rattle.ab_storm.specs.Runs.{events_in, run_in, IsClusterOf}
+use Rattle.ab_storm.specs.Runs.{events_in, run_in}
 use Rattle.ab_command.specs.Statuses.{kv}
 
 -- these events in a storm's cluster, which has no faulty party
@@ -22,7 +23,7 @@ script_in c events = record { f = c.f; clients = c.clients; plan = c.plan; servi
 -- replay of the schedule leads to the very world to which the storm leads
 pub record IsOfStorm (k : StormCommand) (s : Script) : Type 0 where
   pub cluster : Cluster
-  pub sized : IsClusterOf cluster k
+  pub sized : IsSized cluster k.f k.clients k.plan
   pub is : s ≡ script_in cluster (events_in kv cluster k)
   pub all : length s.events ≡ k.events
   pub end : World Any

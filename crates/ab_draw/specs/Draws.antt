@@ -6,9 +6,10 @@ use Rattle.ab_text.specs.Heads.{Script}
 use Rattle.ab_text.specs.Schedules.{ReadsText}
 use Rattle.ab_abs.specs.Ensembles.{Proto}
 use Rattle.ab_msg.specs.Packets.{Packet}
+use Rattle.ab_party.specs.Clusters.{IsSized}
 use Rattle.ab_world.specs.Runs.{outcome}
 use Rattle.ab_world.specs.Worlds.{World, premise_of, start}
-use Rattle.ab_replay.specs.Replays.{IsClusterOf, counts_of, proto_of, run_in, setup_in}
+use Rattle.ab_replay.specs.Replays.{counts_of, proto_of, run_in, setup_in}
 use Rattle.ab_picture.specs.declared.picture.SentPacket.{SentPacket}
 use Rattle.ab_picture.specs.declared.picture.Picture.{Picture}
 use Rattle.ab_picture.specs.Composed.{IsPicture, Tale}
@@ -53,7 +54,7 @@ AllRun {P} proto c s = (end : World P) × (run_in proto c s ≡ Ok end)
 -- all events of a schedule run, and this is the picture of the first of them
 pub record IsPictureOf {P : Type 0} (proto : Proto P) (s : Script) (p : Picture) : Type 0 where
   pub cluster : Cluster
-  pub sized : IsClusterOf cluster s
+  pub sized : IsSized cluster s.f s.clients s.plan
   pub runs : AllRun proto cluster s
   pub front : IsFrontOf proto cluster s p
 

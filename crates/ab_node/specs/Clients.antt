@@ -1,5 +1,5 @@
 -- One client of a cluster, with its keys: what it does with what comes to it.
-use Rattle.std.specs.Prelude.{◌≡◌, ℕ, ◌+◌, ◌^◌, ◌≤◌, ◌&&◌, nat_le, nat_lt, if◌then◌else◌, Bool, false, List, [], ◌∷◌, length, All, Option, None, Some}
+use Rattle.std.specs.Prelude.{◌≡◌, ℕ, ◌+◌, ◌^◌, ◌&&◌, nat_le, nat_lt, if◌then◌else◌, Bool, false, List, [], ◌∷◌, length, All, Option, None, Some}
 use Rattle.std.specs.Option.{option_map}
 use Rattle.ab_num.specs.declared.cluster.Cluster.{Cluster}
 use Rattle.ab_key_text.specs.Keys.{PartyKeys}
@@ -13,10 +13,11 @@ use Rattle.ab_run.specs.Runs.{first_cli}
 use Rattle.ab_run.specs.Clients.{Cli}
 use Rattle.ab_run.specs.Local.{Cue, cue_message, cue_time}
 use Rattle.ab_client.specs.Clients.{Seat, told, after, sends, marks}
+use Rattle.ab_party.specs.Clusters.{IsSized}
 use Rattle.ab_loop.specs.declared.party_core.Commit.{Commit}
 use Rattle.ab_loop.specs.Cores.{NodeEvent, invoke, message, timeout, Reaction, Rules}
 use Rattle.ab_party.specs.Credentials.{Credentials, IsPartyRing, sealed_all}
-use Rattle.ab_node.specs.Keys.{IsClusterOf, credentials_in, opened}
+use Rattle.ab_node.specs.Keys.{credentials_in, opened}
 use Rattle.ab_node.specs.Replicas.{still}
 
 -- where it is, and what it opens and seals by
@@ -88,7 +89,7 @@ first_client c k n = record { seat = record { me = n; cluster = c; cli = first_c
 -- client n of these keys before its first event
 pub record IsFirstClient (k : PartyKeys) (n : ℕ) (m : ClientMember) : Type 0 where
   pub cluster : Cluster
-  pub of_keys : IsClusterOf cluster k
+  pub of_keys : IsSized cluster k.f k.clients k.plan
   pub is : m ≡ first_client cluster k n
 
 -- ---- what it does

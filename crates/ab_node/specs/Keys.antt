@@ -1,8 +1,7 @@
 -- What a party has to open, sign and seal by: its key ring, and the signature keys of the replicas.
-use Rattle.std.specs.Prelude.{◌≡◌, ℕ, List, map, Option, None, Some, slice_set}
+use Rattle.std.specs.Prelude.{ℕ, List, map, Option, None, Some, slice_set}
 use Rattle.std.specs.Option.{option_map}
 use Rattle.std.specs.Result.{result_ok}
-use Rattle.ab_num.specs.declared.cluster.Cluster.{Cluster}
 use Rattle.ab_num.specs.declared.party.Party.{Party}
 use Rattle.ab_num.specs.declared.party.Party.TheVariants.{Replica, Client}
 use Rattle.ab_num.specs.declared.plan.Height.{Height}
@@ -11,12 +10,6 @@ use Rattle.ab_msg.specs.declared.message.Msg.{Msg}
 use Rattle.ab_sign.specs.declared.key.SignKey.{SignKey}
 use Rattle.ab_sign.specs.declared.key.SignKey.TheVariants as key
 use Rattle.ab_party.specs.Credentials.{Credentials, opening_by}
-
--- the cluster of the keys
-pub record IsClusterOf (c : Cluster) (k : PartyKeys) : Type 0 where
-  pub f : c.f ≡ k.f
-  pub clients : c.clients ≡ k.clients
-  pub plan : c.plan ≡ k.plan
 
 abbrev pub own_key : Height → Secret → SignKey
 own_key lms s = key.Secret (record { height = lms; id = s.id; seed = s.seed })

@@ -11,9 +11,10 @@ use Rattle.ab_run.specs.Replicas.{is_spent, turns}
 use Rattle.ab_run.specs.Local.{rep_after, rep_sends}
 use Rattle.ab_replica.specs.Sites.{Site, first_site, setup_of, timer_number}
 use Rattle.ab_replica.specs.Doings.{entries_in}
+use Rattle.ab_party.specs.Clusters.{IsSized}
 use Rattle.ab_loop.specs.Cores.{NodeEvent, invoke, message, timeout, Reaction, Rules}
 use Rattle.ab_party.specs.Credentials.{Credentials, sealed_all}
-use Rattle.ab_node.specs.Keys.{IsClusterOf, credentials_in, opened}
+use Rattle.ab_node.specs.Keys.{credentials_in, opened}
 
 -- where it is, and what it opens and seals by
 pub record ReplicaMember (P : Type 0) : Type 0 where
@@ -70,5 +71,5 @@ first_replica proto c k r = record { site = first_site proto c r (leaves_of (cre
 -- replica r of these keys before its first event
 pub record IsFirstReplica {P : Type 0} (proto : Proto P) (k : PartyKeys) (r : ℕ) (m : ReplicaMember P) : Type 0 where
   pub cluster : Cluster
-  pub of_keys : IsClusterOf cluster k
+  pub of_keys : IsSized cluster k.f k.clients k.plan
   pub is : m ≡ first_replica proto cluster k r

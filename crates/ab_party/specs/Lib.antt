@@ -1,4 +1,5 @@
 -- The definitions that the contracts of this crate cite.
+pub mod Clusters
 pub mod Credentials
 pub mod Cues
 pub mod Parties

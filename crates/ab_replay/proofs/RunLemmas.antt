@@ -19,6 +19,7 @@ use Rattle.ab_num.proofs.Lists.{length-slice_set}
 use Rattle.ab_text.specs.declared.event.Core.{Core as CoreName}
 use Rattle.ab_text.specs.declared.event.Event.TheVariants.{Invoke, Deliver, Timeout, Inject}
 use Rattle.ab_msg.specs.Packets.{Packet}
+use Rattle.ab_party.specs.Clusters.{IsSized}
 use Rattle.ab_world.specs.Packets.{nth}
 use Rattle.ab_run.specs.Local.{Cue}
 use Rattle.ab_party.specs.declared.fault.CommandFault.{CommandFault}
@@ -35,7 +36,7 @@ use Rattle.ab_world.specs.Steps.{WorldCause, Happening, ready, ready_in, happeni
 use Rattle.ab_world.specs.Worlds.{World, start}
 use Rattle.ab_replay.specs.declared.fault.ReplayFault.{ReplayFault}
 use Rattle.ab_replay.specs.declared.fault.ReplayFault.TheVariants.{Read, TooLong, Refused, TooManyEvents, TooManyPackets, OutOfMemory}
-use Rattle.ab_replay.specs.Replays.{IsClusterOf, RunsTo, run_in, setup_in, proto_of, head_lines, EventsCause, TextCause, counts_behind, counts_of, fault_of_step}
+use Rattle.ab_replay.specs.Replays.{RunsTo, run_in, setup_in, proto_of, head_lines, EventsCause, TextCause, counts_behind, counts_of, fault_of_step}
 
 -- ---- how many replicas a world has
 
@@ -225,13 +226,13 @@ pub runs_schedule : {P : Type 0} (proto : Proto P) (head : Head) (events es : Li
     → outcome proto 1 w es ≡ end → run_in proto head.cluster (script_of head events) ≡ end
 runs_schedule proto head events es w end begins same is = ap (λ v. outcome proto 1 v events) (sym begins) ∙ ap (outcome proto 1 w) (sym same) ∙ is
 
-pub sized_so : (head : Head) (events : List Event) → IsClusterOf head.cluster (script_of head events)
+pub sized_so : (head : Head) (events : List Event) → IsSized head.cluster (script_of head events).f (script_of head events).clients (script_of head events).plan
 sized_so head events = record { f = refl; clients = refl; plan = refl }
 
 -- ---- refusals
 
 -- what stops the events of a schedule stops the text
-pub stops_text : (e : ReplayFault) (text : List ℕ) (s : Script) (c : Cluster) (line : ℕ) → IsClusterOf c s → ReadsText text (Ok s) → length s.events < 100001 → line ≡ head_lines s
+pub stops_text : (e : ReplayFault) (text : List ℕ) (s : Script) (c : Cluster) (line : ℕ) → IsSized c s.f s.clients s.plan → ReadsText text (Ok s) → length s.events < 100001 → line ≡ head_lines s
     → EventsCause e line (run_in (proto_of s.service) c s) → TextCause e text
 stops_text (Refused r) text s c line sized reads few at (n, f, stopped, refuses) = inr (record {
   schedule = s;

@@ -1,5 +1,5 @@
 -- Replays of schedules.
-use Rattle.std.specs.Prelude.{◌≡◌, ◌⊎◌, ◌↔◌, ⊤, ℕ, ◌+◌, ◌<◌, Bool, IsTrue, if◌then◌else◌, Option, None, Some, List, [], ◌∷◌, Result, Ok, Err, length}
+use Rattle.std.specs.Prelude.{◌≡◌, ◌⊎◌, ◌↔◌, ⊤, ℕ, ◌+◌, ◌<◌, Bool, IsTrue, if◌then◌else◌, Option, List, [], ◌∷◌, Result, Ok, Err, length}
 use Rattle.ab_num.specs.declared.party.Party.TheVariants.{Replica}
 use Rattle.ab_num.specs.declared.plan.ServiceName.{ServiceName}
 use Rattle.ab_num.specs.declared.plan.ServiceName.TheVariants.{Echo, Kv}
@@ -16,6 +16,7 @@ use Rattle.ab_kv.specs.KvMachines.{kv_machine}
 use Rattle.ab_num.specs.declared.cluster.Cluster.{Cluster}
 use Rattle.ab_abs.specs.Ensembles.{Proto}
 use Rattle.ab_replica.specs.Sites.{Site}
+use Rattle.ab_party.specs.Clusters.{IsSized}
 use Rattle.ab_cast.specs.Setups.{Setup, is_bad}
 use Rattle.ab_world.specs.declared.fault.WorldFault.{WorldFault}
 use Rattle.ab_world.specs.declared.fault.WorldFault.TheVariants as world_fault
@@ -38,12 +39,6 @@ use Rattle.ab_io.specs.Causes.{Rose}
 abbrev pub proto_of : ServiceName → Proto Any
 proto_of Echo = any echo_machine
 proto_of Kv = any kv_machine
-
--- the cluster of a schedule
-pub record IsClusterOf (c : Cluster) (s : Script) : Type 0 where
-  pub f : c.f ≡ s.f
-  pub clients : c.clients ≡ s.clients
-  pub plan : c.plan ≡ s.plan
 
 abbrev pub setup_in : Cluster → Script → Setup
 setup_in c s = record { cluster = c; faulty = s.faulty; lms = s.lms }
@@ -69,7 +64,7 @@ counts_in proto c s = counts_of proto (start proto (setup_in c s)) s.events
 -- the run of a schedule, in its cluster, comes to this
 pub record RunsTo {P : Type 0} (proto : Proto P) (s : Script) (r : Result (World P) (ℕ × WorldFault)) : Type 0 where
   pub cluster : Cluster
-  pub sized : IsClusterOf cluster s
+  pub sized : IsSized cluster s.f s.clients s.plan
   pub runs : run_in proto cluster s ≡ r
 
 abbrev pub Runs : Script → Result (World Any) (ℕ × WorldFault) → Type 0
@@ -93,7 +88,7 @@ report_of proto w = report_text w.lines (logs_from proto w.cast.setup 0 w.cast.r
 -- the run of a schedule with a service, by a protocol, leads here, and this is its report, which tells of that run
 pub record Performs {S P : Type 0} (machine : Machine S) (proto : Proto P) (s : Script) (report : List ℕ) (held : Bool) : Type 0 where
   pub cluster : Cluster
-  pub sized : IsClusterOf cluster s
+  pub sized : IsSized cluster s.f s.clients s.plan
   pub end : World P
   pub runs : run_in proto cluster s ≡ Ok end
   pub reports : report ≡ report_of proto end

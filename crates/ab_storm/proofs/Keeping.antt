@@ -6,6 +6,7 @@ use Rattle.ab_text.specs.declared.event.Event.{Event}
 use Rattle.ab_text.specs.EventLines.{IsEvent}
 use Rattle.ab_words.specs.Commands.{StormCommand}
 use Rattle.ab_abs.specs.Ensembles.{Proto}
+use Rattle.ab_party.specs.Clusters.{IsSized}
 use Rattle.ab_cast.specs.Setups.{Setup}
 use Rattle.ab_storm.specs.Storms.{Storm}
 use Rattle.ab_world.specs.declared.fault.WorldFault.{WorldFault}
@@ -14,7 +15,7 @@ use Rattle.ab_world.specs.Steps.{stepped}
 use Rattle.ab_world.specs.Worlds.{World, start}
 use Rattle.ab_storm.specs.declared.running.StormFault.{StormFault}
 use Rattle.ab_storm.specs.declared.running.StormFault.TheVariants.{OutOfMemory}
-use Rattle.ab_storm.specs.Runs.{drawn_at, drawn_behind, drawn_events, events_in, run_in, storm_of, storm_setup, IsClusterOf, StepCause, EndCause, StormCause}
+use Rattle.ab_storm.specs.Runs.{drawn_at, drawn_behind, drawn_events, events_in, run_in, storm_of, storm_setup, StepCause, EndCause, StormCause}
 use Rattle.ab_storm.proofs.StormLemmas.{all_drawn, ends_storm}
 use Rattle.ab_storm.specs.Drawn.{Draws}
 
@@ -59,12 +60,12 @@ module _ {P : Type 0} (proto : Proto P) where
 pub sets_own : (x : Setup) (c : Cluster) → x ≡ storm_setup c → x ≡ storm_setup x.cluster
 sets_own x c sets = sets ∙ ap (λ (y : Setup). storm_setup y.cluster) (sym sets)
 
-pub sized_own : (x : Setup) (c : Cluster) (k : StormCommand) → x ≡ storm_setup c → IsClusterOf c k → IsClusterOf x.cluster k
-sized_own x c k sets sized = subst (λ (y : Setup). IsClusterOf y.cluster k) (sym sets) sized
+pub sized_own : (x : Setup) (c : Cluster) (k : StormCommand) → x ≡ storm_setup c → IsSized c k.f k.clients k.plan → IsSized x.cluster k.f k.clients k.plan
+sized_own x c k sets sized = subst (λ (y : Setup). IsSized y.cluster k.f k.clients k.plan) (sym sets) sized
 
 -- where its cluster is set up, and the storm and the world are those before the first event
 module _ {P : Type 0} (proto : Proto P) (k : StormCommand) (x : Setup) (w : World P) (s : Storm) (seed events : ℕ)
-    (sized : IsClusterOf x.cluster k) (sets : x ≡ storm_setup x.cluster) (starts : w ≡ start proto x) (from : s ≡ storm_of x.cluster seed) (seeded : seed ≡ k.seed) (many : events ≡ k.events) where
+    (sized : IsSized x.cluster k.f k.clients k.plan) (sets : x ≡ storm_setup x.cluster) (starts : w ≡ start proto x) (from : s ≡ storm_of x.cluster seed) (seeded : seed ≡ k.seed) (many : events ≡ k.events) where
   starts_so : w ≡ start proto (storm_setup x.cluster)
   starts_so = starts ∙ ap (start proto) sets
 

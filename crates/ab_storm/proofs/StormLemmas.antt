@@ -6,6 +6,7 @@ use Rattle.ab_num.specs.Bounds.{IsInBounds}
 use Rattle.ab_num.specs.declared.cluster.Cluster.{Cluster}
 use Rattle.ab_num.specs.declared.plan.Plan.{Plan}
 use Rattle.ab_abs.specs.Ensembles.{Proto}
+use Rattle.ab_party.specs.Clusters.{IsSized}
 use Rattle.ab_cast.specs.Setups.{Setup}
 use Rattle.ab_text.specs.declared.event.Event.{Event}
 use Rattle.ab_words.specs.Commands.{StormCommand}
@@ -18,7 +19,7 @@ use Rattle.ab_world.specs.Worlds.{World, start}
 use Rattle.ab_storm.specs.declared.running.StormFault.{StormFault}
 use Rattle.ab_storm.specs.declared.running.StormFault.TheVariants.{TooManyPackets, OutOfMemory}
 use Rattle.ab_storm.specs.Standing.{Goes}
-use Rattle.ab_storm.specs.Runs.{end_of, idle_of, drawn_at, drawn_behind, drawn_events, storm_setup, storm_of, run_in, IsClusterOf, StormsTo, StepCause, EndCause, StormCause}
+use Rattle.ab_storm.specs.Runs.{end_of, idle_of, drawn_at, drawn_behind, drawn_events, storm_setup, storm_of, run_in, StormsTo, StepCause, EndCause, StormCause}
 use Rattle.ab_storm.proofs.DrawLemmas.{refused_for, goes_on, storm_goes}
 
 -- ---- clusters of one size
@@ -200,6 +201,6 @@ module _ {P : Type 0} (proto : Proto P) (c : Cluster) (x : Setup) (w : World P) 
       sym (λ j. outcome proto 1 (starts_so j) (drawn_events proto (many j) (begins j) (starts_so j))) ∙ is
 
 -- what ends its run ends the storm
-pub ends_storm : {P : Type 0} (proto : Proto P) (k : StormCommand) (c : Cluster) (e : StormFault) → IsClusterOf c k → EndCause e (run_in proto c k) → StormCause proto e k
+pub ends_storm : {P : Type 0} (proto : Proto P) (k : StormCommand) (c : Cluster) (e : StormFault) → IsSized c k.f k.clients k.plan → EndCause e (run_in proto c k) → StormCause proto e k
 ends_storm proto k c TooManyPackets sized (n, runs) = (n, record { cluster = c; sized = sized; runs = runs })
 ends_storm proto k c OutOfMemory sized cause = tt

@@ -5,14 +5,15 @@ use Rattle.ab_text.specs.declared.event.Event.{Event}
 use Rattle.ab_text.specs.EventLines.{IsEvent}
 use Rattle.ab_words.specs.Commands.{StormCommand}
 use Rattle.ab_abs.specs.Ensembles.{Proto}
+use Rattle.ab_party.specs.Clusters.{IsSized}
 use Rattle.ab_world.specs.Worlds.{World}
-use Rattle.ab_storm.specs.Runs.{events_in, run_in, IsClusterOf}
+use Rattle.ab_storm.specs.Runs.{events_in, run_in}
 
 -- these are the events that the storm draws that is asked for, and they lead to this world. They are as many as it asks for, and each has
 -- a line in a schedule
 pub record Draws {P : Type 0} (proto : Proto P) (k : StormCommand) (events : List Event) (end : World P) : Type 0 where
   pub cluster : Cluster
-  pub sized : IsClusterOf cluster k
+  pub sized : IsSized cluster k.f k.clients k.plan
   pub drawn : events ≡ events_in proto cluster k
   pub all : length events ≡ k.events
   pub runs : run_in proto cluster k ≡ Ok end

@@ -6,6 +6,7 @@ use Rattle.ab_num.specs.declared.plan.Height.TheVariants.{Ten}
 use Rattle.ab_text.specs.declared.event.Event.{Event}
 use Rattle.ab_text.specs.declared.line.Premise.TheVariants.{Held}
 use Rattle.ab_words.specs.Commands.{StormCommand}
+use Rattle.ab_party.specs.Clusters.{IsSized}
 use Rattle.ab_storm.specs.Storms.{Storm, next_of}
 use Rattle.ab_svc.specs.Machines.{Machine}
 use Rattle.ab_abs.specs.Ensembles.{Proto}
@@ -43,12 +44,6 @@ drawn_events proto (suc n) s w = (drawn_at s w).0 ∷ drawn_behind (stepped prot
 
 -- ---- the run of a storm
 
--- the cluster that is asked for
-pub record IsClusterOf (c : Cluster) (k : StormCommand) : Type 0 where
-  pub f : c.f ≡ k.f
-  pub clients : c.clients ≡ k.clients
-  pub plan : c.plan ≡ k.plan
-
 -- a storm's cluster, in which no party is faulty
 abbrev pub storm_setup : Cluster → Setup
 storm_setup c = record { cluster = c; faulty = []; lms = Ten }
@@ -67,7 +62,7 @@ run_in proto c k = outcome proto 1 (start proto (storm_setup c)) (events_in prot
 -- the run of the storm that is asked for comes to this
 pub record StormsTo {P : Type 0} (proto : Proto P) (k : StormCommand) (r : Result (World P) (ℕ × WorldFault)) : Type 0 where
   pub cluster : Cluster
-  pub sized : IsClusterOf cluster k
+  pub sized : IsSized cluster k.f k.clients k.plan
   pub runs : run_in proto cluster k ≡ r
 
 -- ---- what is told
@@ -75,7 +70,7 @@ pub record StormsTo {P : Type 0} (proto : Proto P) (k : StormCommand) (r : Resul
 -- the storm that is asked for draws all its events, and this is the summary of their run, which tells of that run
 pub record Storms {S P : Type 0} (machine : Machine S) (proto : Proto P) (k : StormCommand) (summary : List ℕ) (held : Bool) : Type 0 where
   pub cluster : Cluster
-  pub sized : IsClusterOf cluster k
+  pub sized : IsSized cluster k.f k.clients k.plan
   pub all : length (events_in proto cluster k) ≡ k.events
   pub end : World P
   pub runs : run_in proto cluster k ≡ Ok end

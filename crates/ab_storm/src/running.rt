@@ -6,8 +6,9 @@ ghost use Rattle.ab_text.specs.EventLines.{IsEvent};
 ghost use Rattle.ab_world.specs.Runs.{outcome};
 ghost use Rattle.ab_world.specs.Steps.{stepped};
 ghost use Rattle.ab_world.specs.Worlds.{World as TheWorld};
+ghost use Rattle.ab_party.specs.Clusters.{IsSized};
 ghost use Rattle.ab_storm.specs.Standing.{Goes};
-ghost use Rattle.ab_storm.specs.Runs.{idle_of, drawn_at, drawn_events, end_of, storm_setup, IsClusterOf, StepCause, EndCause, StormCause};
+ghost use Rattle.ab_storm.specs.Runs.{idle_of, drawn_at, drawn_events, end_of, storm_setup, StepCause, EndCause, StormCause};
 ghost use Rattle.ab_storm.specs.Drawn.{Draws};
 
 use crate::generator::Storm;
@@ -135,7 +136,7 @@ fn storm_over<S: Service, P: Protocol<S>>(
     requires served { (i : ℕ) → 1 ≤ i → IsTrue (P.serves (kind_of asked.now.plan i)) }
     requires few { asked.now.events ≤ 100000 }
     requires setup { setup ≡ storm_setup setup.cluster }
-    requires sized { IsClusterOf setup.cluster asked.now }
+    requires sized { IsSized setup.cluster asked.now.f asked.now.clients asked.now.plan }
     ensures ok { IfOk result (λ s. Draws P.proto asked.now s.events s.world) }
     ensures replicas { IfOk result (λ s. length s.world.cast.replicas ≡ 3 * s.world.cast.setup.cluster.f + 1) }
     ensures cause { IfErr result (λ e. StormCause P.proto e asked.now) }
