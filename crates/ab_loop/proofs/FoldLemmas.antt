@@ -9,7 +9,7 @@ use Rattle.std.proofs.lemmas.Option.{none-some, same_Some}
 use Rattle.arrayvec.specs.ArrayVec.{ArrayVec}
 use Rattle.ab_piece.specs.Joining.{Answer, dropped, more, step_of, whole}
 use Rattle.ab_loop.specs.declared.party_core.Commit.{Commit}
-use Rattle.ab_loop.specs.declared.node_setting.NodeSetting.{NodeSetting}
+use Rattle.ab_loop.specs.Settings.{NodeSetting}
 use Rattle.ab_loop.specs.Cores.{NodeEvent, Rules, invoke, message, timeout}
 use Rattle.ab_msg.specs.Packets.{Packet}
 use Rattle.ab_loop.specs.Edges.{capped}

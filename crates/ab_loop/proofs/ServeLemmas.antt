@@ -7,7 +7,7 @@ use Rattle.ab_io.specs.States.{ClockState, LinkState, SinkState}
 use Rattle.ab_loop.specs.declared.fault.ServeFault.{ServeFault}
 use Rattle.ab_loop.specs.declared.fault.ServeFault.TheVariants as fault
 use Rattle.ab_loop.specs.declared.serving.Served.{Served}
-use Rattle.ab_loop.specs.declared.node_setting.NodeSetting.{NodeSetting}
+use Rattle.ab_loop.specs.Settings.{NodeSetting}
 use Rattle.ab_loop.specs.Cores.{Rules}
 use Rattle.ab_loop.specs.Edges.{capped, Effects, writing, both, Edge, edge, grown, DidAll, DidPart, SaysPart, SayFault, Rises, Counted}
 use Rattle.ab_loop.specs.Texts.{end_text}

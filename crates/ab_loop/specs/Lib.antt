@@ -4,4 +4,5 @@ pub mod Edges
 pub mod Folds
 pub mod Nodes
 pub mod Runs
+pub mod Settings
 pub mod Texts

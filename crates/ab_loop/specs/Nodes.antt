@@ -14,7 +14,7 @@ use Rattle.ab_loop.specs.Cores.{NodeEvent, invoke, message, timeout, Reaction, R
 use Rattle.ab_msg.specs.Packets.{Packet}
 use Rattle.ab_loop.specs.Edges.{capped, Effects, nothing, writing, sending, both, Edge, Does, Counted}
 use Rattle.ab_loop.specs.Texts.{event_text, reply_text}
-use Rattle.ab_loop.specs.declared.node_setting.NodeSetting.{NodeSetting}
+use Rattle.ab_loop.specs.Settings.{NodeSetting}
 
 -- ---- a node's state
 
@@ -51,10 +51,6 @@ abbrev pub and_then : {C : Type 0} → Out C → (Node C → Out C) → Out C
 and_then a f = record { node = (f a.node).node; effects = both a.effects (f a.node).effects; events = a.events ++ (f a.node).events }
 
 -- ---- sending
-
--- the highest port at which ports may begin
-abbrev pub highest_base : ℕ
-highest_base = 65000
 
 abbrev pub port_of : ℕ → Party → ℕ
 port_of base (Replica r) = base + r

@@ -4,7 +4,7 @@ use Rattle.std.specs.Option.{option_map}
 use Rattle.arrayvec.specs.ArrayVec.{ArrayVec}
 use Rattle.ab_io.specs.Readings.{Readings, next_reading, later_readings}
 use Rattle.ab_io.specs.States.{ClockState, LinkState}
-use Rattle.ab_loop.specs.declared.node_setting.NodeSetting.{NodeSetting}
+use Rattle.ab_loop.specs.Settings.{NodeSetting}
 use Rattle.ab_loop.specs.declared.fault.ServeFault.{ServeFault}
 use Rattle.ab_loop.specs.declared.fault.ServeFault.TheVariants as fault
 use Rattle.ab_loop.specs.declared.serving.Served.{Served}

@@ -3,7 +3,7 @@
 ghost use Rattle.std.specs.Prelude.{ℕ, List, Contains};
 ghost use Rattle.arrayvec.specs.ArrayVec.{ArrayVec as Array};
 ghost use Rattle.ab_loop.specs.declared.party_core.Commit.{Commit as TheCommit};
-ghost use Rattle.ab_loop.specs.declared.node_setting.NodeSetting.{NodeSetting as TheSetting};
+ghost use Rattle.ab_loop.specs.Settings.{NodeSetting as TheSetting};
 ghost use Rattle.ab_loop.specs.Folds.{IsOfCore, commits_in, printed_in};
 ghost use Rattle.ab_loop.specs.Nodes.{Turn, first_step, run_after};
 

@@ -3,12 +3,11 @@
 ghost use Rattle.std.specs.Prelude.{◌≡◌, ◌==◌, ◌&&◌, ◌+◌, ◌≤◌, ◌<◌, drop, slice_get, MatchOption, IfOk, OnOk, length, if◌then◌else◌};
 ghost use Rattle.std.specs.declared.option.Option.TheVariants.{None, Some};
 ghost use Rattle.ab_io.specs.Datagrams.{longest_datagram};
-ghost use Rattle.ab_msg.specs.Fields.{IsParty};
 ghost use Rattle.ab_piece.specs.Joining.{answer_of, step_of};
 ghost use Rattle.ab_loop.specs.Cores.{event_of};
 ghost use Rattle.ab_loop.specs.Texts.{reply_text};
 ghost use Rattle.ab_loop.specs.Edges.{Tells, capped, edge};
-ghost use Rattle.ab_loop.specs.Nodes.{Follows, Takes, highest_base, with_joiner, turn_step, command_step, reply_step, deadline_after, next_deadline, event_step, has_expired, is_done, latest, new_node, parcels_of, datagram_step, after_reply, same_timer, timer_step, trace_text};
+ghost use Rattle.ab_loop.specs.Nodes.{Follows, Takes, with_joiner, turn_step, command_step, reply_step, deadline_after, next_deadline, event_step, has_expired, is_done, latest, new_node, parcels_of, datagram_step, after_reply, same_timer, timer_step, trace_text};
 
 use crate::fault::ServeFault;
 use crate::node_setting::NodeSetting;
@@ -88,7 +87,7 @@ fn same_timer(old: Option<u64>, new: Option<u64>) -> bool
 fn next_deadline(setting: &NodeSetting, t: u64) -> u64
     ensures { result ≡ next_deadline setting.now t }
 {
-    t.saturating_add(u64::from(setting.wait))
+    t.saturating_add(u64::from(setting.wait()))
 }
 
 /// The deadline after an event.
@@ -128,10 +127,10 @@ fn announce<O: Sink>(
 ) -> Result<(), ServeFault>
     ensures { Tells (O.state out.old) (O.state out.new) (trace_text setting.now (event_of input.now)) result }
 {
-    if !setting.trace {
+    if !setting.trace() {
         return Ok(());
     }
-    match event_line(alloc, setting.me, input) {
+    match event_line(alloc, setting.me(), input) {
         Ok(line) => say(out, line.as_slice()),
         Err(OutOfMemory) => Err(ServeFault::OutOfMemory),
     }
@@ -197,7 +196,7 @@ impl<K: PartyCore> Node<K> {
     pub(crate) fn is_done(&self, setting: &NodeSetting) -> bool
         ensures { result ≡ is_done setting.now self.now }
     {
-        match setting.me {
+        match setting.me() {
             Party::Replica(_) => false,
             Party::Client(_) => self.done == self.commands.as_slice().len(),
         }
@@ -276,8 +275,6 @@ impl<K: PartyCore> Node<K> {
         t: u64,
         input: &NodeEventRef<'_>,
     ) -> Result<Vec<Parcel>, OutOfMemory>
-        requires base { setting.now.base ≤ highest_base }
-        requires me { IsParty setting.now.me }
         ensures node { OnOk result (self.new ≡ (event_step K.rules setting.now t (event_of input.now) self.old).node) }
         ensures sends { IfOk result (λ v. v.items ≡ parcels_of setting.now self.old.number (K.rules.step self.old.core (event_of input.now)).sends) }
     {
@@ -310,8 +307,6 @@ impl<K: PartyCore> Node<K> {
         link: &mut L,
         out: &mut O,
     ) -> Result<u64, ServeFault>
-        requires base { setting.now.base ≤ highest_base }
-        requires me { IsParty setting.now.me }
         ensures follows { Follows self.new (edge (O.state out.old) (L.state link.old)) (edge (O.state out.new) (L.state link.new))
             (event_step K.rules setting.now t (event_of input.now) self.old) result }
         ensures to_come { (L.state link.new).to_come ≡ (L.state link.old).to_come }
@@ -335,8 +330,6 @@ impl<K: PartyCore> Node<K> {
         link: &mut L,
         out: &mut O,
     ) -> Result<u64, ServeFault>
-        requires base { setting.now.base ≤ highest_base }
-        requires me { IsParty setting.now.me }
         ensures follows { Follows self.new (edge (O.state out.old) (L.state link.old)) (edge (O.state out.new) (L.state link.new))
             (timer_step K.rules setting.now t self.old) result }
         ensures to_come { (L.state link.new).to_come ≡ (L.state link.old).to_come }
@@ -365,8 +358,6 @@ impl<K: PartyCore> Node<K> {
         link: &mut L,
         out: &mut O,
     ) -> Result<u64, ServeFault>
-        requires base { setting.now.base ≤ highest_base }
-        requires me { IsParty setting.now.me }
         ensures follows { Follows self.new (edge (O.state out.old) (L.state link.old)) (edge (O.state out.new) (L.state link.new))
             (datagram_step K.rules setting.now t (Some datagram.now) self.old) result }
         ensures to_come { (L.state link.new).to_come ≡ (L.state link.old).to_come }
@@ -398,8 +389,6 @@ impl<K: PartyCore> Node<K> {
         link: &mut L,
         out: &mut O,
     ) -> Result<u64, ServeFault>
-        requires base { setting.now.base ≤ highest_base }
-        requires me { IsParty setting.now.me }
         ensures follows { Follows self.new (edge (O.state out.old) (L.state link.old)) (edge (O.state out.new) (L.state link.new))
             (command_step K.rules setting.now t self.old) result }
         ensures to_come { (L.state link.new).to_come ≡ (L.state link.old).to_come }
@@ -427,8 +416,6 @@ impl<K: PartyCore> Node<K> {
         link: &mut L,
         out: &mut O,
     ) -> Result<u64, ServeFault>
-        requires base { setting.now.base ≤ highest_base }
-        requires me { IsParty setting.now.me }
         ensures follows { Follows self.new (edge (O.state out.old) (L.state link.old)) (edge (O.state out.new) (L.state link.new))
             (reply_step K.rules setting.now t self.old) result }
         ensures to_come { (L.state link.new).to_come ≡ (L.state link.old).to_come }
@@ -452,13 +439,11 @@ impl<K: PartyCore> Node<K> {
         link: &mut L,
         out: &mut O,
     ) -> Result<u64, ServeFault>
-        requires base { setting.now.base ≤ highest_base }
-        requires me { IsParty setting.now.me }
         requires buf { longest_datagram ≤ length buf.old }
         ensures { Takes (λ got. datagram_step K.rules setting.now t got self.old) self.new
             (edge (O.state out.old) (L.state link.old)) (edge (O.state out.new) (L.state link.new)) result }
     {
-        match link.recv(buf, setting.wait) {
+        match link.recv(buf, setting.wait()) {
             Got::Bytes(n) => self.receive(alloc, setting, t, &buf[..n], link, out),
             Got::Quiet => Ok(0),
             Got::Failed => Err(ServeFault::LinkFailed),
@@ -476,8 +461,6 @@ impl<K: PartyCore> Node<K> {
         link: &mut L,
         out: &mut O,
     ) -> Result<u64, ServeFault>
-        requires base { setting.now.base ≤ highest_base }
-        requires me { IsParty setting.now.me }
         requires buf { longest_datagram ≤ length buf.old }
         ensures { Takes (λ got. turn_step K.rules setting.now (record { reading = t; got = got }) self.old) self.new
             (edge (O.state out.old) (L.state link.old)) (edge (O.state out.new) (L.state link.new)) result }

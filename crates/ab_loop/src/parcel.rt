@@ -4,7 +4,8 @@ ghost use Rattle.std.specs.Prelude.{◌≡◌, ◌+◌, ◌<◌, ◌≤◌, All,
 ghost use Rattle.ab_msg.specs.Fields.{IsParty};
 ghost use Rattle.ab_msg.specs.Packets.{IsSendable};
 ghost use Rattle.ab_loop.specs.Edges.{capped};
-ghost use Rattle.ab_loop.specs.Nodes.{highest_base, port_of, parcel_of, parcels_of, datagrams_in};
+ghost use Rattle.ab_loop.specs.Settings.{highest_base};
+ghost use Rattle.ab_loop.specs.Nodes.{port_of, parcel_of, parcels_of, datagrams_in};
 
 use crate::node_setting::NodeSetting;
 use ab_msg::Packet;
@@ -51,13 +52,11 @@ impl Parcel {
         number: u64,
         m: &Packet,
     ) -> Result<Parcel, OutOfMemory>
-        requires base { setting.now.base ≤ highest_base }
-        requires me { IsParty setting.now.me }
         requires message { IsSendable m.now }
         ensures { IfOk result (λ p. p ≡ parcel_of setting.now number m.now) }
     {
-        let port = port_of(setting.base, m.to());
-        let pieces = cut(alloc, setting.me, number, m.bytes())?;
+        let port = port_of(setting.base(), m.to());
+        let pieces = cut(alloc, setting.me(), number, m.bytes())?;
         Ok(Parcel { port, pieces })
     }
 
@@ -84,8 +83,6 @@ pub(crate) fn parcels(
     number: u64,
     messages: &[Packet],
 ) -> Result<Vec<Parcel>, OutOfMemory>
-    requires base { setting.now.base ≤ highest_base }
-    requires me { IsParty setting.now.me }
     requires messages { All IsSendable messages.now }
     ensures { IfOk result (λ v. v.items ≡ parcels_of setting.now number messages.now) }
 {

@@ -2,9 +2,7 @@
 
 ghost use Rattle.std.specs.Prelude.{◌≡◌, ◌≤◌, IfOk, IfErr, length};
 ghost use Rattle.ab_io.specs.Datagrams.{longest_datagram};
-ghost use Rattle.ab_msg.specs.Fields.{IsParty};
 ghost use Rattle.ab_loop.specs.Edges.{Tells, edge};
-ghost use Rattle.ab_loop.specs.Nodes.{highest_base};
 ghost use Rattle.ab_loop.specs.Texts.{end_text};
 ghost use Rattle.ab_loop.specs.Runs.{HasServed, HasBroken, HasRun, ShowsNumbers, ShowsOpen, HasFaultOf, start_of};
 
@@ -55,8 +53,6 @@ fn drive<K: PartyCore, L: Link, C: Clock, O: Sink>(
     clock: &mut C,
     out: &mut O,
 ) -> Result<(Node<K>, u64), ServeFault>
-    requires base { setting.now.base ≤ highest_base }
-    requires me { IsParty setting.now.me }
     requires buf { longest_datagram ≤ length buf.old }
     ensures ok { IfOk result (λ r. HasRun K.rules (start_of setting.now turns core commands (C.state clock.old) (L.state link.old))
         (edge (O.state out.old) (L.state link.old)) (edge (O.state out.new) (L.state link.new)) r.0 r.1) }
@@ -109,8 +105,6 @@ fn run<K: PartyCore, L: Link, C: Clock, O: Sink>(
     clock: &mut C,
     out: &mut O,
 ) -> Result<Served, ServeFault>
-    requires base { setting.now.base ≤ highest_base }
-    requires me { IsParty setting.now.me }
     requires buf { longest_datagram ≤ length buf.old }
     ensures ok { IfOk result (λ served. HasServed K.rules (start_of setting.now turns core commands (C.state clock.old) (L.state link.old))
         (edge (O.state out.old) (L.state link.old)) (edge (O.state out.new) (L.state link.new)) served) }
@@ -135,8 +129,6 @@ pub fn serve<K: PartyCore, L: Link, C: Clock, O: Sink>(
     clock: &mut C,
     out: &mut O,
 ) -> Result<Served, ServeFault>
-    requires base { job.setting.base ≤ highest_base }
-    requires me { IsParty job.setting.me }
     ensures ok { IfOk result (λ served. HasServed K.rules (start_of job.setting job.turns job.core job.commands (C.state clock.old) (L.state link.old))
         (edge (O.state out.old) (L.state link.old)) (edge (O.state out.new) (L.state link.new)) served) }
     ensures err { IfErr result (λ why. HasFaultOf K.rules (start_of job.setting job.turns job.core job.commands (C.state clock.old) (L.state link.old))
@@ -151,7 +143,7 @@ pub fn serve<K: PartyCore, L: Link, C: Clock, O: Sink>(
     let Ok(mut buf) = Vec::from_elem(alloc, 0u8, LONGEST_DATAGRAM) else {
         return Err(ServeFault::OutOfMemory);
     };
-    match link.open(port_of(setting.base, setting.me)) {
+    match link.open(port_of(setting.base(), setting.me())) {
         Ok(()) => run(
             alloc, core, &setting, commands, turns, &mut buf, link, clock, out,
         ),
@@ -168,7 +160,7 @@ fn ended<K: PartyCore>(
     ensures ok { IfOk result (λ served. ShowsNumbers setting.now node.now lost served) }
     ensures err { IfErr result (λ why. ShowsOpen setting.now node.now why) }
 {
-    match setting.me {
+    match setting.me() {
         Party::Replica(_) => Ok(numbers(node, lost)),
         Party::Client(_) => {
             let unanswered = node.unanswered();

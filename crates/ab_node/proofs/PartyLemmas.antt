@@ -4,7 +4,7 @@ use Rattle.arrayvec.specs.ArrayVec.{ArrayVec}
 use Rattle.ab_num.specs.declared.party.Party.{Party}
 use Rattle.ab_loop.specs.declared.fault.ServeFault.{ServeFault}
 use Rattle.ab_loop.specs.declared.serving.Served.{Served}
-use Rattle.ab_loop.specs.declared.node_setting.NodeSetting.{NodeSetting}
+use Rattle.ab_loop.specs.Settings.{NodeSetting}
 use Rattle.ab_loop.specs.Cores.{Rules}
 use Rattle.ab_loop.specs.Runs.{HasServed, HasFaultOf, Start, start_of}
 use Rattle.ab_node.specs.Nodes.{NodeCall, CoreServed, CoreStopped, as_command, setting_of, start_with}

@@ -14,7 +14,7 @@ use Rattle.ab_words.specs.Commands.{NodeCommand}
 use Rattle.ab_abs.specs.Ensembles.{Proto}
 use Rattle.ab_loop.specs.declared.fault.ServeFault.{ServeFault}
 use Rattle.ab_loop.specs.declared.serving.Served.{Served}
-use Rattle.ab_loop.specs.declared.node_setting.NodeSetting.{NodeSetting}
+use Rattle.ab_loop.specs.Settings.{NodeSetting}
 use Rattle.ab_loop.specs.Cores.{Rules}
 use Rattle.ab_loop.specs.Edges.{Edge}
 use Rattle.ab_loop.specs.Runs.{HasFaultOf, HasServed, Start, start_of}

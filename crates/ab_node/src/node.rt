@@ -6,7 +6,6 @@ ghost use Rattle.ab_keys.specs.Keys.{is_party};
 ghost use Rattle.ab_key_text.specs.Keys.{IsWhole};
 ghost use Rattle.ab_io.specs.States.{change};
 ghost use Rattle.ab_loop.specs.Edges.{edge};
-ghost use Rattle.ab_loop.specs.Nodes.{highest_base};
 ghost use Rattle.ab_msg.specs.Fields.{IsParty};
 ghost use Rattle.ab_replay.specs.Protocols.{any};
 ghost use Rattle.ab_replay.specs.Streams.{IsInput};
@@ -27,14 +26,12 @@ use std::alloc::Global;
 
 /// What the node is told once.
 fn setting_of(asked: &NodeCommand, me: Party) -> NodeSetting
-    ensures value { result ≡ setting_of asked.now me }
-    ensures bound { result.base ≤ highest_base }
+    requires { IsParty me }
+    ensures { result ≡ setting_of asked.now me }
 {
-    NodeSetting {
-        me,
-        base: asked.base(),
-        wait: u32::from(asked.wait()),
-        trace: asked.trace(),
+    match NodeSetting::new(me, asked.base(), u32::from(asked.wait()), asked.trace()) {
+        Some(setting) => setting,
+        None => unreachable!(),
     }
 }
 

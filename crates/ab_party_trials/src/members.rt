@@ -1,7 +1,6 @@
 //! The node of a client, whose four replicas answer.
 
-ghost use Rattle.std.specs.Prelude.{◌≡◌, ◌<◌, IfOk, IfSome, IsTrue, replicate};
-ghost use Rattle.ab_num.specs.declared.party.Party.TheVariants.{Client};
+ghost use Rattle.std.specs.Prelude.{◌≡◌, ◌<◌, IfOk, IsTrue, replicate};
 ghost use Rattle.ab_num.specs.declared.plan.Plan.TheVariants.{Quorum as QuorumPlan};
 ghost use Rattle.ab_num.specs.declared.plan.ServiceName.TheVariants.{Kv as KvService};
 ghost use Rattle.ab_num.specs.declared.plan.Height.TheVariants.{Five};
@@ -153,9 +152,8 @@ fn commands(alloc: Global) -> Option<Commands> {
     Some(commands)
 }
 
-fn job(alloc: Global, turns: u64) -> Option<Job<ClientMember>>
-    ensures { IfSome result (λ j. (j.setting.base ≡ 9000) × (j.setting.me ≡ Client 0)) }
-{
+fn job(alloc: Global, turns: u64) -> Option<Job<ClientMember>> {
+    let setting = NodeSetting::new(Party::Client(0), 9000, 50, false)?;
     let commands = commands(alloc)?;
     let Ok(core) = client(alloc) else {
         drop(commands);
@@ -163,12 +161,7 @@ fn job(alloc: Global, turns: u64) -> Option<Job<ClientMember>>
     };
     Some(Job {
         core,
-        setting: NodeSetting {
-            me: Party::Client(0),
-            base: 9000,
-            wait: 50,
-            trace: false,
-        },
+        setting,
         commands,
         turns,
     })

@@ -1,7 +1,7 @@
 //! A node over links and clocks in memory.
 
-ghost use Rattle.std.specs.Prelude.{◌≡◌, [], ◌∷◌, IfOk, IfSome};
-ghost use Rattle.ab_num.specs.declared.party.Party.TheVariants.{Replica, Client};
+ghost use Rattle.std.specs.Prelude.{◌≡◌, [], ◌∷◌, IfOk};
+ghost use Rattle.ab_num.specs.declared.party.Party.TheVariants.{Replica};
 ghost use Rattle.ab_wire_trials.specs.Toys.{asks};
 
 use ab_hist::array_of;
@@ -99,19 +99,12 @@ impl PartyCore for ToyCore {
     }
 }
 
-fn job(alloc: Global, turns: u64, trace: bool) -> Option<Job<ToyCore>>
-    ensures { IfSome result (λ j. (j.setting.base ≡ 9000) × (j.setting.me ≡ Client 0)) }
-{
+fn job(alloc: Global, turns: u64, trace: bool) -> Option<Job<ToyCore>> {
     let mut commands = Commands::new(alloc);
     commands.push(array_of(b"put a 1")).ok()?;
     Some(Job {
         core: ToyCore { stamp: 0, votes: 0 },
-        setting: NodeSetting {
-            me: Party::Client(0),
-            base: 9000,
-            wait: 50,
-            trace,
-        },
+        setting: NodeSetting::new(Party::Client(0), 9000, 50, trace)?,
         commands,
         turns,
     })
@@ -119,6 +112,19 @@ fn job(alloc: Global, turns: u64, trace: bool) -> Option<Job<ToyCore>>
 
 fn clock(alloc: Global) -> MemClock {
     MemClock::new(Vec::new(alloc))
+}
+
+fn is_taken(me: Party, base: u16) -> bool {
+    NodeSetting::new(me, base, 50, false).is_some()
+}
+
+#[test]
+fn a_setting_is_of_a_party_and_leaves_each_a_port(rt: HostRuntime) {
+    assert!(rt; is_taken(Party::Replica(6), 65_000));
+    assert!(rt; !is_taken(Party::Replica(6), 65_001));
+    assert!(rt; !is_taken(Party::Replica(7), 9000));
+    assert!(rt; is_taken(Party::Client(15), 1));
+    assert!(rt; !is_taken(Party::Client(16), 1));
 }
 
 #[test]
