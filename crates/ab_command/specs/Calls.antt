@@ -15,4 +15,4 @@ call words met = record { words = words; met = met }
 
 -- what a node met that was asked for
 abbrev pub call_of : NodeCommand → Call → NodeCall
-call_of k c = node_call k c.met.clock.before (edge c.met.out.before c.met.link.before) (edge c.met.out.after c.met.link.after)
+call_of k c = node_call k c.met.clock (edge c.met.out.before c.met.link.before) (edge c.met.out.after c.met.link.after)

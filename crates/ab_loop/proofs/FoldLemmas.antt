@@ -7,15 +7,17 @@ use Rattle.std.proofs.lemmas.Grind.{flat_map-append}
 use Rattle.std.proofs.lemmas.List.Elements.{Contains-append_left, Contains-append_right}
 use Rattle.std.proofs.lemmas.Option.{none-some, same_Some}
 use Rattle.arrayvec.specs.ArrayVec.{ArrayVec}
+use Rattle.ab_io.specs.Datagrams.{Datagram}
 use Rattle.ab_piece.specs.Joining.{Answer, dropped, more, step_of, whole}
 use Rattle.ab_loop.specs.declared.party_core.Commit.{Commit}
 use Rattle.ab_loop.specs.Settings.{NodeSetting}
 use Rattle.ab_loop.specs.Cores.{NodeEvent, Rules, invoke, message, timeout}
 use Rattle.ab_msg.specs.Packets.{Packet}
-use Rattle.ab_loop.specs.Edges.{capped}
+use Rattle.ab_loop.specs.Edges.{capped, handed_in, writing, sending}
 use Rattle.ab_loop.specs.Texts.{reply_text}
-use Rattle.ab_loop.specs.Nodes.{Node, Out, Turn, after_reply, and_then, command_step, datagram_step, datagrams_in, event_step, first_step, has_expired, joined_step, latest, new_node, next_deadline, no_step, parcel_of, parcels_of, reply_step, run_after, text_step, timer_step, turn_step, with_deadline, with_joiner}
+use Rattle.ab_loop.specs.Nodes.{Node, Out, Turn, after_reply, and_then, command_step, datagram_step, datagrams_in, event_step, first_step, has_expired, joined_step, latest, new_node, next_deadline, no_step, parcel_of, parcels_of, reply_step, run_after, text_step, timer_step, trace_text, turn_step, with_deadline, with_joiner}
 use Rattle.ab_loop.specs.Folds.{IsOfCore, commits_in, core_after, printed, printed_in, sends_in, spent_in}
+use Rattle.ab_loop.proofs.DidLemmas.{handed_in-append, handed_in-sending, handed_in-writing}
 
 -- ---- lists of events and of messages
 
@@ -76,10 +78,10 @@ record IsCapped {C : Type 0} (n : Node C) : Type 0 where
 record Steps {C : Type 0} (rules : Rules C) (s : NodeSetting) (n : Node C) (o : Out C) : Type 0 where
   core : o.node.core ≡ core_after rules n.core o.events
   number : o.node.number ≡ capped (n.number + length (sends_in rules n.core o.events))
-  datagrams : o.effects.datagrams ≡ datagrams_in (parcels_of s n.number (sends_in rules n.core o.events))
+  datagrams : handed_in o.effects ≡ datagrams_in (parcels_of s n.number (sends_in rules n.core o.events))
   commit : (c : Commit) → o.node.commit ≡ Some c → (n.commit ≡ Some c) ⊎ Contains (commits_in rules n.core o.events) c
   events : o.node.events ≡ capped (n.events + length o.events)
-  sent : o.node.sent ≡ capped (n.sent + length o.effects.datagrams)
+  sent : o.node.sent ≡ capped (n.sent + length (handed_in o.effects))
   spent : o.node.spent ≡ capped (n.spent + spent_in rules n.core o.events)
 
 module _ {C : Type 0} (rules : Rules C) (s : NodeSetting) where
@@ -95,10 +97,10 @@ module _ {C : Type 0} (rules : Rules C) (s : NodeSetting) where
   stays n m text within core number commit events sent spent = record {
     core = core;
     number = omega (arith, number, within.number);
-    datagrams = refl;
+    datagrams = handed_in-writing text;
     commit = λ c is. inl (commit c is);
     events = omega (arith, events, within.events);
-    sent = omega (arith, sent, within.sent);
+    sent = omega (arith, sent, within.sent, ap (λ (ds : List Datagram). length ds) (handed_in-writing text));
     spent = omega (arith, spent, within.spent);
   }
 
@@ -110,6 +112,7 @@ module _ {C : Type 0} (rules : Rules C) (s : NodeSetting) where
   then_steps n a f within first second =
       let b = f a.node in
       let here = core_after rules n.core a.events in
+      let handed = handed_in-append a.effects b.effects in
       let sends : sends_in rules n.core (a.events ++ b.events) ≡ sends_in rules n.core a.events ++ sends_in rules here b.events = sends_in-append rules n.core a.events b.events in
       let later_sends : sends_in rules a.node.core b.events ≡ sends_in rules here b.events = ap (λ core. sends_in rules core b.events) first.core in
       let count : length (sends_in rules n.core (a.events ++ b.events)) ≡ length (sends_in rules n.core a.events) + length (sends_in rules a.node.core b.events) =
@@ -121,13 +124,13 @@ module _ {C : Type 0} (rules : Rules C) (s : NodeSetting) where
       record {
         core = second.core ∙ ap (λ core. core_after rules core b.events) first.core ∙ sym (core_after-append rules n.core a.events b.events);
         number = omega (arith, first.number, second.number, count);
-        datagrams = sym (ap (λ (ms : List Packet). datagrams_in (parcels_of s n.number ms)) sends
+        datagrams = handed ∙ sym (ap (λ (ms : List Packet). datagrams_in (parcels_of s n.number ms)) sends
             ∙ ap datagrams_in (parcels_of-append s n.number (sends_in rules n.core a.events) (sends_in rules here b.events) within.number)
             ∙ flat_map-append (λ p. p) (parcels_of s n.number (sends_in rules n.core a.events)) (parcels_of s (capped (n.number + length (sends_in rules n.core a.events))) (sends_in rules here b.events))
             ∙ ap (λ ds. ds ++ datagrams_in (parcels_of s (capped (n.number + length (sends_in rules n.core a.events))) (sends_in rules here b.events))) (sym first.datagrams)
-            ∙ ap (λ k. a.effects.datagrams ++ datagrams_in (parcels_of s k (sends_in rules here b.events))) (sym first.number)
-            ∙ ap (λ (ms : List Packet). a.effects.datagrams ++ datagrams_in (parcels_of s a.node.number ms)) (sym later_sends)
-            ∙ ap (λ ds. a.effects.datagrams ++ ds) (sym second.datagrams));
+            ∙ ap (λ k. handed_in a.effects ++ datagrams_in (parcels_of s k (sends_in rules here b.events))) (sym first.number)
+            ∙ ap (λ (ms : List Packet). handed_in a.effects ++ datagrams_in (parcels_of s a.node.number ms)) (sym later_sends)
+            ∙ ap (λ ds. handed_in a.effects ++ ds) (sym second.datagrams));
         commit = λ c is. elim (second.commit c is) [
           | inl kept ↦ elim (first.commit c kept) [
             | inl before ↦ inl before
@@ -138,9 +141,13 @@ module _ {C : Type 0} (rules : Rules C) (s : NodeSetting) where
               (Contains-append_right (commits_in rules n.core a.events) (commits_in rules here b.events) c (subst (λ core. Contains (commits_in rules core b.events) c) first.core there)))
         ];
         events = omega (arith, first.events, second.events, length-append a.events b.events);
-        sent = omega (arith, first.sent, second.sent, length-append a.effects.datagrams b.effects.datagrams);
+        sent = omega (arith, first.sent, second.sent, ap (λ (ds : List Datagram). length ds) handed, length-append (handed_in a.effects) (handed_in b.effects));
         spent = omega (arith, first.spent, second.spent, spent);
       }
+
+  -- what an event hands over, whatever its line
+  event_hands : (text : List ℕ) (ds : List Datagram) → handed_in (writing text ++ sending ds) ≡ ds
+  event_hands text ds = handed_in-append (writing text) (sending ds) ∙ ap (λ (front : List Datagram). front ++ handed_in (sending ds)) (handed_in-writing text) ∙ handed_in-sending ds
 
   spent_one : (b : Bool) (k : ℕ) → k ≤ 2 ^ 64 - 1 → cond b (capped (k + 1)) k ≡ capped (k + (cond b 1 0 + 0))
   spent_one true k le = omega arith
@@ -150,13 +157,14 @@ module _ {C : Type 0} (rules : Rules C) (s : NodeSetting) where
   unfolding event_step
   event_steps t e n within =
       let sends = (rules.step n.core e).sends in
+      let handed = event_hands (trace_text s e) (datagrams_in (parcels_of s n.number sends)) in
       record {
         core = refl;
         number = ap (λ (ms : List Packet). capped (n.number + length ms)) (sym (append-nil sends));
-        datagrams = ap (λ (ms : List Packet). datagrams_in (parcels_of s n.number ms)) (sym (append-nil sends));
+        datagrams = handed ∙ ap (λ (ms : List Packet). datagrams_in (parcels_of s n.number ms)) (sym (append-nil sends));
         commit = λ c is. latest_in n.commit (rules.step n.core e).commit c is;
         events = refl;
-        sent = refl;
+        sent = ap (λ (ds : List Datagram). capped (n.sent + length ds)) (sym handed);
         spent = spent_one (rules.step n.core e).spent n.spent within.spent;
       }
 

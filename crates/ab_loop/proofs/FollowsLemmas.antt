@@ -1,12 +1,12 @@
 -- Code that goes along a definition, one step after the other.
-use Rattle.std.proofs.Common.{◌≡◌, ℕ, ◌+◌, ◌≤◌, List, [], ◌∷◌, Option, None, Some, Result, Ok, Err, OnOk, IfSome, refl, sym, subst, arith}
+use Rattle.std.proofs.Common.{◌≡◌, ℕ, ◌+◌, ◌≤◌, List, [], ◌∷◌, ◌++◌, Option, None, Some, Result, Ok, Err, OnErr, OnOk, IfSome, refl, sym, subst, arith}
 use Rattle.ab_io.specs.Causes.{Rose}
 use Rattle.ab_io.specs.Datagrams.{Datagram, given_of, Gives}
 use Rattle.ab_io.specs.States.{LinkState, SinkState}
 use Rattle.ab_io.specs.declared.link.Got.TheVariants.{Quiet}
 use Rattle.ab_loop.specs.declared.fault.ServeFault.{ServeFault}
 use Rattle.ab_loop.specs.declared.fault.ServeFault.TheVariants as fault
-use Rattle.ab_loop.specs.Edges.{capped, Effects, writing, sending, both, Edge, edge, grown, DidAll, DidPart, SaysPart, Sends, Does, Rises, FaultCause, Counted, SayFault, SendCause, SendFault}
+use Rattle.ab_loop.specs.Edges.{capped, Effect, writing, sending, Edge, edge, grown, DidAll, DidPart, SaysPart, Sends, Does, Rises, FaultCause, Counted, SayFault, SendCause, SendFault}
 use Rattle.ab_loop.specs.Nodes.{Node, Out, no_step, text_step, and_then, Follows, IsNext}
 use Rattle.ab_loop.proofs.DidLemmas.{all_after, all_nothing, all_said, all_sent, all_then, part_after, part_before, part_first, part_none, part_said, part_sent, part_then}
 
@@ -38,6 +38,10 @@ pub on_ok : {T E P : Type 0} (r : Result T E) → P → OnOk r P
 on_ok (Ok t) p = p
 on_ok (Err e) p = tt
 
+pub on_err : {T E P : Type 0} (r : Result T E) → P → OnErr r P
+on_err (Ok t) p = tt
+on_err (Err e) p = p
+
 pub follows_still : {C : Type 0} (n : Node C) (o : Edge) → Follows n o o (no_step n) (Ok 0)
 follows_still n o = record { node = refl; did = all_nothing o; counted = rises_same o }
 
@@ -50,7 +54,7 @@ follows_both n1 n2 o1 o2 o3 a f l m n e first second =
     let there = subst (λ (x : Node _). Follows n2 o2 o3 (f x) (Ok m)) first.node second in
     record {
       node = there.node;
-      did = subst (λ (x : ℕ). DidAll o1 o3 (both a.effects (f a.node).effects) x) (sym e) (all_then o1 o2 o3 a.effects (f a.node).effects l m first.did there.did);
+      did = subst (λ (x : ℕ). DidAll o1 o3 (a.effects ++ (f a.node).effects) x) (sym e) (all_then o1 o2 o3 a.effects (f a.node).effects l m first.did there.did);
       counted = rises_then o1 o2 o3 l m n e first.counted there.counted;
     }
 
@@ -70,15 +74,15 @@ follows_second_err n1 n2 o1 o2 o3 a f l why first second =
 
 -- ---- one event
 
-done_of : (l : ℕ) (o1 o2 : Edge) (e : Effects) → DidAll o1 o2 e l → capped (0 + l) ≡ l
+done_of : (l : ℕ) (o1 o2 : Edge) (e : List Effect) → DidAll o1 o2 e l → capped (0 + l) ≡ l
 done_of l o1 o2 e d = omega (arith, d.lost_are)
 
 -- the line was written, and then datagrams were handed over
 pub line_then_sends : (a b : SinkState) (k m : LinkState) (text : List ℕ) (ds : List Datagram) (r : Result ℕ ServeFault)
-    → b.held ≡ grown a.held text → Sends k.sent m.sent ds r → Does (edge a k) (edge b m) (both (writing text) (sending ds)) r
+    → b.held ≡ grown a.held text → Sends k.sent m.sent ds r → Does (edge a k) (edge b m) (writing text ++ sending ds) r
 line_then_sends a b k m text ds (Ok l) wrote sends =
     let second = all_sent b k m ds l sends in
-    subst (λ (x : ℕ). DidAll (edge a k) (edge b m) (both (writing text) (sending ds)) x) (done_of l (edge b k) (edge b m) (sending ds) second)
+    subst (λ (x : ℕ). DidAll (edge a k) (edge b m) (writing text ++ sending ds) x) (done_of l (edge b k) (edge b m) (sending ds) second)
     (all_then (edge a k) (edge b k) (edge b m) (writing text) (sending ds) 0 l (all_said a b k text wrote) second)
 line_then_sends a b k m text ds (Err why) wrote sends =
     part_then (edge a k) (edge b k) (edge b m) (writing text) (sending ds) 0 (all_said a b k text wrote) (part_sent b k m ds sends)
@@ -110,12 +114,12 @@ pub line_failed : (a b : SinkState) (l : LinkState) (why : ServeFault) → a.fau
 line_failed a b l why out c = (rises_said a b l out, say_fault why a b l c)
 
 pub line_part : (a b : SinkState) (l : LinkState) (text : List ℕ) (ds : List Datagram) → SaysPart a.held b.held text
-    → DidPart (edge a l) (edge b l) (both (writing text) (sending ds))
+    → DidPart (edge a l) (edge b l) (writing text ++ sending ds)
 line_part a b l text ds p = part_first (edge a l) (edge b l) (writing text) (sending ds) (part_said a b l text p)
 
 -- the line was written, and nothing else
 pub line_alone : (a b : SinkState) (l : LinkState) (text : List ℕ) (ds : List Datagram) → b.held ≡ grown a.held text
-    → DidPart (edge a l) (edge b l) (both (writing text) (sending ds))
+    → DidPart (edge a l) (edge b l) (writing text ++ sending ds)
 line_alone a b l text ds wrote =
     part_then (edge a l) (edge b l) (edge b l) (writing text) (sending ds) 0 (all_said a b l text wrote) (part_none (edge b l) (sending ds))
 
@@ -175,7 +179,7 @@ counted_after out a b o (Err why) later losses c = (
   cause_later why (edge out a) (edge out b) o 0 (record { link = later; out = omega arith; later = omega (arith, losses); losses = omega (arith, losses) }) c.1,
 )
 
-does_after : (out : SinkState) (a b : LinkState) (o : Edge) (e : Effects) (r : Result ℕ ServeFault) → b.sent ≡ a.sent → Does (edge out b) o e r → Does (edge out a) o e r
+does_after : (out : SinkState) (a b : LinkState) (o : Edge) (e : List Effect) (r : Result ℕ ServeFault) → b.sent ≡ a.sent → Does (edge out b) o e r → Does (edge out a) o e r
 does_after out a b o e (Ok m) same d = all_after out a b o e m same d
 does_after out a b o e (Err why) same d = part_after out a b o e same d
 

@@ -1,82 +1,88 @@
 -- A node from its start to its end.
-use Rattle.std.proofs.Common.{◌≡◌, ℕ, ◌+◌, ◌≤◌, ◌==◌, ◌&&◌, List, length, Option, None, Some, Bool, true, false, Err, IfSome, inl, inr, refl, ap, sym, subst, ◌∙◌, eqb-true, arith}
+use Rattle.std.proofs.Common.{◌≡◌, ◌⊎◌, ℕ, ◌+◌, ◌≤◌, ◌==◌, ◌&&◌, List, ◌++◌, length, Option, None, Some, Bool, true, false, Err, inl, inr, refl, ap, sym, subst, ◌∙◌, eqb-true, arith}
 use Rattle.arrayvec.specs.ArrayVec.{ArrayVec}
 use Rattle.ab_io.specs.Causes.{Rose}
-use Rattle.ab_io.specs.Readings.{Readings, next_reading}
+use Rattle.ab_io.specs.Readings.{Readings}
 use Rattle.ab_io.specs.States.{ClockState, LinkState, SinkState}
 use Rattle.ab_loop.specs.declared.fault.ServeFault.{ServeFault}
 use Rattle.ab_loop.specs.declared.fault.ServeFault.TheVariants as fault
 use Rattle.ab_loop.specs.declared.serving.Served.{Served}
 use Rattle.ab_loop.specs.Settings.{NodeSetting}
 use Rattle.ab_loop.specs.Cores.{Rules}
-use Rattle.ab_loop.specs.Edges.{capped, Effects, writing, both, Edge, edge, grown, DidAll, DidPart, SaysPart, SayFault, Rises, Counted}
+use Rattle.ab_loop.specs.Edges.{capped, Effect, writing, Edge, edge, grown, DidAll, DidUntil, SaysPart, SayFault, Rises, Counted}
 use Rattle.ab_loop.specs.Texts.{end_text}
 use Rattle.ab_loop.specs.Nodes.{Node, is_client}
-use Rattle.ab_loop.specs.Runs.{Start, end_of, end_line, start_of, HasRun, HasBroken, NodeRun, NodeFront, HasServed, HasFaultOf, ShowsNumbers, ShowsOpen}
-use Rattle.ab_loop.proofs.DidLemmas.{all_after, all_said, all_then, part_after, part_before, part_first, part_none, part_said, part_then}
+use Rattle.ab_loop.specs.Runs.{Start, end_of, end_line, start_of, HasRun, HasBroken, NeverBegan, BreaksOff, EndsUnsaid, NodeRun, NodeFront, HasServed, HasFaultOf, ShowsNumbers, ShowsOpen}
+use Rattle.ab_loop.proofs.DidLemmas.{all_after, all_said, all_then, part_said}
 use Rattle.ab_loop.proofs.FollowsLemmas.{cause_later, counted_after, rises_after, rises_failed, say_fault}
-use Rattle.ab_loop.proofs.DriveLemmas.{no_turns}
 
 -- ---- before the first event
 
-first_of : Option Readings → ℕ
-first_of None = 0
-first_of (Some r) = next_reading r
+pub nothing_done : {C : Type 0} (rules : Rules C) (x : Start C) (o : Edge) (clock : Option Readings) (why : ServeFault) → clock ≡ x.clock → o.link.to_come ≡ x.link → Counted o o (Err why)
+    → NodeFront rules x o o clock why
+nothing_done rules x o clock why same told c = record { front = inl (record { held = refl; sent = refl; clock_is = same; link_is = told }); counted = c }
 
-first_is : (known : Option Readings) → IfSome known (λ r. first_of known ≡ next_reading r)
-unfolding first_of
-first_is None = tt
-first_is (Some r) = refl
-
-pub nothing_done : {C : Type 0} (rules : Rules C) (x : Start C) (o : Edge) (why : ServeFault) → Counted o o (Err why) → NodeFront rules x o o why
-nothing_done rules x o why c = record {
-  turns = no_turns rules x (first_of x.clock) (first_is x.clock);
-  lost = 0;
-  did = part_none o _;
-  counted = c;
-}
-
-pub not_opened : {C : Type 0} (rules : Rules C) (x : Start C) (out : SinkState) (a b : LinkState) → b.sent ≡ a.sent → b.losses ≡ a.losses → a.faults ≤ b.faults → Rose a.faults b.faults
-    → NodeFront rules x (edge out a) (edge out b) fault.LinkFailed
-not_opened rules x out a b sent losses later rose = record {
-  turns = no_turns rules x (first_of x.clock) (first_is x.clock);
-  lost = 0;
-  did = part_before out a b _ sent;
+pub not_opened : {C : Type 0} (rules : Rules C) (x : Start C) (out : SinkState) (a b : LinkState) (clock : Option Readings) → clock ≡ x.clock → b.to_come ≡ x.link
+    → b.sent ≡ a.sent → b.losses ≡ a.losses → a.faults ≤ b.faults → Rose a.faults b.faults
+    → NodeFront rules x (edge out a) (edge out b) clock fault.LinkFailed
+not_opened rules x out a b clock same told sent losses later rose = record {
+  front = inl (record { held = refl; sent = sent; clock_is = same; link_is = told });
   counted = (rises_failed out a b later losses, rose);
 }
 
 -- ---- a fault in a turn
 
-pub broke_fails : {C : Type 0} (rules : Rules C) (x : Start C) (o1 o2 : Edge) (why : ServeFault) → HasBroken rules x o1 o2 why → HasFaultOf rules x o1 o2 why
-broke_fails rules x o1 o2 fault.LinkFailed b = record { turns = b.turns; lost = 0; did = part_first o1 o2 _ _ b.did; counted = b.counted }
-broke_fails rules x o1 o2 fault.WriteFailed b = record { turns = b.turns; lost = 0; did = part_first o1 o2 _ _ b.did; counted = b.counted }
-broke_fails rules x o1 o2 fault.OutOfMemory b = record { turns = b.turns; lost = 0; did = part_first o1 o2 _ _ b.did; counted = b.counted }
-broke_fails rules x o1 o2 (fault.TurnsSpent n) b = absurd b.counted.1
+broken_front : {C : Type 0} (rules : Rules C) (x : Start C) (o1 o2 : Edge) (clock : Option Readings) (why : ServeFault) → HasBroken rules x o1 o2 clock why → NodeFront rules x o1 o2 clock why
+broken_front rules x o1 o2 clock why b = record { front = inr (inl b.front); counted = b.counted }
+
+pub broke_fails : {C : Type 0} (rules : Rules C) (x : Start C) (o1 o2 : Edge) (clock : Option Readings) (why : ServeFault) → HasBroken rules x o1 o2 clock why → HasFaultOf rules x o1 o2 clock why
+broke_fails rules x o1 o2 clock fault.LinkFailed b = broken_front rules x o1 o2 clock fault.LinkFailed b
+broke_fails rules x o1 o2 clock fault.WriteFailed b = broken_front rules x o1 o2 clock fault.WriteFailed b
+broke_fails rules x o1 o2 clock fault.OutOfMemory b = broken_front rules x o1 o2 clock fault.OutOfMemory b
+broke_fails rules x o1 o2 clock (fault.TurnsSpent n) b = absurd b.counted.1
 
 -- ---- the link was opened before
 
-module _ {C : Type 0} (rules : Rules C) (x : Start C) (out : SinkState) (a b : LinkState) (o : Edge) (sent : b.sent ≡ a.sent) (losses : b.losses ≡ a.losses) (later : a.faults ≤ b.faults) where
-  run_opened : (lost : ℕ) → NodeRun rules x (edge out b) o lost → NodeRun rules x (edge out a) o lost
+module _ {C : Type 0} (rules : Rules C) (x : Start C) (out : SinkState) (a b : LinkState) (o : Edge) (clock : Option Readings) (sent : b.sent ≡ a.sent) (losses : b.losses ≡ a.losses) (later : a.faults ≤ b.faults) where
+  run_opened : (lost : ℕ) → NodeRun rules x (edge out b) o clock lost → NodeRun rules x (edge out a) o clock lost
   run_opened lost r = record {
     turns = r.turns;
     ends = r.ends;
-    did = all_after out a b o (both (end_of rules x r.turns).effects (end_line (end_of rules x r.turns).node lost)) lost sent r.did;
+    did = all_after out a b o ((end_of rules x r.turns).effects ++ end_line (end_of rules x r.turns).node lost) lost sent r.did;
+    left = r.left;
     counted = rises_after out a b o lost later losses r.counted;
   }
 
-  front_opened : (why : ServeFault) → NodeFront rules x (edge out b) o why → NodeFront rules x (edge out a) o why
-  front_opened why r = record {
-    turns = r.turns;
-    lost = r.lost;
-    did = part_after out a b o (both (end_of rules x r.turns).effects (end_line (end_of rules x r.turns).node r.lost)) sent r.did;
-    counted = counted_after out a b o (Err why) later losses r.counted;
-  }
+  -- a front that begins with a list that was done whole
+  until_opened : (before last : List Effect) (lost : ℕ) → DidUntil (edge out b) o before lost last → DidUntil (edge out a) o before lost last
+  until_opened before last lost d = record { between = d.between; whole = all_after out a b d.between before lost sent d.whole; part = d.part }
 
-  pub answers_opened : (served : Served) → HasServed rules x (edge out b) o served → HasServed rules x (edge out a) o served
+  stop_opened : NeverBegan x (edge out b) o clock ⊎ (BreaksOff rules x (edge out b) o clock ⊎ EndsUnsaid rules x (edge out b) o clock)
+      → NeverBegan x (edge out a) o clock ⊎ (BreaksOff rules x (edge out a) o clock ⊎ EndsUnsaid rules x (edge out a) o clock)
+  stop_opened (inl none) = inl (record { held = none.held; sent = none.sent ∙ sent; clock_is = none.clock_is; link_is = none.link_is })
+  stop_opened (inr (inl broke)) = inr (inl (record {
+    turns = broke.turns;
+    lost = broke.lost;
+    did = until_opened _ _ broke.lost broke.did;
+    clock_is = broke.clock_is;
+    link_is = broke.link_is;
+  }))
+  stop_opened (inr (inr unsaid)) = inr (inr (record {
+    turns = unsaid.turns;
+    ends = unsaid.ends;
+    lost = unsaid.lost;
+    did = until_opened _ _ unsaid.lost unsaid.did;
+    left = unsaid.left;
+  }))
+
+  front_opened : (why : ServeFault) → NodeFront rules x (edge out b) o clock why → NodeFront rules x (edge out a) o clock why
+  front_opened why r = record { front = stop_opened r.front; counted = counted_after out a b o (Err why) later losses r.counted }
+
+  pub answers_opened : (served : Served) → HasServed rules x (edge out b) o clock served → HasServed rules x (edge out a) o clock served
   unfolding run_opened
   answers_opened served r = record { run = run_opened served.lost r.run; events = r.events; sent = r.sent; spent = r.spent; answered = r.answered }
 
-  pub fails_opened : (why : ServeFault) → HasFaultOf rules x (edge out b) o why → HasFaultOf rules x (edge out a) o why
+  pub fails_opened : (why : ServeFault) → HasFaultOf rules x (edge out b) o clock why → HasFaultOf rules x (edge out a) o clock why
   unfolding run_opened
   fails_opened fault.LinkFailed r = front_opened fault.LinkFailed r
   fails_opened fault.WriteFailed r = front_opened fault.WriteFailed r
@@ -90,29 +96,30 @@ same_start P setting turns core commands clock a b e p = subst (λ (y : Option (
 
 -- ---- the line of the end
 
-did_end : (o1 : Edge) (a b : SinkState) (l : LinkState) (e : Effects) (text : List ℕ) (lost : ℕ) → DidAll o1 (edge a l) e lost → b.held ≡ grown a.held text
-    → DidAll o1 (edge b l) (both e (writing text)) lost
+did_end : (o1 : Edge) (a b : SinkState) (l : LinkState) (e : List Effect) (text : List ℕ) (lost : ℕ) → DidAll o1 (edge a l) e lost → b.held ≡ grown a.held text
+    → DidAll o1 (edge b l) (e ++ writing text) lost
 did_end o1 a b l e text lost d wrote =
     let same : capped (lost + 0) ≡ lost = omega (arith, d.lost_are) in
-    subst (λ (n : ℕ). DidAll o1 (edge b l) (both e (writing text)) n) same (all_then o1 (edge a l) (edge b l) e (writing text) lost 0 d (all_said a b l text wrote))
+    subst (λ (n : ℕ). DidAll o1 (edge b l) (e ++ writing text) n) same (all_then o1 (edge a l) (edge b l) e (writing text) lost 0 d (all_said a b l text wrote))
 
 done_none : (a : Bool) (n : ℕ) → a && (n == 0) ≡ true → n ≡ 0
 done_none true n e = eqb-true n 0 e
 done_none false n e = cc
 
-module _ {C : Type 0} (rules : Rules C) (x : Start C) (o1 : Edge) (a b : SinkState) (l : LinkState) (node : Node C) where
-  run_ends : (lost : ℕ) → HasRun rules x o1 (edge a l) node lost → b.held ≡ grown a.held (end_text node.events node.sent lost node.spent) → a.faults ≤ b.faults
-      → NodeRun rules x o1 (edge b l) lost
+module _ {C : Type 0} (rules : Rules C) (x : Start C) (o1 : Edge) (a b : SinkState) (l : LinkState) (clock : Option Readings) (node : Node C) where
+  run_ends : (lost : ℕ) → HasRun rules x o1 (edge a l) clock node lost → b.held ≡ grown a.held (end_text node.events node.sent lost node.spent) → a.faults ≤ b.faults
+      → NodeRun rules x o1 (edge b l) clock lost
   run_ends lost d wrote later = record {
     turns = d.turns;
     ends = d.ends;
-    did = did_end o1 a b l (end_of rules x d.turns).effects (end_line (end_of rules x d.turns).node lost).text lost d.follows.did
+    did = did_end o1 a b l (end_of rules x d.turns).effects (end_text (end_of rules x d.turns).node.events (end_of rules x d.turns).node.sent lost (end_of rules x d.turns).node.spent) lost d.follows.did
         (subst (λ (n : Node C). b.held ≡ grown a.held (end_text n.events n.sent lost n.spent)) d.follows.node wrote);
+    left = d.left;
     counted = record { link = d.follows.counted.link; out = omega (arith, d.follows.counted.out); later = d.follows.counted.later; losses = d.follows.counted.losses };
   }
 
-  well_at : (served : Served) → HasRun rules x o1 (edge a l) node served.lost → b.held ≡ grown a.held (end_text node.events node.sent served.lost node.spent) → a.faults ≤ b.faults
-      → (lost : ℕ) → ShowsNumbers x.setting node lost served → HasServed rules x o1 (edge b l) served
+  well_at : (served : Served) → HasRun rules x o1 (edge a l) clock node served.lost → b.held ≡ grown a.held (end_text node.events node.sent served.lost node.spent) → a.faults ≤ b.faults
+      → (lost : ℕ) → ShowsNumbers x.setting node lost served → HasServed rules x o1 (edge b l) clock served
   unfolding run_ends
   well_at served d wrote later lost w =
       let there : ShowsNumbers x.setting (end_of rules x d.turns).node lost served = subst (λ (n : Node C). ShowsNumbers x.setting n lost served) d.follows.node w in
@@ -124,14 +131,14 @@ module _ {C : Type 0} (rules : Rules C) (x : Start C) (o1 : Edge) (a b : SinkSta
         answered = there.answered;
       }
 
-  pub ends_well : (lost : ℕ) → HasRun rules x o1 (edge a l) node lost → b.held ≡ grown a.held (end_text node.events node.sent lost node.spent) → a.faults ≤ b.faults
-      → (served : Served) → ShowsNumbers x.setting node lost served → HasServed rules x o1 (edge b l) served
+  pub ends_well : (lost : ℕ) → HasRun rules x o1 (edge a l) clock node lost → b.held ≡ grown a.held (end_text node.events node.sent lost node.spent) → a.faults ≤ b.faults
+      → (served : Served) → ShowsNumbers x.setting node lost served → HasServed rules x o1 (edge b l) clock served
   ends_well lost d wrote later served w =
-      well_at served (subst (λ (n : ℕ). HasRun rules x o1 (edge a l) node n) (sym w.lost_is) d)
+      well_at served (subst (λ (n : ℕ). HasRun rules x o1 (edge a l) clock node n) (sym w.lost_is) d)
       (subst (λ (n : ℕ). b.held ≡ grown a.held (end_text node.events node.sent n node.spent)) (sym w.lost_is) wrote) later lost w
 
-  pub ends_open : (lost : ℕ) → HasRun rules x o1 (edge a l) node lost → b.held ≡ grown a.held (end_text node.events node.sent lost node.spent) → a.faults ≤ b.faults
-      → (why : ServeFault) → ShowsOpen x.setting node why → HasFaultOf rules x o1 (edge b l) why
+  pub ends_open : (lost : ℕ) → HasRun rules x o1 (edge a l) clock node lost → b.held ≡ grown a.held (end_text node.events node.sent lost node.spent) → a.faults ≤ b.faults
+      → (why : ServeFault) → ShowsOpen x.setting node why → HasFaultOf rules x o1 (edge b l) clock why
   unfolding run_ends
   ends_open lost d wrote later fault.LinkFailed e = absurd e
   ends_open lost d wrote later fault.WriteFailed e = absurd e
@@ -150,21 +157,30 @@ module _ {C : Type 0} (rules : Rules C) (x : Start C) (o1 : Edge) (a b : SinkSta
         unanswered = open_;
       }
 
-  unsaid_front : (lost : ℕ) → HasRun rules x o1 (edge a l) node lost → SaysPart a.held b.held (end_text node.events node.sent lost node.spent) → a.faults ≤ b.faults
-      → (why : ServeFault) → SayFault why a.faults b.faults → NodeFront rules x o1 (edge b l) why
-  unsaid_front lost d part later why c = record {
-    turns = d.turns;
-    lost = lost;
-    did = part_then o1 (edge a l) (edge b l) (end_of rules x d.turns).effects (end_line (end_of rules x d.turns).node lost) lost d.follows.did
-        (part_said a b l (end_line (end_of rules x d.turns).node lost).text (subst (λ (n : Node C). SaysPart a.held b.held (end_text n.events n.sent lost n.spent)) d.follows.node part));
-    counted = (
-      record { link = d.follows.counted.link; out = omega (arith, d.follows.counted.out); later = d.follows.counted.later; losses = omega (arith, d.follows.counted.later) },
-      cause_later why o1 (edge a l) (edge b l) lost d.follows.counted (say_fault why a b l c),
-    );
-  }
+  unsaid_front : (lost : ℕ) → HasRun rules x o1 (edge a l) clock node lost → SaysPart a.held b.held (end_text node.events node.sent lost node.spent) → a.faults ≤ b.faults
+      → (why : ServeFault) → SayFault why a.faults b.faults → NodeFront rules x o1 (edge b l) clock why
+  unsaid_front lost d part later why c =
+      let end = (end_of rules x d.turns).node in
+      record {
+        front = inr (inr (record {
+          turns = d.turns;
+          ends = d.ends;
+          lost = lost;
+          did = record {
+            between = edge a l;
+            whole = d.follows.did;
+            part = part_said a b l (end_text end.events end.sent lost end.spent) (subst (λ (n : Node C). SaysPart a.held b.held (end_text n.events n.sent lost n.spent)) d.follows.node part);
+          };
+          left = d.left;
+        }));
+        counted = (
+          record { link = d.follows.counted.link; out = omega (arith, d.follows.counted.out); later = d.follows.counted.later; losses = omega (arith, d.follows.counted.later) },
+          cause_later why o1 (edge a l) (edge b l) lost d.follows.counted (say_fault why a b l c),
+        );
+      }
 
-  pub end_unsaid : (lost : ℕ) → HasRun rules x o1 (edge a l) node lost → SaysPart a.held b.held (end_text node.events node.sent lost node.spent) → a.faults ≤ b.faults
-      → (why : ServeFault) → SayFault why a.faults b.faults → HasFaultOf rules x o1 (edge b l) why
+  pub end_unsaid : (lost : ℕ) → HasRun rules x o1 (edge a l) clock node lost → SaysPart a.held b.held (end_text node.events node.sent lost node.spent) → a.faults ≤ b.faults
+      → (why : ServeFault) → SayFault why a.faults b.faults → HasFaultOf rules x o1 (edge b l) clock why
   end_unsaid lost d part later fault.LinkFailed c = absurd c
   end_unsaid lost d part later fault.WriteFailed c = unsaid_front lost d part later fault.WriteFailed c
   end_unsaid lost d part later fault.OutOfMemory c = unsaid_front lost d part later fault.OutOfMemory c

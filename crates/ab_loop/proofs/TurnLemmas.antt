@@ -1,5 +1,5 @@
 -- The parts of a turn, by what is known of them.
-use Rattle.std.proofs.Common.{◌≡◌, ℕ, zero, suc, ◌+◌, ◌≤◌, List, [], ◌∷◌, length, drop, Option, None, Some, Result, Ok, Err, refl, ap, sym, ◌∙◌, arith}
+use Rattle.std.proofs.Common.{◌≡◌, ℕ, zero, suc, ◌+◌, ◌≤◌, List, [], ◌∷◌, length, drop, Option, None, Some, Result, Ok, Err, refl, ap, sym, subst, ◌∙◌, arith}
 use Rattle.std.proofs.Math.Seq.{drop-nil}
 use Rattle.std.proofs.Math.ListN.{drop_of_length-le}
 use Rattle.ab_piece.specs.Joining.{Answer, step_of}
@@ -11,7 +11,7 @@ use Rattle.ab_io.specs.States.{LinkState, SinkState}
 use Rattle.ab_loop.specs.Edges.{capped, Edge, edge, grown, SaysPart, SayFault}
 use Rattle.ab_loop.proofs.FollowsLemmas.{follows_is, follows_then, follows_said, follows_unsaid, follows_both, follows_first_err, follows_second_err}
 use Rattle.ab_loop.specs.Texts.{reply_text}
-use Rattle.ab_loop.specs.Nodes.{Node, Out, no_step, text_step, and_then, datagram_step, joined_step, with_joiner, reply_step, command_step, after_reply, timer_step, turn_step, Follows}
+use Rattle.ab_loop.specs.Nodes.{Node, Out, no_step, text_step, and_then, datagram_step, joined_step, with_joiner, reply_step, command_step, after_reply, timer_step, turn_step, Follows, Leaves}
 
 pub drop_next : {A : Type 0} (xs : List A) (d : ℕ) → drop (d + 1) xs ≡ drop 1 (drop d xs)
 drop_next [] d = drop-nil (d + 1) ∙ sym (ap (drop 1) (drop-nil d))
@@ -57,6 +57,10 @@ reply_fails {C = C} rules s t node n1 c a b l why commit part out cause =
     (follows_unsaid n1 (after_reply node) a b l (reply_text c) why part out cause))
 
 -- ---- a turn
+
+-- what is to come after a later part of a turn that was broken off
+pub later_left : (got : Option (List ℕ)) (a b c : Option (List (List ℕ))) (why : ServeFault) → b ≡ a → Leaves got b c (Err why) → Leaves got a c (Err why)
+later_left got a b c why same left = subst (λ (k : Option (List (List ℕ))). Leaves got k c (Err why)) same left
 
 module _ {C : Type 0} (rules : Rules C) (s : NodeSetting) (t : ℕ) (got : Option (List ℕ)) (node : Node C) where
   pub turn_done : (n1 n2 n3 : Node C) (o0 o1 o2 o3 : Edge) (l m n x y : ℕ) → x ≡ capped (l + m) → y ≡ capped (x + n)

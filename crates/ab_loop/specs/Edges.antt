@@ -1,5 +1,5 @@
 -- What is done outside: text that is written, and datagrams that are handed over.
-use Rattle.std.specs.Prelude.{◌≡◌, ℕ, ◌+◌, ◌-◌, ◌^◌, ◌≤◌, min, List, [], ◌∷◌, ◌++◌, length, Option, Result, Ok, Err, Bool, not, ⊤, if◌then◌else◌}
+use Rattle.std.specs.Prelude.{◌≡◌, ℕ, ◌+◌, ◌-◌, ◌^◌, ◌≤◌, min, List, [], ◌∷◌, ◌++◌, length, map, Option, Result, Ok, Err, Bool, not, ⊤, if◌then◌else◌}
 use Rattle.std.specs.Option.{option_map}
 use Rattle.std.specs.List.{count_by}
 use Rattle.ab_io.specs.Causes.{Rose}
@@ -12,22 +12,30 @@ use Rattle.ab_loop.specs.declared.fault.ServeFault.TheVariants as fault
 abbrev pub capped : ℕ → ℕ
 capped n = min n (2 ^ 64 - 1)
 
--- text for out, and datagrams for send
-pub record Effects : Type 0 where
-  pub text : List ℕ
-  pub datagrams : List Datagram
+-- what a node does outside: it writes a byte, or hands a datagram over. Effects stand in the order in which they are done
+pub data Effect : Type 0 where
+  writes : ℕ → Effect
+  sends : Datagram → Effect
 
-abbrev pub nothing : Effects
-nothing = record { text = []; datagrams = [] }
+-- a text is written
+abbrev pub writing : List ℕ → List Effect
+writing text = map writes text
 
-abbrev pub writing : List ℕ → Effects
-writing text = record { text = text; datagrams = [] }
+-- datagrams are handed over
+abbrev pub sending : List Datagram → List Effect
+sending datagrams = map sends datagrams
 
-abbrev pub sending : List Datagram → Effects
-sending datagrams = record { text = []; datagrams = datagrams }
+-- the text that is written in all
+abbrev pub text_in : List Effect → List ℕ
+text_in [] = []
+text_in (writes byte ∷ es) = byte ∷ text_in es
+text_in (sends d ∷ es) = text_in es
 
-abbrev pub both : Effects → Effects → Effects
-both a b = record { text = a.text ++ b.text; datagrams = a.datagrams ++ b.datagrams }
+-- the datagrams that are handed over in all
+abbrev pub handed_in : List Effect → List Datagram
+handed_in [] = []
+handed_in (writes byte ∷ es) = handed_in es
+handed_in (sends d ∷ es) = d ∷ handed_in es
 
 -- what a node touches: the states of out and of the link
 pub record Edge : Type 0 where
@@ -47,30 +55,36 @@ those_gone [] ds = []
 those_gone (w ∷ went) [] = []
 those_gone (w ∷ went) (d ∷ ds) = if w then d ∷ those_gone went ds else those_gone went ds
 
--- the text was written and each datagram was handed over once: it went, or it was lost
-pub record Did (old new : Edge) (e : Effects) (went : List Bool) : Type 0 where
-  pub each : length went ≡ length e.datagrams
-  pub wrote : new.out.held ≡ grown old.out.held e.text
-  pub sent : new.link.sent ≡ grown old.link.sent (those_gone went e.datagrams)
+-- the text was written, and each datagram was handed over once: it went, or it was lost
+pub record Did (old new : Edge) (es : List Effect) (went : List Bool) : Type 0 where
+  pub each : length went ≡ length (handed_in es)
+  pub wrote : new.out.held ≡ grown old.out.held (text_in es)
+  pub sent : new.link.sent ≡ grown old.link.sent (those_gone went (handed_in es))
 
 -- all of it was done, and so many datagrams were lost
-pub record DidAll (old new : Edge) (e : Effects) (lost : ℕ) : Type 0 where
+pub record DidAll (old new : Edge) (es : List Effect) (lost : ℕ) : Type 0 where
   pub went : List Bool
-  pub did : Did old new e went
+  pub did : Did old new es went
   pub lost_are : lost ≡ capped (count_by not went)
 
 -- a front of it was done
-pub record DidPart (old new : Edge) (e : Effects) : Type 0 where
-  pub done : Effects
-  pub left : Effects
+pub record DidPart (old new : Edge) (es : List Effect) : Type 0 where
+  pub done : List Effect
+  pub left : List Effect
   pub went : List Bool
-  pub parts : e ≡ both done left
+  pub parts : es ≡ done ++ left
   pub did : Did old new done went
 
+-- all of the first list was done, so many of its datagrams were lost, and then a front of the second list
+pub record DidUntil (old new : Edge) (before : List Effect) (lost : ℕ) (last : List Effect) : Type 0 where
+  pub between : Edge
+  pub whole : DidAll old between before lost
+  pub part : DidPart between new last
+
 -- all of it, or after a fault a front of it
-abbrev pub Does : {E : Type 0} → Edge → Edge → Effects → Result ℕ E → Type 0
-Does old new e (Ok lost) = DidAll old new e lost
-Does old new e (Err why) = DidPart old new e
+abbrev pub Does : {E : Type 0} → Edge → Edge → List Effect → Result ℕ E → Type 0
+Does old new es (Ok lost) = DidAll old new es lost
+Does old new es (Err why) = DidPart old new es
 
 -- why a fault was answered
 abbrev pub FaultCause : ServeFault → Edge → Edge → Type 0

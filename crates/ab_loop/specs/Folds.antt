@@ -5,7 +5,7 @@ use Rattle.ab_loop.specs.declared.party_core.Commit.{Commit}
 use Rattle.ab_loop.specs.Settings.{NodeSetting}
 use Rattle.ab_loop.specs.Cores.{NodeEvent, Rules}
 use Rattle.ab_msg.specs.Packets.{Packet}
-use Rattle.ab_loop.specs.Edges.{capped}
+use Rattle.ab_loop.specs.Edges.{capped, handed_in}
 use Rattle.ab_loop.specs.Nodes.{Node, Out, Turn, and_then, datagram_step, datagrams_in, parcels_of, run_after, timer_step}
 
 -- where these events lead the core, the first of them first
@@ -32,9 +32,9 @@ spent_in rules core (e ∷ es) = (if (rules.step core e).spent then 1 else 0) + 
 -- messages numbered from 1, and its numbers count the events, the datagrams and the spent events.
 pub record IsOfCore {C : Type 0} (rules : Rules C) (s : NodeSetting) (start : C) (o : Out C) : Type 0 where
   pub core : o.node.core ≡ core_after rules start o.events
-  pub datagrams : o.effects.datagrams ≡ datagrams_in (parcels_of s 0 (sends_in rules start o.events))
+  pub datagrams : handed_in o.effects ≡ datagrams_in (parcels_of s 0 (sends_in rules start o.events))
   pub events : o.node.events ≡ capped (length o.events)
-  pub sent : o.node.sent ≡ capped (length o.effects.datagrams)
+  pub sent : o.node.sent ≡ capped (length (handed_in o.effects))
   pub spent : o.node.spent ≡ capped (spent_in rules start o.events)
 
 -- the commit that a node prints in a turn: what is committed and not printed once timer and link had their say

@@ -1,5 +1,5 @@
 -- A node: one core, driven by the turn rule.
-use Rattle.std.specs.Prelude.{◌≡◌, ℕ, ◌+◌, List, [], ◌∷◌, ◌++◌, map, drop, length, Option, None, Some, Bool, true, false, is_some, slice_get, nat_le, Result, OnOk, IfSome, IsSomeAnd, ◌==◌, ◌&&◌, if◌then◌else◌}
+use Rattle.std.specs.Prelude.{◌≡◌, ◌⊎◌, ℕ, ◌+◌, List, [], ◌∷◌, ◌++◌, map, drop, length, Option, None, Some, Bool, true, false, is_some, slice_get, nat_le, Result, Ok, Err, OnOk, IfSome, IsSomeAnd, ◌==◌, ◌&&◌, if◌then◌else◌}
 use Rattle.std.specs.List.{flat_map}
 use Rattle.std.specs.Option.{option_map}
 use Rattle.arrayvec.specs.ArrayVec.{ArrayVec}
@@ -12,7 +12,7 @@ use Rattle.ab_piece.specs.Joining.{OpenMessage, Answer, whole, more, dropped, st
 use Rattle.ab_loop.specs.declared.party_core.Commit.{Commit}
 use Rattle.ab_loop.specs.Cores.{NodeEvent, invoke, message, timeout, Reaction, Rules}
 use Rattle.ab_msg.specs.Packets.{Packet}
-use Rattle.ab_loop.specs.Edges.{capped, Effects, nothing, writing, sending, both, Edge, Does, Counted}
+use Rattle.ab_loop.specs.Edges.{capped, Effect, writing, sending, Edge, Does, Counted}
 use Rattle.ab_loop.specs.Texts.{event_text, reply_text}
 use Rattle.ab_loop.specs.Settings.{NodeSetting}
 
@@ -34,21 +34,21 @@ pub record Node (C : Type 0) : Type 0 where
   pub sent : ℕ
   pub spent : ℕ
 
--- a node, what it does outside to come there, and the events that its core handled on the way
+-- a node, what it does outside to come there, in order, and the events that its core handled on the way
 pub record Out (C : Type 0) : Type 0 where
   pub node : Node C
-  pub effects : Effects
+  pub effects : List Effect
   pub events : List NodeEvent
 
 abbrev pub no_step : {C : Type 0} → Node C → Out C
-no_step node = record { node = node; effects = nothing; events = [] }
+no_step node = record { node = node; effects = []; events = [] }
 
 -- a text is written
 abbrev pub text_step : {C : Type 0} → Node C → List ℕ → Out C
 text_step node text = record { node = node; effects = writing text; events = [] }
 
 abbrev pub and_then : {C : Type 0} → Out C → (Node C → Out C) → Out C
-and_then a f = record { node = (f a.node).node; effects = both a.effects (f a.node).effects; events = a.events ++ (f a.node).events }
+and_then a f = record { node = (f a.node).node; effects = a.effects ++ (f a.node).effects; events = a.events ++ (f a.node).events }
 
 -- ---- sending
 
@@ -106,13 +106,13 @@ node_after rules s t node done = record {
 abbrev pub trace_text : NodeSetting → NodeEvent → List ℕ
 trace_text s e = if s.trace then event_text s.me e else []
 
--- an event at time t
+-- an event at time t: its line is written before anything of it is sent
 unfoldable pub event_step : {C : Type 0} → Rules C → NodeSetting → ℕ → NodeEvent → Node C → Out C
 event_step rules s t e node =
     let done = rules.step node.core e in
     record {
       node = node_after rules s t node done;
-      effects = both (writing (trace_text s e)) (sending (datagrams_in (parcels_of s node.number done.sends)));
+      effects = writing (trace_text s e) ++ sending (datagrams_in (parcels_of s node.number done.sends));
       events = e ∷ [];
     }
 
@@ -216,9 +216,14 @@ abbrev pub left_by : Option (List ℕ) → Option (List (List ℕ)) → Option (
 left_by None known = known
 left_by (Some bytes) known = option_map (drop 1) known
 
+-- what is to come after such a step: after a fault the link may not have been asked
+abbrev pub Leaves : Option (List ℕ) → Option (List (List ℕ)) → Option (List (List ℕ)) → Result ℕ ServeFault → Type 0
+Leaves got old new (Ok lost) = new ≡ left_by got old
+Leaves got old new (Err why) = (new ≡ left_by got old) ⊎ (new ≡ old)
+
 -- a step that takes what the link gives
 pub record Takes {C : Type 0} (f : Option (List ℕ) → Out C) (new : Node C) (e1 e2 : Edge) (result : Result ℕ ServeFault) : Type 0 where
   pub got : Option (List ℕ)
   pub next : IfSome e1.link.to_come (λ datagrams. IsNext datagrams got)
-  pub left : OnOk result (e2.link.to_come ≡ left_by got e1.link.to_come)
+  pub left : Leaves got e1.link.to_come e2.link.to_come result
   pub follows : Follows new e1 e2 (f got) result

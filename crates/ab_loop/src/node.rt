@@ -1,6 +1,6 @@
 //! One party's core with all that its turns need.
 
-ghost use Rattle.std.specs.Prelude.{◌≡◌, ◌==◌, ◌&&◌, ◌+◌, ◌≤◌, ◌<◌, drop, slice_get, MatchOption, IfOk, OnOk, length, if◌then◌else◌};
+ghost use Rattle.std.specs.Prelude.{◌≡◌, ◌⊎◌, ◌==◌, ◌&&◌, ◌+◌, ◌≤◌, ◌<◌, drop, slice_get, MatchOption, IfOk, OnErr, OnOk, length, if◌then◌else◌};
 ghost use Rattle.std.specs.declared.option.Option.TheVariants.{None, Some};
 ghost use Rattle.ab_io.specs.Datagrams.{longest_datagram};
 ghost use Rattle.ab_piece.specs.Joining.{answer_of, step_of};
@@ -296,7 +296,8 @@ impl<K: PartyCore> Node<K> {
     }
 
     /// An event at time t: its line, where a trace is wanted, what the core does, and its datagrams,
-    /// each handed over once. Answers how many were lost.
+    /// each handed over once. Answers how many were lost. Nothing is sent before all of it is cut: after
+    /// a fault nothing was sent, or the node is past the event.
     #[tactic(auto, unfolding(crate::specs::Nodes::event_step))]
     fn handle<L: Link, O: Sink>(
         &mut self,
@@ -309,6 +310,7 @@ impl<K: PartyCore> Node<K> {
     ) -> Result<u64, ServeFault>
         ensures follows { Follows self.new (edge (O.state out.old) (L.state link.old)) (edge (O.state out.new) (L.state link.new))
             (event_step K.rules setting.now t (event_of input.now) self.old) result }
+        ensures cut { OnErr result (((L.state link.new).sent ≡ (L.state link.old).sent) ⊎ (self.new ≡ (event_step K.rules setting.now t (event_of input.now) self.old).node)) }
         ensures to_come { (L.state link.new).to_come ≡ (L.state link.old).to_come }
     {
         if let Err(fault) = announce(alloc, setting, input, out) {

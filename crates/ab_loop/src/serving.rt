@@ -55,9 +55,9 @@ fn drive<K: PartyCore, L: Link, C: Clock, O: Sink>(
 ) -> Result<(Node<K>, u64), ServeFault>
     requires buf { longest_datagram ≤ length buf.old }
     ensures ok { IfOk result (λ r. HasRun K.rules (start_of setting.now turns core commands (C.state clock.old) (L.state link.old))
-        (edge (O.state out.old) (L.state link.old)) (edge (O.state out.new) (L.state link.new)) r.0 r.1) }
+        (edge (O.state out.old) (L.state link.old)) (edge (O.state out.new) (L.state link.new)) (C.state clock.new).readings r.0 r.1) }
     ensures err { IfErr result (λ why. HasBroken K.rules (start_of setting.now turns core commands (C.state clock.old) (L.state link.old))
-        (edge (O.state out.old) (L.state link.old)) (edge (O.state out.new) (L.state link.new)) why) }
+        (edge (O.state out.old) (L.state link.old)) (edge (O.state out.new) (L.state link.new)) (C.state clock.new).readings why) }
 {
     let first = clock.now();
     let mut node = Node::new(alloc, setting, first, core, commands);
@@ -107,9 +107,9 @@ fn run<K: PartyCore, L: Link, C: Clock, O: Sink>(
 ) -> Result<Served, ServeFault>
     requires buf { longest_datagram ≤ length buf.old }
     ensures ok { IfOk result (λ served. HasServed K.rules (start_of setting.now turns core commands (C.state clock.old) (L.state link.old))
-        (edge (O.state out.old) (L.state link.old)) (edge (O.state out.new) (L.state link.new)) served) }
+        (edge (O.state out.old) (L.state link.old)) (edge (O.state out.new) (L.state link.new)) (C.state clock.new).readings served) }
     ensures err { IfErr result (λ why. HasFaultOf K.rules (start_of setting.now turns core commands (C.state clock.old) (L.state link.old))
-        (edge (O.state out.old) (L.state link.old)) (edge (O.state out.new) (L.state link.new)) why) }
+        (edge (O.state out.old) (L.state link.old)) (edge (O.state out.new) (L.state link.new)) (C.state clock.new).readings why) }
 {
     match drive(alloc, core, setting, commands, turns, buf, link, clock, out) {
         Ok((node, lost)) => match say_end(alloc, &node, lost, out) {
@@ -130,9 +130,9 @@ pub fn serve<K: PartyCore, L: Link, C: Clock, O: Sink>(
     out: &mut O,
 ) -> Result<Served, ServeFault>
     ensures ok { IfOk result (λ served. HasServed K.rules (start_of job.setting job.turns job.core job.commands (C.state clock.old) (L.state link.old))
-        (edge (O.state out.old) (L.state link.old)) (edge (O.state out.new) (L.state link.new)) served) }
+        (edge (O.state out.old) (L.state link.old)) (edge (O.state out.new) (L.state link.new)) (C.state clock.new).readings served) }
     ensures err { IfErr result (λ why. HasFaultOf K.rules (start_of job.setting job.turns job.core job.commands (C.state clock.old) (L.state link.old))
-        (edge (O.state out.old) (L.state link.old)) (edge (O.state out.new) (L.state link.new)) why) }
+        (edge (O.state out.old) (L.state link.old)) (edge (O.state out.new) (L.state link.new)) (C.state clock.new).readings why) }
 {
     let Job {
         core,

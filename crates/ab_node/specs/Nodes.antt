@@ -29,14 +29,14 @@ use Rattle.ab_node.specs.declared.stop.Stop.{Stop}
 use Rattle.ab_node.specs.declared.stop.Stop.TheVariants as stop
 use Rattle.ab_node.specs.Timers.{any_counted}
 
--- what a node is asked for, what the clock is to tell, and what becomes of sink and link
+-- what a node is asked for, and what becomes of clock, sink and link
 pub record NodeCall : Type 0 where
   pub asked : NodeCommand
-  pub clock : ClockState
+  pub clock : Change ClockState
   pub old : Edge
   pub new : Edge
 
-abbrev pub node_call : NodeCommand → ClockState → Edge → Edge → NodeCall
+abbrev pub node_call : NodeCommand → Change ClockState → Edge → Edge → NodeCall
 node_call asked clock old new = record { asked = asked; clock = clock; old = old; new = new }
 
 abbrev pub setting_of : NodeCommand → Party → NodeSetting
@@ -48,15 +48,15 @@ as_command bytes = record { items = bytes }
 -- ---- one party
 
 abbrev pub start_with : {C : Type 0} → NodeCall → Party → C → List (List ℕ) → Start C
-start_with x me core commands = start_of (setting_of x.asked me) x.asked.turns core (map as_command commands) x.clock x.old.link
+start_with x me core commands = start_of (setting_of x.asked me) x.asked.turns core (map as_command commands) x.clock.before x.old.link
 
 -- a core was served, to the end
 abbrev pub CoreServed : {C : Type 0} → Rules C → Party → C → List (List ℕ) → NodeCall → Served → Type 0
-CoreServed rules me core commands x served = HasServed rules (start_with x me core commands) x.old x.new served
+CoreServed rules me core commands x served = HasServed rules (start_with x me core commands) x.old x.new x.clock.after.readings served
 
 -- it was served, and the node stopped for this
 abbrev pub CoreStopped : {C : Type 0} → Rules C → Party → C → List (List ℕ) → NodeCall → ServeFault → Type 0
-CoreStopped rules me core commands x why = HasFaultOf rules (start_with x me core commands) x.old x.new why
+CoreStopped rules me core commands x why = HasFaultOf rules (start_with x me core commands) x.old x.new x.clock.after.readings why
 
 -- the replica of these keys was served, to the end
 pub record ReplicaServed (proto : Proto Any) (k : PartyKeys) (r : ℕ) (commands : List (List ℕ)) (x : NodeCall) (served : Served) : Type 0 where
@@ -120,9 +120,9 @@ pub record IsRefused (text : List ℕ) (r : Refusal) : Type 0 where
   pub reads : node_in (lines_of text) ≡ Err fault
   pub refuses : text_refusal fault ≡ Some r
 
--- sink and link are as before
+-- sink, link and clock are as before
 abbrev pub IsUntouched : NodeCall → Type 0
-IsUntouched x = x.new ≡ x.old
+IsUntouched x = (x.new ≡ x.old) × (x.clock.after ≡ x.clock.before)
 
 -- when a node stops for each reason: by what becomes of the input
 abbrev pub StopCause : Stop → Change SourceState → NodeCall → Type 0

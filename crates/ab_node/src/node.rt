@@ -75,9 +75,9 @@ fn serve_core<K: PartyCore, L: Link, C: Clock, O: Sink>(
 ) -> Result<Served, ServeFault>
     requires { IsParty me }
     ensures ok { IfOk result (CoreServed K.rules me core (map (λ c. c.items) commands)
-        (node_call asked.now (C.state clock.old) (edge (O.state out.old) (L.state link.old)) (edge (O.state out.new) (L.state link.new)))) }
+        (node_call asked.now (change (C.state clock.old) (C.state clock.new)) (edge (O.state out.old) (L.state link.old)) (edge (O.state out.new) (L.state link.new)))) }
     ensures cause { IfErr result (CoreStopped K.rules me core (map (λ c. c.items) commands)
-        (node_call asked.now (C.state clock.old) (edge (O.state out.old) (L.state link.old)) (edge (O.state out.new) (L.state link.new)))) }
+        (node_call asked.now (change (C.state clock.old) (C.state clock.new)) (edge (O.state out.old) (L.state link.old)) (edge (O.state out.new) (L.state link.new)))) }
 {
     let job = Job {
         core,
@@ -103,9 +103,9 @@ fn serve_replica<S: Service, L: Link, C: Clock, O: Sink>(
     requires own { keys.now.me ≡ ReplicaParty me }
     requires party { IsTrue (is_party keys.now.f keys.now.clients keys.now.me) }
     ensures ok { IfOk result (ReplicaServed (any S.machine) keys.now me (map (λ c. c.items) commands)
-        (node_call asked.now (C.state clock.old) (edge (O.state out.old) (L.state link.old)) (edge (O.state out.new) (L.state link.new)))) }
+        (node_call asked.now (change (C.state clock.old) (C.state clock.new)) (edge (O.state out.old) (L.state link.old)) (edge (O.state out.new) (L.state link.new)))) }
     ensures cause { IfErr result (ReplicaCause (any S.machine) keys.now me (map (λ c. c.items) commands)
-        (node_call asked.now (C.state clock.old) (edge (O.state out.old) (L.state link.old)) (edge (O.state out.new) (L.state link.new)))) }
+        (node_call asked.now (change (C.state clock.old) (C.state clock.new)) (edge (O.state out.old) (L.state link.old)) (edge (O.state out.new) (L.state link.new)))) }
 {
     let Ok(core) = ReplicaMember::<S, AnyProtocol<S>>::new(alloc, keys, me) else {
         return Err(Stop::OutOfMemory);
@@ -132,9 +132,9 @@ fn serve_client<L: Link, C: Clock, O: Sink>(
     requires own { keys.now.me ≡ ClientParty me }
     requires party { IsTrue (is_party keys.now.f keys.now.clients keys.now.me) }
     ensures ok { IfOk result (ClientServed keys.now me (map (λ c. c.items) commands)
-        (node_call asked.now (C.state clock.old) (edge (O.state out.old) (L.state link.old)) (edge (O.state out.new) (L.state link.new)))) }
+        (node_call asked.now (change (C.state clock.old) (C.state clock.new)) (edge (O.state out.old) (L.state link.old)) (edge (O.state out.new) (L.state link.new)))) }
     ensures cause { IfErr result (ClientCause keys.now me (map (λ c. c.items) commands)
-        (node_call asked.now (C.state clock.old) (edge (O.state out.old) (L.state link.old)) (edge (O.state out.new) (L.state link.new)))) }
+        (node_call asked.now (change (C.state clock.old) (C.state clock.new)) (edge (O.state out.old) (L.state link.old)) (edge (O.state out.new) (L.state link.new)))) }
 {
     let Ok(core) = ClientMember::new(alloc, keys, me) else {
         return Err(Stop::OutOfMemory);
@@ -157,9 +157,9 @@ fn serve_node<L: Link, C: Clock, O: Sink>(
 ) -> Result<Served, Stop>
     requires { length text.now < 2 ^ 31 }
     ensures ok { IfOk result (IsServed text.now
-        (node_call asked.now (C.state clock.old) (edge (O.state out.old) (L.state link.old)) (edge (O.state out.new) (L.state link.new)))) }
+        (node_call asked.now (change (C.state clock.old) (C.state clock.new)) (edge (O.state out.old) (L.state link.old)) (edge (O.state out.new) (L.state link.new)))) }
     ensures cause { IfErr result (λ stop. TextCause stop text.now
-        (node_call asked.now (C.state clock.old) (edge (O.state out.old) (L.state link.old)) (edge (O.state out.new) (L.state link.new)))) }
+        (node_call asked.now (change (C.state clock.old) (C.state clock.new)) (edge (O.state out.old) (L.state link.old)) (edge (O.state out.new) (L.state link.new)))) }
 {
     let (keys, commands) = match read_node(alloc, text) {
         Ok(node) => node,
@@ -189,9 +189,9 @@ pub fn serve_text<I: Source, L: Link, C: Clock, O: Sink>(
     out: &mut O,
 ) -> Result<Served, Stop>
     ensures ok { IfOk result (λ served. (text : List ℕ) × IsInput (I.state input.old).left text × IsServed text
-        (node_call asked.now (C.state clock.old) (edge (O.state out.old) (L.state link.old)) (edge (O.state out.new) (L.state link.new))) served) }
+        (node_call asked.now (change (C.state clock.old) (C.state clock.new)) (edge (O.state out.old) (L.state link.old)) (edge (O.state out.new) (L.state link.new))) served) }
     ensures cause { IfErr result (λ stop. StopCause stop (change (I.state input.old) (I.state input.new))
-        (node_call asked.now (C.state clock.old) (edge (O.state out.old) (L.state link.old)) (edge (O.state out.new) (L.state link.new)))) }
+        (node_call asked.now (change (C.state clock.old) (C.state clock.new)) (edge (O.state out.old) (L.state link.old)) (edge (O.state out.new) (L.state link.new)))) }
     ensures later { (I.state input.old).faults ≤ (I.state input.new).faults }
 {
     match read_all(alloc, input) {

@@ -1,3 +1,4 @@
+use Rattle.std.proofs.Common.{refl}
 use Rattle.ab_num.proofs.Results.{if_ok_map, if_err_map}
 use Rattle.ab_loop.specs.Edges.{edge}
 use Rattle.ab_loop.specs.Runs.{HasServed, HasFaultOf}
@@ -6,25 +7,27 @@ use Rattle.ab_loop.proofs.ServeLemmas.{nothing_done, not_opened, answers_opened,
 use Rattle.ab_loop.proofs.serving.serve.Goals as goal
 
 pub returns-in_default-clause-err : goal.returns-in_default-clause-err
-returns-in_default-clause-err g c = nothing_done _ _ _ _ (rises_same _, tt)
+returns-in_default-clause-err g c = nothing_done _ _ _ _ _ refl refl (rises_same _, tt)
 
 pub returns-in-Err-clause-err : goal.returns-in-Err-clause-err
-returns-in-Err-clause-err g c = not_opened _ _ _ _ _ c.open.ensures.sent c.open.ensures.losses c.in-Err.ensures.later c.in-Err.ensures.failed
+returns-in-Err-clause-err g c = not_opened _ _ _ _ _ _ refl c.open.ensures.to_come c.open.ensures.sent c.open.ensures.losses c.in-Err.ensures.later c.in-Err.ensures.failed
 
 pub returns-in-Ok-open-clause-ok : goal.returns-in-Ok-open-clause-ok
 returns-in-Ok-open-clause-ok g c =
     let out = g.O.Sink.state c.args.out.now in
     let link = g.L.Link.state c.args.link.now in
     let opened = g.L.Link.state c.open.new.self in
+    let clock = (g.C.Clock.state c.run.new.clock).readings in
     let end = edge (g.O.Sink.state c.run.new.out) (g.L.Link.state c.run.new.link) in
-    if_ok_map _ (λ served a. answers_opened _ _ out link opened end c.open.ensures.sent c.open.ensures.losses c.in-Ok-open.ensures.later served
-    (same_start (λ x. HasServed g.K.PartyCore.rules x (edge out opened) end served) _ _ _ _ (g.C.Clock.state c.args.clock.now) link opened c.open.ensures.to_come a)) c.run.ensures.ok
+    if_ok_map _ (λ served a. answers_opened _ _ out link opened end clock c.open.ensures.sent c.open.ensures.losses c.in-Ok-open.ensures.later served
+    (same_start (λ x. HasServed g.K.PartyCore.rules x (edge out opened) end clock served) _ _ _ _ (g.C.Clock.state c.args.clock.now) link opened c.open.ensures.to_come a)) c.run.ensures.ok
 
 pub returns-in-Ok-open-clause-err : goal.returns-in-Ok-open-clause-err
 returns-in-Ok-open-clause-err g c =
     let out = g.O.Sink.state c.args.out.now in
     let link = g.L.Link.state c.args.link.now in
     let opened = g.L.Link.state c.open.new.self in
+    let clock = (g.C.Clock.state c.run.new.clock).readings in
     let end = edge (g.O.Sink.state c.run.new.out) (g.L.Link.state c.run.new.link) in
-    if_err_map _ (λ why a. fails_opened _ _ out link opened end c.open.ensures.sent c.open.ensures.losses c.in-Ok-open.ensures.later why
-    (same_start (λ x. HasFaultOf g.K.PartyCore.rules x (edge out opened) end why) _ _ _ _ (g.C.Clock.state c.args.clock.now) link opened c.open.ensures.to_come a)) c.run.ensures.err
+    if_err_map _ (λ why a. fails_opened _ _ out link opened end clock c.open.ensures.sent c.open.ensures.losses c.in-Ok-open.ensures.later why
+    (same_start (λ x. HasFaultOf g.K.PartyCore.rules x (edge out opened) end clock why) _ _ _ _ (g.C.Clock.state c.args.clock.now) link opened c.open.ensures.to_come a)) c.run.ensures.err

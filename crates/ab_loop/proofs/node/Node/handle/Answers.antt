@@ -1,8 +1,8 @@
-use Rattle.std.proofs.Common.{List, ◌∙◌, subst}
+use Rattle.std.proofs.Common.{List, inl, inr, refl, ◌∙◌, subst}
 use Rattle.ab_io.specs.Datagrams.{Datagram}
 use Rattle.ab_loop.specs.Edges.{Sends}
 use Rattle.ab_loop.specs.Nodes.{event_step, datagrams_in}
-use Rattle.ab_loop.proofs.FollowsLemmas.{on_ok, line_part, line_alone, line_failed, line_then_sends, line_then_counts, want_memory}
+use Rattle.ab_loop.proofs.FollowsLemmas.{on_err, on_ok, line_part, line_alone, line_failed, line_then_sends, line_then_counts, want_memory}
 use Rattle.ab_loop.proofs.node.Node.handle.Goals as goal
 
 pub returns-in-Err-clause-follows : goal.returns-in-Err-clause-follows
@@ -30,3 +30,12 @@ returns-in-Err-react-clause-follows g c = record {
   did = line_alone _ _ _ _ _ c.in_default.ensures.says;
   counted = want_memory _ _ _ c.in_default.ensures.counted;
 }
+
+pub returns-in-Err-clause-cut : goal.returns-in-Err-clause-cut
+returns-in-Err-clause-cut g c = inl refl
+
+pub returns-in-Ok-clause-cut : goal.returns-in-Ok-clause-cut
+returns-in-Ok-clause-cut g c = on_err c.send_all.result (inr c.in-Ok.ensures.node)
+
+pub returns-in-Err-react-clause-cut : goal.returns-in-Err-react-clause-cut
+returns-in-Err-react-clause-cut g c = inl refl
