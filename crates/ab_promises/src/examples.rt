@@ -1,0 +1,36 @@
+//! Acts that meet the laws of this crate, in which something is committed, and something is locked.
+
+ghost use Rattle.std.specs.Prelude.{ℕ, Option, [], ◌∷◌, List, Contains};
+ghost use Rattle.ab_hist.specs.declared.request.Request.{Request};
+ghost use Rattle.ab_hist.specs.Digests.{NoCollision, digest_of};
+ghost use Rattle.ab_msg.specs.Fields.{IsRequest, IsSig};
+ghost use Rattle.ab_abs.specs.Acts.{Premises, SlotsApart, histories, requests, observations};
+ghost use Rattle.ab_abs.specs.Members.{Member};
+ghost use Rattle.ab_abs.specs.SmallActs.{small, small_acts, reply_to};
+ghost use Rattle.ab_abs.specs.declared.seen.Seen.TheVariants.{Committed};
+ghost use Rattle.ab_order.specs.Backups.{Backing};
+ghost use Rattle.ab_order.specs.Protos.{OrderProto, Obeys, backup};
+ghost use Rattle.ab_pbft_rules.specs.Locks.{ArePrepared};
+ghost use Rattle.ab_pbft_rules.specs.Rules.{Pbft, pbft};
+ghost use Rattle.ab_quorum.specs.Rules.{quorum};
+ghost use Rattle.ab_promises.specs.OwnCalls.{AreOwnCalls};
+ghost use Rattle.ab_promises.specs.SmallBackups.{backup_of_four, backup_acts, empty_base};
+
+use ab_svc::Service;
+
+/// Four replicas of Quorum, whose calls are their own, answer a request, and its client commits; three
+/// stop and abort, and the client takes their certificate. These acts meet the premises, if the
+/// digests of their histories differ.
+pub fn four_replicas_answer<S: Service>()
+    ensures own { (m : Request) → IsRequest 0 15 m → (left : ℕ → Option Member) × AreOwnCalls (quorum S.machine) small (small_acts S.machine m) left }
+    ensures premises { (m : Request) → NoCollision (histories (small_acts S.machine m)) → SlotsApart (histories (small_acts S.machine m)) (requests (small_acts S.machine m)) → Premises small (small_acts S.machine m) }
+    ensures commits { (m : Request) → Contains (observations (small_acts S.machine m)) (Committed 1 m.client m 1 (digest_of (m ∷ [])) (reply_to S.machine m)) }
+{}
+
+/// Two of four replicas of a Backup over PBFT, whose calls are their own, prepare the empty base in
+/// slot 0 of view 0, though its primary is faulty. These acts meet the premises.
+pub fn two_replicas_prepare<S: Service, Q>()
+    ensures own { (orders : OrderProto Q Pbft) (sig : List ℕ) → Obeys orders pbft → IsSig sig → (left : ℕ → Option (Backing Q)) × AreOwnCalls (backup orders pbft S.machine) backup_of_four (backup_acts S.machine orders sig) left }
+    ensures premises { (orders : OrderProto Q Pbft) (sig : List ℕ) → Obeys orders pbft → Premises backup_of_four (backup_acts S.machine orders sig) }
+    ensures prepared { (orders : OrderProto Q Pbft) (sig : List ℕ) → Obeys orders pbft → ArePrepared backup_of_four (backup_acts S.machine orders sig) 0 0 empty_base }
+{}

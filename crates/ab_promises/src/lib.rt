@@ -1,0 +1,13 @@
+//! What each protocol promises by itself, and PBFT's lock said of lists of acts: laws alone.
+#![tactic(auto)]
+
+mod examples;
+mod locks;
+mod own;
+
+pub use examples::{four_replicas_answer, two_replicas_prepare};
+pub use locks::{pbft_locks_views, pbft_signs_once, prepared_values_lock, replicas_sign_once};
+pub use own::{
+    backup_calls_are_abstract, chain_calls_are_abstract, own_calls_are_abstract,
+    pbft_calls_are_abstract, quorum_calls_are_abstract, zlight_calls_are_abstract,
+};
