@@ -2,5 +2,8 @@
 pub mod OwnLaws
 pub mod SignsOnce
 pub mod OwnOrders
+pub mod EmptyLogs
+pub mod SmallStarts
 pub mod SmallCalls
+pub mod SmallLocks
 pub mod SmallBackups

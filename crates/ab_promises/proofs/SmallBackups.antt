@@ -7,6 +7,8 @@ use Rattle.std.proofs.lemmas.List.{length-replicate}
 use Rattle.std.proofs.lemmas.List.Elements.{All-nil, Contains-append_left, Contains-append_right, Contains-append_cases}
 use mathlib.Core.List.{IsPrefix}
 use Rattle.ab_mac.proofs.Sha256Lemmas.{length-sha256}
+use Rattle.ab_num.specs.declared.cluster.Cluster.{Cluster}
+use Rattle.ab_num.specs.declared.plan.Plan.TheVariants as plan
 use Rattle.ab_num.specs.declared.party.Party.TheVariants.{Replica}
 use Rattle.ab_num.specs.Parties.{party_eq}
 use Rattle.ab_num.proofs.Lists.{Contains-none, Contains-one, Contains-head, Contains-cons_cases, Contains-flat_map, Contains-filter}
@@ -41,12 +43,17 @@ use Rattle.ab_pbft_rules.specs.Locks.{ArePrepared}
 use Rattle.ab_pbft_rules.specs.Rules.{Pbft, pbft}
 use Rattle.ab_promises.specs.OwnCalls.{AreOwnCalls, none_yet, begins, takes}
 use Rattle.ab_promises.specs.SmallCalls.{no_pen}
-use Rattle.ab_promises.specs.SmallBackups.{four, backup_of_four, empty_base, offers, prepared_by, rule, once, begun_by, taken_by, offered_acts, first_of, primary_acts, backup_acts}
+use Rattle.ab_promises.specs.SmallStarts.{four}
+use Rattle.ab_promises.proofs.EmptyLogs.{AllEmpty, IsIdle, state_empty, more_empty, empty_apart, empty_slots, rises}
+use Rattle.ab_promises.specs.SmallBackups.{backup_of_four, empty_base, offers, prepared_by, rule, once, begun_by, taken_by, offered_acts, first_of, primary_acts, backup_acts}
 
 -- replicas 1 and 2, and 2 and 1
 data IsPair : ℕ → ℕ → Type 0 where
   one_two : IsPair 1 2
   two_one : IsPair 2 1
+
+abbrev small_cluster : Cluster
+small_cluster = four plan.Backup
 
 -- ---- what the rules come to
 
@@ -117,70 +124,30 @@ offers_formed = (
 prepared_formed : (sig : List ℕ) (r : ℕ) → r < 4 → IsSig sig → IsMessage (prepared_by sig r)
 prepared_formed sig r lt is = (refl, (((omega arith, omega (arith, lt)), ((omega arith, omega arith), (omega arith, ((omega arith, omega arith), length-empty_base)))), is))
 
--- ---- histories
-
--- all histories of an act are empty
-abbrev AllEmpty : List (List Request) → Type 0
-AllEmpty hs = (h : List Request) → Contains hs h → h ≡ []
-
-empty_both : (hs ks : List (List Request)) → AllEmpty hs → AllEmpty ks → AllEmpty (hs ++ ks)
-empty_both hs ks one two h has = elim (Contains-append_cases hs ks h has) [ inl in_hs ↦ one h in_hs | inr in_ks ↦ two h in_ks ]
-
-more_empty : (a : Act) (acts : List Act) → AllEmpty (histories_of_act a) → AllEmpty (histories acts) → AllEmpty (histories (a ∷ acts))
-more_empty a acts = empty_both (histories_of_act a) (histories acts)
-
-first_empty : (o : Option (List Request)) → (o ≡ None) ⊎ (o ≡ Some []) → AllEmpty (with_first o)
-first_empty None is h has = absurd (Contains-none h has)
-first_empty (Some l) (inl is) h has = absurd (none-some l (sym is))
-first_empty (Some l) (inr is) h has = sym (Contains-one l h has) ∙ same_Some l [] is
-
--- nothing is logged, and at most the empty base is accepted
-record IsIdle (s : State) : Type 0 where
-  entered : s.entered ≡ []
-  logged : s.log ≡ []
-  first : (s.first ≡ None) ⊎ (s.first ≡ Some [])
-
-state_empty : (s : State) → IsIdle s → AllEmpty (s.log ∷ s.entered ∷ (with_first s.first ++ []))
-state_empty s idle h has =
-    elim (Contains-cons_cases s.log (s.entered ∷ (with_first s.first ++ [])) h has) [
-      | inl e ↦ sym e ∙ idle.logged
-      | inr more ↦ elim (Contains-cons_cases s.entered (with_first s.first ++ []) h more) [
-        | inl e ↦ sym e ∙ idle.entered
-        | inr last ↦ empty_both (with_first s.first) [] (first_empty s.first idle.first) (λ l none. absurd (Contains-none l none)) h last
-      ]
-    ]
-
-empty_begins : (a : List Request) → IsPrefix a [] → a ≡ []
-empty_begins [] is = refl
-empty_begins (m ∷ a) is = absurd (cc (is.1))
-
-rises : IsHistory []
-rises i j e less in_h = absurd (omega (arith, in_h))
-
 -- what the faulty primary says nobody has to have made
-by_primary : (acts : List Act) (s c : Content) → maker_of s ≡ Replica 0 → Contains (s ∷ []) c → is_faulty (Replica 0 ∷ []) (maker_of c) ≡ false → WasMade acts c
-by_primary acts s c own has ok =
+by_primary : (s c : Content) → maker_of s ≡ Replica 0 → Contains (s ∷ []) c → is_faulty (Replica 0 ∷ []) (maker_of c) ≡ false → ⊥
+by_primary s c own has ok =
     let own' : maker_of c ≡ Replica 0 = ap maker_of (sym (Contains-one s c has)) ∙ own in
     let faulty : is_faulty (Replica 0 ∷ []) (maker_of c) ≡ true = ap (is_faulty (Replica 0 ∷ [])) own' in
-    absurd (cc (faulty, ok))
+    cc (faulty, ok)
 
 module _ {S P : Type 0} (machine : Machine S) (orders : OrderProto P Pbft) (obeys : Obeys orders pbft) where
   -- ---- where the replicas are
 
   record IsIn (v : Backing P) (p : Pbft) : Type 0 where
-    cluster_is : orders.cluster v.order ≡ four
+    cluster_is : orders.cluster v.order ≡ small_cluster
     instance_is : orders.instance v.order ≡ 1
     view_is : orders.view v.order ≡ p
     entered_is : v.entered ≡ []
 
   begun_in : (r : ℕ) → IsIn (once machine orders r []) (before r)
   begun_in r =
-      let placed = obeys.placed four 1 r (entry_of [] None) in
-      record { cluster_is = placed.0; instance_is = placed.1; view_is = obeys.begins four 1 r (entry_of [] None); entered_is = refl }
+      let placed = obeys.placed small_cluster 1 r (entry_of [] None) in
+      record { cluster_is = placed.0; instance_is = placed.1; view_is = obeys.begins small_cluster 1 r (entry_of [] None); entered_is = refl }
 
-  module _ (v : Backing P) (p : Pbft) (m : Msg) (e : Reading) (was : IsIn v p) (reads : read four 1 (took m) ≡ e) where
+  module _ (v : Backing P) (p : Pbft) (m : Msg) (e : Reading) (was : IsIn v p) (reads : read small_cluster 1 (took m) ≡ e) where
     told_is : told orders v.order (took m) ≡ e
-    told_is = ap (λ c. read c (orders.instance v.order) (took m)) was.cluster_is ∙ (ap (λ i. read four i (took m)) was.instance_is ∙ reads)
+    told_is = ap (λ c. read c (orders.instance v.order) (took m)) was.cluster_is ∙ (ap (λ i. read small_cluster i (took m)) was.instance_is ∙ reads)
 
     next_in : (q : Pbft) → pbft.after p e ≡ q → IsIn ((rule machine orders).after no_pen v (took m)) q
     next_in q goes =
@@ -219,10 +186,10 @@ module _ {S P : Type 0} (machine : Machine S) (orders : OrderProto P Pbft) (obey
       voted_in : IsIn (once machine orders r (first_of machine orders sig)) (voted r)
       voted_in = next_in (once machine orders r (offers ∷ [])) (accepted r) (prepared_by sig 0) (prepare 0 0 0 empty_base) accepted_in refl (voted r) (votes_first r q pair)
 
-      read_other : read four 1 (took (prepared_by sig q)) ≡ prepare q 0 0 empty_base
+      read_other : read small_cluster 1 (took (prepared_by sig q)) ≡ prepare q 0 0 empty_base
       read_other = of_pair r q pair
         where
-          of_pair : (r q : ℕ) → IsPair r q → read four 1 (took (prepared_by sig q)) ≡ prepare q 0 0 empty_base
+          of_pair : (r q : ℕ) → IsPair r q → read small_cluster 1 (took (prepared_by sig q)) ≡ prepare q 0 0 empty_base
           of_pair _ _ one_two = refl
           of_pair _ _ two_one = refl
 
@@ -279,17 +246,17 @@ module _ {S P : Type 0} (machine : Machine S) (orders : OrderProto P Pbft) (obey
     premises_met = record {
       few = omega arith;
       honest = (
-        λ c has _. other_signed _ 2 1 two_one (4, omega arith, refl) c has,
+        λ c has _. other_signed (taken_by machine orders 1 (prepared_by sig 2) (first_of machine orders sig) ∷ primary_acts machine orders sig) 2 1 two_one (4, omega arith, refl) c has,
         (
-          λ c has _. other_signed _ 1 2 one_two (2, omega arith, refl) c has,
+          λ c has _. other_signed (primary_acts machine orders sig) 1 2 one_two (2, omega arith, refl) c has,
           (
-            λ c has ok. by_primary _ (content.Prepare (Replica 0) 1 0 0 empty_base) c refl has ok,
+            λ c has ok. absurd (by_primary (content.Prepare (Replica 0) 1 0 0 empty_base) c refl has ok),
             (
-              λ c has ok. by_primary _ (content.Prepare (Replica 0) 1 0 0 empty_base) c refl has ok,
+              λ c has ok. absurd (by_primary (content.Prepare (Replica 0) 1 0 0 empty_base) c refl has ok),
               (
-                λ c has ok. by_primary _ (content.PrePrepare (Replica 0) 1 0 0 empty_base) c refl has ok,
+                λ c has ok. absurd (by_primary (content.PrePrepare (Replica 0) 1 0 0 empty_base) c refl has ok),
                 (
-                  λ c has ok. by_primary _ (content.PrePrepare (Replica 0) 1 0 0 empty_base) c refl has ok,
+                  λ c has ok. absurd (by_primary (content.PrePrepare (Replica 0) 1 0 0 empty_base) c refl has ok),
                   (λ c has _. absurd (Contains-none c has), (λ c has _. absurd (Contains-none c has), tt)),
                 ),
               ),
@@ -297,14 +264,8 @@ module _ {S P : Type 0} (machine : Machine S) (orders : OrderProto P Pbft) (obey
           ),
         ),
       );
-      apart = λ h k a b in_h in_k begins_h begins_k e.
-          empty_begins a (subst (λ (l : List Request). IsPrefix a l) (all_empty h in_h) begins_h)
-          ∙ sym (empty_begins b (subst (λ (l : List Request). IsPrefix b l) (all_empty k in_k) begins_k));
-      slots = record {
-        requests = λ m n in_m in_n e. absurd (Contains-none m in_m);
-        lengths = λ h k in_h in_k e. ap length (all_empty h in_h ∙ sym (all_empty k in_k));
-        digests = λ h k in_h in_k e. ap _ (all_empty h in_h ∙ sym (all_empty k in_k));
-      };
+      apart = empty_apart (histories (backup_acts machine orders sig)) all_empty;
+      slots = empty_slots (histories (backup_acts machine orders sig)) all_empty;
     }
 
     pub both_prepare : ArePrepared backup_of_four (backup_acts machine orders sig) 0 0 empty_base

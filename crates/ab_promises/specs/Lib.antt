@@ -1,5 +1,8 @@
 -- The definitions that the contracts of this crate cite.
 pub mod OwnCalls
+pub mod Starts
 pub mod Certified
+pub mod SmallStarts
 pub mod SmallCalls
+pub mod SmallLocks
 pub mod SmallBackups

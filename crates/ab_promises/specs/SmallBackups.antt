@@ -1,8 +1,6 @@
 -- The acts of a small Backup over PBFT, of four replicas: replica 0, the primary of view 0, is faulty, and replica 3 is silent. Replicas 1
 -- and 2 begin, take the PRE-PREPARE of the empty base from replica 0, its PREPARE, and that of one another: so both prepare slot 0.
-use Rattle.std.proofs.Common.{lit≤}
 use Rattle.std.specs.Prelude.{ℕ, None, List, [], ◌∷◌, replicate}
-use Rattle.ab_num.specs.declared.cluster.Cluster.{Cluster}
 use Rattle.ab_num.specs.declared.plan.Plan.TheVariants as plan
 use Rattle.ab_num.specs.declared.party.Party.TheVariants.{Replica}
 use Rattle.ab_svc.specs.Machines.{Machine}
@@ -19,12 +17,10 @@ use Rattle.ab_order.specs.Backups.{Backing}
 use Rattle.ab_order.specs.Protos.{OrderProto, backup}
 use Rattle.ab_pbft_rules.specs.Rules.{Pbft, pbft}
 use Rattle.ab_promises.specs.SmallCalls.{no_pen}
-
-abbrev pub four : Cluster
-four = record { f = 1; clients = 1; plan = plan.Backup; in_bounds = record { some_faulty = lit≤ tt; few_faulty = lit≤ tt; some_client = lit≤ tt; few_clients = lit≤ tt } }
+use Rattle.ab_promises.specs.SmallStarts.{four}
 
 abbrev pub backup_of_four : Setting
-backup_of_four = record { cluster = four; faulty = Replica 0 ∷ []; i = 1 }
+backup_of_four = record { cluster = four plan.Backup; faulty = Replica 0 ∷ []; i = 1 }
 
 abbrev pub empty_base : List ℕ
 empty_base = slot_digest (Base [])
@@ -42,7 +38,7 @@ module _ {S P : Type 0} (machine : Machine S) (orders : OrderProto P Pbft) where
 
   -- replica r, once it took these messages, the newest first
   abbrev pub once : ℕ → List Msg → Backing P
-  once r [] = rule.begin four 1 r (entry_of [] None)
+  once r [] = rule.begin (four plan.Backup) 1 r (entry_of [] None)
   once r (m ∷ taken) = rule.after no_pen (once r taken) (took m)
 
   abbrev pub begun_by : ℕ → Act

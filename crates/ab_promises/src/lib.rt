@@ -2,10 +2,14 @@
 #![tactic(auto)]
 
 mod examples;
+mod kinds;
 mod locks;
 mod own;
 
-pub use examples::{four_replicas_answer, two_replicas_prepare};
+pub use examples::{
+    four_replicas_answer, four_replicas_begin, two_replicas_lock, two_replicas_prepare,
+};
+pub use kinds::replicas_begin_and_stop;
 pub use locks::{pbft_locks_views, pbft_signs_once, prepared_values_lock, replicas_sign_once};
 pub use own::{
     backup_calls_are_abstract, chain_calls_are_abstract, own_calls_are_abstract,
