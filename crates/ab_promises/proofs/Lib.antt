@@ -2,6 +2,7 @@
 pub mod OwnLaws
 pub mod SignsOnce
 pub mod OwnOrders
+pub mod RunsOwn
 pub mod EmptyLogs
 pub mod SmallStarts
 pub mod SmallCalls

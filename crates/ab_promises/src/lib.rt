@@ -13,5 +13,6 @@ pub use kinds::replicas_begin_and_stop;
 pub use locks::{pbft_locks_views, pbft_signs_once, prepared_values_lock, replicas_sign_once};
 pub use own::{
     backup_calls_are_abstract, chain_calls_are_abstract, own_calls_are_abstract,
-    pbft_calls_are_abstract, quorum_calls_are_abstract, zlight_calls_are_abstract,
+    pbft_calls_are_abstract, quorum_calls_are_abstract, runs_call_their_own,
+    zlight_calls_are_abstract,
 };

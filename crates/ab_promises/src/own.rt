@@ -1,14 +1,19 @@
 //! What the acts of an instance promise in which each call of a protocol is its own.
 
-ghost use Rattle.std.specs.Prelude.{IsTrue};
+ghost use Rattle.std.specs.Prelude.{ℕ, ◌≤◌, IsTrue, Option, List};
+ghost use Rattle.ab_num.specs.declared.cluster.Cluster.{Cluster};
+ghost use Rattle.ab_num.specs.declared.party.Party.{Party};
 ghost use Rattle.ab_num.specs.declared.plan.Kind.{Kind as KindOf};
 ghost use Rattle.ab_num.specs.declared.plan.Kind.TheVariants as kind;
+ghost use Rattle.ab_abs.specs.Acts.{setting};
+ghost use Rattle.ab_abs.specs.Deeds.{acts_in};
+ghost use Rattle.ab_abs.specs.Ensembles.{Proto, Ensemble, Reached};
 ghost use Rattle.ab_order.specs.Protos.{OrderProto, Obeys, backup};
 ghost use Rattle.ab_pbft_rules.specs.Rules.{Pbft, pbft};
 ghost use Rattle.ab_quorum.specs.Rules.{quorum};
 ghost use Rattle.ab_zlight.specs.Rules.{zlight};
 ghost use Rattle.ab_chain.specs.Rules.{chain};
-ghost use Rattle.ab_promises.specs.OwnCalls.{OwnCallsKeep, AreAbstract};
+ghost use Rattle.ab_promises.specs.OwnCalls.{AreOwnCalls, OwnCallsKeep, AreAbstract};
 
 use ab_abs::Protocol;
 use ab_backup::{Backup, Orderer};
@@ -55,4 +60,11 @@ pub fn backup_calls_are_abstract<S: Service, O: Orderer>()
 /// So does Backup over PBFT, however it puts what PBFT says into messages.
 pub fn pbft_calls_are_abstract<S: Service, Q>()
     ensures { (orders : OrderProto Q Pbft) → Obeys orders pbft → OwnCallsKeep (backup orders pbft S.machine) kind.Backup (AreAbstract S.machine) }
+{}
+
+/// Whatever events come to replicas that go from instance to instance: in each instance each call of the
+/// protocol is its own.
+pub fn runs_call_their_own<P>()
+    ensures { (proto : Proto P) (c : Cluster) (faulty : List Party) (w : Ensemble P) → Reached proto c faulty w
+        → (i : ℕ) → 1 ≤ i → (left : ℕ → Option P) × AreOwnCalls proto (setting c faulty i) (acts_in i w.run) left }
 {}
