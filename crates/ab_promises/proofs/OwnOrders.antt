@@ -1,5 +1,5 @@
 -- Own calls of a Backup over PBFT are explained by PBFT's rules, which lock.
-use Rattle.std.proofs.Common.{◌≡◌, ◌≢◌, ℕ, ◌≤◌, false, Option, List, [], ◌∷◌, refl, sym, ap, ◌∙◌, subst, inl, inr}
+use Rattle.std.proofs.Common.{◌≡◌, ℕ, ◌≤◌, false, List, [], ◌∷◌, refl, sym, subst, inl, inr}
 use Rattle.std.specs.Prelude.{Contains, IsTrue}
 use Rattle.ab_num.specs.declared.plan.Kind.{Kind}
 use Rattle.ab_num.specs.declared.plan.Kind.TheVariants as kind
@@ -12,18 +12,16 @@ use Rattle.ab_msg.specs.Claims.{maker_of}
 use Rattle.ab_msg.specs.Slots.{slot_digest}
 use Rattle.ab_abs.specs.Faults.{is_faulty}
 use Rattle.ab_abs.specs.Values.{goes}
-use Rattle.ab_abs.specs.Acts.{Setting, Act, Premises, IsHonest, WasMade}
-use Rattle.ab_abs.specs.Backing.{IsCorrect}
+use Rattle.ab_abs.specs.Acts.{Setting, Act, IsHonest, WasMade}
 use Rattle.ab_abs.specs.Kinds.{kind_in, limit_in}
 use Rattle.ab_abs.specs.OrderRules.{WasClaimed}
 use Rattle.ab_lock.specs.Acts.{Prepare, Commit as lock_commit}
 use Rattle.ab_lock.specs.Quorums.{IsCommitted, IsCertified}
 use Rattle.ab_lock.specs.Steps.{signs}
-use Rattle.ab_lock.proofs.ActLemmas.{made_prepare, commits_in, lawful_follows}
+use Rattle.ab_lock.proofs.ActLemmas.{made_prepare, commits_in}
 use Rattle.ab_lock.proofs.Executed.{lock}
 use Rattle.ab_lock.proofs.Traces.{signs_once}
 use Rattle.ab_order.specs.Protos.{OrderProto, Obeys, is_backup, backup, backup_sound, backup_stands}
-use Rattle.ab_order.specs.Backups.{Backing}
 use Rattle.ab_order.proofs.ProtoLaws as laws
 use Rattle.ab_pbft_rules.specs.Traces.{OrderStep, IsSource, IsPbftSound}
 use Rattle.ab_pbft_rules.specs.Rules.{Pbft, pbft}
@@ -31,10 +29,10 @@ use Rattle.ab_pbft_rules.specs.Standing.{PbftStands}
 use Rattle.ab_pbft_rules.specs.Locks.{ArePrepared}
 use Rattle.ab_pbft_rules.proofs.LawfulOrderer.{pbft_lawful}
 use Rattle.ab_pbft_rules.proofs.LockedActs.{locked}
-use Rattle.ab_pbft_rules.proofs.OneOrder.{trace, traces, Made, stepped, by_replica, premises}
+use Rattle.ab_pbft_rules.proofs.OneOrder.{traces, Made, stepped, by_replica, premises}
 use Rattle.ab_pbft_rules.proofs.OrderlyOrderer.{pbft_orderly}
-use Rattle.ab_promises.specs.OwnCalls.{AreOwnCalls, OwnCallsKeep, AreAbstract}
-use Rattle.ab_promises.specs.Certified.{SignOnce, IsCertificate, IsTaken, IsHeld, LockViews}
+use Rattle.ab_promises.specs.OwnCalls.{OwnCallsKeep, AreAbstract}
+use Rattle.ab_promises.specs.Certified.{SignOnce, IsCertificate, IsTaken, LockViews}
 use Rattle.ab_promises.proofs.OwnLaws.{own_sound}
 
 -- what a correct party checked of a correct one was made

@@ -1,6 +1,5 @@
 -- Each instance of a run over a protocol is a list of acts in which each call is its own.
-use Rattle.std.proofs.Common.{◌≡◌, ◌≢◌, ℕ, ◌+◌, ◌*◌, ◌<◌, ◌≤◌, Bool, true, false, Option, None, Some, List, [], ◌∷◌, ◌⊎◌, refl, sym, ap, ◌∙◌, subst, inl, inr, arith}
-use Rattle.std.specs.Prelude.{Contains}
+use Rattle.std.proofs.Common.{◌≡◌, ◌≢◌, ℕ, ◌+◌, ◌*◌, ◌<◌, ◌≤◌, true, false, Option, None, Some, List, [], ◌∷◌, ◌⊎◌, refl, sym, ap, ◌∙◌, subst, inl, inr, arith}
 use Rattle.std.proofs.lemmas.Bool.{cases_Bool, cases_eq}
 use Rattle.ab_num.specs.declared.cluster.Cluster.{Cluster}
 use Rattle.ab_num.specs.declared.party.Party.{Party}
@@ -15,8 +14,7 @@ use Rattle.ab_abs.specs.Faults.{is_faulty}
 use Rattle.ab_abs.specs.Observations.{IsInitHistory}
 use Rattle.ab_abs.specs.Acts.{Act, Setting, MayStart, unmarked, with_init, setting, observations, own_acts, state_of}
 use Rattle.ab_abs.specs.Rules.{IsOther, by_client, takes as takes_cert, aborts}
-use Rattle.ab_abs.specs.Deeds.{InstanceAct, acts_in, seen_in}
-use Rattle.ab_abs.specs.Messages.{Call}
+use Rattle.ab_abs.specs.Deeds.{InstanceAct, acts_in}
 use Rattle.ab_abs.specs.Ensembles.{Proto, Ensemble, EnsembleEvent, begins as begins_in, asked, accepts, panics, other, enters, Reached, at_first, further, MayTake, entry_of, begin_of, asked_of, halt_of, did, put}
 use Rattle.ab_abs.proofs.Facts.{party_eq-Decides, init_later, init_first}
 use Rattle.ab_abs.proofs.Reach.{did_cases, more_state, put_same, put_other}

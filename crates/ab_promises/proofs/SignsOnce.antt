@@ -1,12 +1,12 @@
 -- A replica signs at most one PREPARE for each view and slot.
-use Rattle.std.proofs.Common.{◌≡◌, ℕ, zero, suc, ◌<◌, Bool, Some, List, [], ◌∷◌, ◌⊎◌, length, slice_get, refl, sym, ap, ◌∙◌, subst, inl, inr, arith}
+use Rattle.std.proofs.Common.{◌≡◌, ℕ, zero, suc, ◌<◌, Bool, Some, List, [], ◌∷◌, ◌⊎◌, slice_get, refl, sym, ap, subst, inl, inr, arith}
 use Rattle.std.specs.Prelude.{Contains}
 use Rattle.std.proofs.lemmas.Option.{none-some, same_Some}
 use Rattle.ab_num.specs.declared.party.Party.{Party}
 use Rattle.ab_num.proofs.Lists.{Contains-cons_cases, Contains-none}
 use Rattle.ab_lock.specs.Steps.{Step, accepts, signs, prepares, changes, enters, executes, State, after, state_of, Can, Follows}
 use Rattle.ab_lock.specs.Quorums.{IsCorrect, IsCommitted, HasPrepared}
-use Rattle.ab_lock.specs.Acts.{LockAct, LockContent, Prepare, maker_of, steps_of, WasMade}
+use Rattle.ab_lock.specs.Acts.{LockAct, Prepare, steps_of, WasMade}
 use Rattle.ab_lock.specs.Promises.{LockPremises}
 use Rattle.ab_lock.proofs.ActLemmas.{steps_in, made_prepare, lawful_follows, premises_of}
 use Rattle.ab_lock.proofs.Consistent.{IsConsistent, consistent, view_rises}

@@ -1,11 +1,9 @@
 -- The acts of the small Backup are own calls, meet the premises, and prepare slot 0.
-use Rattle.std.proofs.Common.{◌≡◌, ℕ, zero, suc, ◌<◌, ◌≤◌, ◌⊎◌, Bool, true, false, Option, Some, None, List, [], ◌∷◌, ◌++◌, length, map, refl, sym, ap, ◌∙◌, subst, inl, inr, arith}
+use Rattle.std.proofs.Common.{◌≡◌, ℕ, ◌<◌, ◌⊎◌, true, false, Option, Some, None, List, [], ◌∷◌, ◌++◌, length, map, refl, sym, ap, ◌∙◌, subst, inl, inr, arith}
 use Rattle.std.specs.Prelude.{Contains}
 use Rattle.std.specs.List.{IsDistinct}
-use Rattle.std.proofs.lemmas.Option.{none-some, same_Some}
-use Rattle.std.proofs.lemmas.List.{length-replicate}
-use Rattle.std.proofs.lemmas.List.Elements.{All-nil, Contains-append_left, Contains-append_right, Contains-append_cases}
-use mathlib.Core.List.{IsPrefix}
+use Rattle.std.proofs.lemmas.Option.{none-some}
+use Rattle.std.proofs.lemmas.List.Elements.{All-nil, Contains-append_left, Contains-append_right}
 use Rattle.ab_mac.proofs.Sha256Lemmas.{length-sha256}
 use Rattle.ab_num.specs.declared.cluster.Cluster.{Cluster}
 use Rattle.ab_num.specs.declared.plan.Plan.TheVariants as plan
@@ -13,9 +11,7 @@ use Rattle.ab_num.specs.declared.party.Party.TheVariants.{Replica}
 use Rattle.ab_num.specs.Parties.{party_eq}
 use Rattle.ab_num.proofs.Lists.{Contains-none, Contains-one, Contains-head, Contains-cons_cases, Contains-flat_map, Contains-filter}
 use Rattle.ab_num.proofs.Tests.{bytes_eq-refl}
-use Rattle.ab_hist.specs.declared.request.Request.{Request}
 use Rattle.ab_hist.specs.Digests.{digest_of_base}
-use Rattle.ab_hist.specs.Histories.{IsHistory}
 use Rattle.ab_svc.specs.Machines.{Machine}
 use Rattle.ab_msg.specs.declared.content.Content.{Content}
 use Rattle.ab_msg.specs.declared.content.Content.TheVariants as content
@@ -26,18 +22,18 @@ use Rattle.ab_msg.specs.declared.value.Value.TheVariants.{Base}
 use Rattle.ab_msg.specs.Claims.{maker_of, stated, fresh}
 use Rattle.ab_msg.specs.Fields.{IsSig}
 use Rattle.ab_msg.specs.Messages.{IsMessage}
-use Rattle.ab_msg.specs.Slots.{base_digest, slot_digest}
+use Rattle.ab_msg.specs.Slots.{base_digest}
 use Rattle.ab_abs.specs.Backing.{IsCorrect}
 use Rattle.ab_abs.specs.Faults.{is_faulty}
-use Rattle.ab_abs.specs.Acts.{Act, State, WasMade, histories, histories_of_act, with_first, unmarked, Premises}
-use Rattle.ab_abs.specs.Messages.{Call, took, offered}
+use Rattle.ab_abs.specs.Acts.{Act, WasMade, histories, histories_of_act, unmarked, Premises}
+use Rattle.ab_abs.specs.Messages.{took}
 use Rattle.ab_abs.specs.Ensembles.{makes, entry_of, MayTake}
 use Rattle.ab_abs.proofs.Facts.{party_eq-Decides}
 use Rattle.ab_lock.specs.Steps.{Cert, with_cert}
 use Rattle.ab_lock.specs.Votes.{SlotVote}
 use Rattle.ab_order.specs.Inputs.{Reading, pre_prepare_base, prepare, handed}
 use Rattle.ab_order.specs.Readings.{read}
-use Rattle.ab_order.specs.Backups.{Backing, backup_state, first_answers, later_answers}
+use Rattle.ab_order.specs.Backups.{Backing, first_answers, later_answers}
 use Rattle.ab_order.specs.Protos.{OrderProto, Obeys, told, viewed, answer_out}
 use Rattle.ab_pbft_rules.specs.Locks.{ArePrepared}
 use Rattle.ab_pbft_rules.specs.Rules.{Pbft, pbft}

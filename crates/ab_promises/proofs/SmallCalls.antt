@@ -1,22 +1,21 @@
 -- The acts of the small instance are own calls of Quorum.
-use Rattle.std.proofs.Common.{◌≡◌, ℕ, zero, suc, ◌<◌, Bool, true, false, Option, Some, None, List, [], ◌∷◌, length, replicate, refl, sym, ap, inl, inr, arith}
+use Rattle.std.proofs.Common.{◌≡◌, ℕ, zero, suc, ◌<◌, true, false, Option, Some, None, List, [], ◌∷◌, refl, arith}
 use Rattle.std.specs.Prelude.{Contains}
 use Rattle.std.proofs.lemmas.Option.{none-some}
 use Rattle.ab_hist.specs.declared.request.Request.{Request}
-use Rattle.ab_hist.specs.Digests.{digest_of}
 use Rattle.ab_num.proofs.Lists.{Contains-head}
 use Rattle.ab_svc.specs.Machines.{Machine}
 use Rattle.ab_msg.specs.declared.content.Content.{Content}
 use Rattle.ab_msg.specs.Fields.{IsRequest}
 use Rattle.ab_msg.specs.Messages.{IsMessage}
 use Rattle.ab_abs.specs.declared.rule.ReplyRule.TheVariants as rules
-use Rattle.ab_abs.specs.declared.seen.Seen.TheVariants.{Invoked, Committed}
-use Rattle.ab_abs.specs.Acts.{Act, state_of, begun_with, abort_of, unmarked}
-use Rattle.ab_abs.specs.Rules.{IsOther, aborts as aborts_so}
+use Rattle.ab_abs.specs.declared.seen.Seen.TheVariants.{Invoked}
+use Rattle.ab_abs.specs.Acts.{Act, state_of, abort_of, unmarked}
+use Rattle.ab_abs.specs.Rules.{aborts as aborts_so}
 use Rattle.ab_abs.specs.Members.{Member}
 use Rattle.ab_abs.specs.Messages.{took}
 use Rattle.ab_abs.specs.Ensembles.{MayTake, entry_of, put}
-use Rattle.ab_abs.specs.SmallActs.{small, holding, begins_small, votes_for, of_client, answers_small, halts_small, aborts_small, reply_to, begun_acts, answered_acts, aborted_acts, small_acts}
+use Rattle.ab_abs.specs.SmallActs.{small, holding, begins_small, votes_for, answers_small, halts_small, aborts_small, answered_acts, aborted_acts, small_acts}
 use Rattle.ab_abs.proofs.SmallClients.{invokes_by, commits_by, takes_by}
 use Rattle.ab_abs.proofs.Witness.{cert}
 use Rattle.ab_quorum.specs.Rules.{quorum}

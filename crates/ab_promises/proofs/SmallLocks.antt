@@ -1,5 +1,5 @@
 -- The two replicas meet the lock's premises.
-use Rattle.std.proofs.Common.{◌≡◌, ℕ, zero, suc, ◌<◌, true, false, Some, List, [], ◌∷◌, ◌++◌, slice_get, length, refl, sym, subst, ap, inl, inr, arith}
+use Rattle.std.proofs.Common.{◌≡◌, ℕ, zero, suc, ◌<◌, true, false, Some, List, [], ◌∷◌, slice_get, refl, sym, subst, ap, inl, inr, arith}
 use Rattle.std.specs.Prelude.{Contains, IsTrue}
 use Rattle.std.specs.List.{IsDistinct}
 use Rattle.std.proofs.lemmas.Option.{none-some, same_Some}
@@ -8,7 +8,7 @@ use Rattle.ab_num.proofs.Lists.{Contains-head, Contains-one, Contains-none, Cont
 use Rattle.ab_abs.specs.Faults.{is_faulty}
 use Rattle.ab_lock.specs.Steps.{Step, signs, accepts, prepares, Follows}
 use Rattle.ab_lock.specs.Quorums.{AreReplicas, IsCorrect, IsCommitted, HasPrepared}
-use Rattle.ab_lock.specs.Acts.{LockContent, LockAct, Prepare, maker_of, WasMade, Knows, taken, its_own, KnowsQuorum, Backs, steps_of, made}
+use Rattle.ab_lock.specs.Acts.{LockContent, LockAct, Prepare, maker_of, WasMade, Knows, taken, its_own, KnowsQuorum, Backs, steps_of}
 use Rattle.ab_lock.specs.Promises.{LockPremises}
 use Rattle.ab_lock.specs.SmallActs.{digest, goes, may_stand}
 use Rattle.ab_promises.specs.SmallLocks.{third_faulty, signed, signing, votes_of, preparing, both_sign, two_prepare}

@@ -1,10 +1,9 @@
 -- Replicas that begin meet the premises, whatever the protocol.
-use Rattle.std.proofs.Common.{◌≡◌, ℕ, ◌<◌, ◌⊎◌, Bool, Option, Some, None, List, [], ◌∷◌, refl, inl, inr, arith}
-use Rattle.std.specs.Prelude.{Contains}
+use Rattle.std.proofs.Common.{◌≡◌, ℕ, ◌<◌, Bool, Option, Some, None, List, [], ◌∷◌, refl, inl, inr, arith}
 use Rattle.ab_num.specs.declared.plan.Kind.{Kind}
 use Rattle.ab_num.specs.declared.plan.Plan.{Plan}
 use Rattle.ab_num.proofs.Lists.{Contains-none}
-use Rattle.ab_abs.specs.Acts.{Act, Premises, histories, histories_of_act, state_of, MayStart}
+use Rattle.ab_abs.specs.Acts.{Act, Premises, histories, histories_of_act, state_of}
 use Rattle.ab_abs.specs.Ensembles.{Proto, entry_of, put}
 use Rattle.ab_abs.specs.FormLaws.{KeepsForm}
 use Rattle.ab_promises.specs.OwnCalls.{AreOwnCalls, none_yet, begins}

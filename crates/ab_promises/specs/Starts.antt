@@ -1,5 +1,5 @@
 -- How replicas begin and stop.
-use Rattle.std.specs.Prelude.{◌≡◌, ℕ, true, List, []}
+use Rattle.std.specs.Prelude.{◌≡◌, ℕ, true, []}
 use Rattle.ab_num.specs.declared.cluster.Cluster.{Cluster}
 use Rattle.ab_abs.specs.declared.entry.Entry.{Entry}
 use Rattle.ab_abs.specs.Ensembles.{Proto}
