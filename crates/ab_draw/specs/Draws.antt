@@ -13,7 +13,7 @@ use Rattle.ab_replay.specs.Replays.{counts_of, proto_of, run_in, setup_in}
 use Rattle.ab_picture.specs.declared.picture.SentPacket.{SentPacket}
 use Rattle.ab_picture.specs.declared.picture.Picture.{Picture}
 use Rattle.ab_picture.specs.Composed.{IsPicture, Tale}
-use Rattle.ab_picture.specs.Telling.{Tells}
+use Rattle.ab_picture.specs.Drawn.{Shows}
 
 -- how many events are drawn
 abbrev pub most_drawn : ℕ
@@ -62,7 +62,7 @@ pub record IsPictureOf {P : Type 0} (proto : Proto P) (s : Script) (p : Picture)
 pub record DrawsRun {P : Type 0} (proto : Proto P) (s : Script) (svg : List ℕ) : Type 0 where
   pub picture : Picture
   pub pictures : IsPictureOf proto s picture
-  pub tells : Tells picture.marks.items svg
+  pub shows : Shows picture svg
 
 -- the text is a schedule that runs, and this is the SVG of a picture of its run
 pub record Draws (text svg : List ℕ) : Type 0 where

@@ -1,3 +1,3 @@
 -- The lemmas that the proofs of this crate share.
 pub mod Gathering
-pub mod ToldLemmas
+pub mod ListLemmas

@@ -1,9 +1,9 @@
 //! Where things stand in a picture.
 
-ghost use Rattle.std.specs.Prelude.{◌≡◌, ◌+◌, ◌*◌, ◌^◌, ◌<◌};
-ghost use Rattle.ab_picture.specs.Telling.{y_of};
+ghost use Rattle.std.specs.Prelude.{◌≡◌, ◌^◌, ◌<◌, length, position};
+ghost use Rattle.ab_picture.specs.Layout.{bottom_of, is_lane_of, number_of, x_at, x_of, x_of_event, x_of_margin, x_of_party, y_of};
 
-use crate::picture::{Lane, Moment};
+use crate::picture::{Lane, Moment, Picture};
 use ab_num::Party;
 use ab_text::Core;
 
@@ -30,38 +30,54 @@ pub(crate) fn y_of(event: u32) -> u64
 }
 
 /// A core's number, from 1.
-fn number_of(core: &Core) -> u8 {
+fn number_of(core: &Core) -> u8
+    ensures { result ≡ number_of core.now }
+{
     core.twin.unwrap_or(1)
 }
 
 /// Where the lifeline in this place is.
 pub(crate) fn x_at(place: usize) -> u64
-    ensures { result < 2 ^ 17 }
+    ensures is { result ≡ x_at place }
+    ensures low { result < 2 ^ 17 }
 {
     LEFT + STEP * place.min(MOST_LANES) as u64
 }
 
+/// Whether a lane is that of a core.
+fn is_lane_of(lane: &Lane, core: &Core) -> bool
+    ensures { result ≡ is_lane_of core.now lane.now }
+{
+    lane.core.party.is_same(core.party) && number_of(&lane.core) == number_of(core)
+}
+
+/// The place of a core's lane.
+fn place_of(lanes: &[Lane], core: &Core) -> Option<usize>
+    ensures { result ≡ position (is_lane_of core.now) lanes.now }
+{
+    lanes.iter().position(|lane| is_lane_of(lane, core))
+}
+
 /// Where the lifeline of a core is.
 pub(crate) fn x_of(lanes: &[Lane], core: &Core) -> u64
-    ensures { result < 2 ^ 20 }
+    ensures is { result ≡ x_of lanes.now core.now }
+    ensures low { result < 2 ^ 20 }
 {
-    let place = lanes
-        .iter()
-        .position(|lane| lane.core.party == core.party && number_of(&lane.core) == number_of(core))
-        .unwrap_or(0);
-    x_at(place)
+    x_at(place_of(lanes, core).unwrap_or(0))
 }
 
 /// Where the lifeline of a party's first core is.
 pub(crate) fn x_of_party(lanes: &[Lane], party: Party) -> u64
-    ensures { result < 2 ^ 20 }
+    ensures is { result ≡ x_of_party lanes.now party }
+    ensures low { result < 2 ^ 20 }
 {
     x_of(lanes, &Core { party, twin: None })
 }
 
 /// Where the lifeline of an event's core is.
-pub(crate) fn x_of_event(lanes: &[Lane], moments: &[Moment], event: u32) -> u64
-    ensures { result < 2 ^ 20 }
+fn x_of_event(lanes: &[Lane], moments: &[Moment], event: u32) -> u64
+    ensures is { result ≡ x_of_event lanes.now moments.now event }
+    ensures low { result < 2 ^ 20 }
 {
     let Some(index) = event.checked_sub(1) else {
         return LEFT;
@@ -77,9 +93,26 @@ pub(crate) fn x_of_event(lanes: &[Lane], moments: &[Moment], event: u32) -> u64
     }
 }
 
+/// Where the lifeline of an event of a picture is.
+pub(crate) fn x_of_row(picture: &Picture, event: u32) -> u64
+    ensures is { result ≡ x_of_event picture.now.lanes.items picture.now.moments.items event }
+    ensures low { result < 2 ^ 20 }
+{
+    x_of_event(picture.lanes.as_slice(), picture.moments.as_slice(), event)
+}
+
 /// Where what is told beside the lifelines begins.
 pub(crate) fn x_of_margin(lanes: &[Lane]) -> u64
-    ensures { result < 2 ^ 20 }
+    ensures is { result ≡ x_of_margin lanes.now }
+    ensures low { result < 2 ^ 20 }
 {
     x_at(lanes.len()) + 20
+}
+
+/// How far down the lifelines reach.
+pub(crate) fn bottom_of(picture: &Picture) -> u64
+    requires { length picture.now.moments.items < 2 ^ 31 }
+    ensures { result ≡ bottom_of picture.now }
+{
+    y_of(picture.moments.len() as u32) + 20
 }

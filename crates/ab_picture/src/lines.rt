@@ -1,7 +1,8 @@
 //! What is told beside the lifelines.
 
 ghost use Rattle.std.specs.Prelude.{◌≡◌, IfOk, string_bytes};
-ghost use Rattle.ab_picture.specs.Telling.{opening_of, AddsAll, AddsOne};
+ghost use Rattle.ab_picture.specs.Lists.{AddsAll, AddsOne};
+ghost use Rattle.ab_picture.specs.Telling.{opening_of, IsLabel};
 
 use crate::escaping::add_escaped;
 use crate::labels::label_of;
@@ -50,7 +51,7 @@ fn add_told(
     margin: u64,
     mark: &Mark,
 ) -> Result<Pen, OutOfMemory>
-    ensures { IfOk result (λ _. AddsOne mark.now out.old.items out.new.items) }
+    ensures { IfOk result (λ _. AddsOne IsLabel mark.now out.old.items out.new.items) }
 {
     let x = if pen.event == mark.event {
         pen.x
@@ -78,7 +79,7 @@ pub(crate) fn add_all_told(
     margin: u64,
     marks: &[Mark],
 ) -> Result<u64, OutOfMemory>
-    ensures { IfOk result (λ _. AddsAll marks.now out.old.items out.new.items) }
+    ensures { IfOk result (λ _. AddsAll IsLabel marks.now out.old.items out.new.items) }
 {
     let mut pen = Pen::new(margin);
     for mark in marks {

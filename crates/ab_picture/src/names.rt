@@ -1,7 +1,12 @@
 //! Names of messages.
 
+ghost use Rattle.std.specs.Prelude.{◌≡◌};
+ghost use Rattle.ab_picture.specs.Names.{message_name};
+
 /// The name of the message with this code.
-pub(crate) fn message_name(code: u8) -> &'static str {
+pub(crate) fn message_name(code: u8) -> &'static str
+    ensures { result.now ≡ message_name code }
+{
     match code {
         1 => "REQ",
         2 => "ORDER",

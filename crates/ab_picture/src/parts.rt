@@ -1,16 +1,29 @@
 //! The parts of a picture as elements.
 
-ghost use Rattle.std.specs.Prelude.{◌^◌, ◌<◌};
+ghost use Rattle.std.specs.Prelude.{◌≡◌, ◌-◌, ◌^◌, ◌<◌, ◌≤◌, ◌++◌, IfOk, length, string_bytes};
+ghost use Rattle.ab_text.specs.Cores.{core_text};
+ghost use Rattle.ab_picture.specs.Elements.{again_text, arrow_begin, arrow_end, badge_text, box_text, boxed_text, clock_face, clock_hand, clock_text, colour_of, trigger_name, trigger_text, event_class, first_badge, half_of, head_class, head_text, lane_class, lifeline_text, line_text, name_text, number_text, panic_text, row_text, rule_text, stub_line, stub_title, IsArrow, IsColour, IsMoment, IsName, IsSign, IsStub};
+ghost use Rattle.ab_picture.specs.Layout.{y_of};
 
-use crate::layout::{x_of, x_of_event, x_of_party, y_of};
+use crate::layout::{bottom_of, x_of, x_of_party, x_of_row, y_of};
 use crate::names::message_name;
 use crate::picture::{Arrow, Lane, Mark, Moment, Picture, Sign, Stub, Trigger};
 use ab_num::Party;
 use ab_text::{Core, Premise, party_string};
 use std::alloc::{AllocError, Global};
 
+/// One text behind another.
+fn joined(mut front: String, back: String) -> Result<String, AllocError>
+    ensures { IfOk result (λ s. string_bytes s ≡ string_bytes front ++ string_bytes back) }
+{
+    front.push_str(back.as_str())?;
+    Ok(front)
+}
+
 /// The name of a core.
-fn core_string(alloc: Global, core: &Core) -> Result<String, AllocError> {
+fn core_string(alloc: Global, core: &Core) -> Result<String, AllocError>
+    ensures { IfOk result (λ s. string_bytes s ≡ core_text core.now) }
+{
     let party = party_string(alloc, core.party)?;
     match core.twin {
         None => Ok(party),
@@ -19,29 +32,67 @@ fn core_string(alloc: Global, core: &Core) -> Result<String, AllocError> {
 }
 
 /// The class of a party's head: red where a broken premise names the party.
-fn head_class(premise: &Premise, party: Party) -> &'static str {
+fn head_class(premise: &Premise, party: Party) -> &'static str
+    ensures { result.now ≡ head_class premise.now party }
+{
     match premise {
-        Premise::Broken { party: named, .. } if *named == party => "head red",
-        _ => "head",
+        Premise::Held => "head",
+        Premise::Broken { party: named, .. } => {
+            if named.is_same(party) {
+                "head red"
+            } else {
+                "head"
+            }
+        }
     }
 }
 
 /// The class of what shows an event: red where it broke a premise.
-fn event_class(premise: &Premise, event: u32) -> &'static str {
+fn event_class(premise: &Premise, event: u32) -> &'static str
+    ensures { result.now ≡ event_class premise.now event }
+{
     match premise {
-        Premise::Broken { event: named, .. } if *named == event => "red",
-        _ => "plain",
+        Premise::Held => "plain",
+        Premise::Broken { event: named, .. } => { if *named == event { "red" } else { "plain" } }
     }
 }
 
 /// The class of a lifeline. A correct replica begins in instance 1, and its line has a colour.
-fn lane_class(lane: &Lane) -> &'static str {
+fn lane_class(lane: &Lane) -> &'static str
+    ensures { result.now ≡ lane_class lane.now.core.party lane.now.faulty }
+{
     match (lane.core.party, lane.faulty) {
         (Party::Client(_), false) => "lane",
         (Party::Client(_), true) => "lane faulty",
         (Party::Replica(_), false) => "lane replica i1",
         (Party::Replica(_), true) => "lane replica faulty",
     }
+}
+
+/// The name at the head of a lifeline.
+fn head_string(
+    alloc: Global,
+    head: &str,
+    name: &str,
+    x: u64,
+    above: u64,
+) -> Result<String, AllocError>
+    ensures { IfOk result (λ s. string_bytes s ≡ head_text head.now name.now x above) }
+{
+    format!(in alloc; "<text class=\"{head}\" x=\"{x}\" y=\"{above}\">{name}</text>\n")
+}
+
+/// The line of a lifeline.
+fn line_string(
+    alloc: Global,
+    class: &str,
+    x: u64,
+    top: u64,
+    bottom: u64,
+) -> Result<String, AllocError>
+    ensures { IfOk result (λ s. string_bytes s ≡ line_text class.now x top bottom) }
+{
+    format!(in alloc; "<path class=\"{class}\" d=\"M{x} {top}V{bottom}\"/>\n")
 }
 
 /// A lifeline, with the core's name at its head.
@@ -51,42 +102,76 @@ pub(crate) fn lane_string(
     premise: &Premise,
     x: u64,
     bottom: u64,
-) -> Result<String, AllocError> {
+) -> Result<String, AllocError>
+    ensures { IfOk result (λ s. string_bytes s ≡ lifeline_text (head_class premise.now lane.now.core.party) (lane_class lane.now.core.party lane.now.faulty) (core_text lane.now.core) x (y_of 0 - 24) (y_of 0 - 12) bottom) }
+{
     let name = core_string(alloc, &lane.core)?;
     let head = head_class(premise, lane.core.party);
     let class = lane_class(lane);
     let top = y_of(0) - 12;
     let above = y_of(0) - 24;
-    format!(in alloc;
-        "<text class=\"{head}\" x=\"{x}\" y=\"{above}\">{name}</text>\n<path class=\"{class}\" d=\"M{x} {top}V{bottom}\"/>\n"
-    )
+    let front = head_string(alloc, head, name.as_str(), x, above)?;
+    let line = line_string(alloc, class, x, top, bottom)?;
+    joined(front, line)
 }
 
 /// The number of the colour of an instance.
-fn colour_of(instance: u32) -> u32 {
+fn colour_of(instance: u32) -> u32
+    ensures { result ≡ colour_of instance }
+{
     instance % 8
+}
+
+/// A box in a colour.
+fn box_string(
+    alloc: Global,
+    colour: u32,
+    left: u64,
+    top: u64,
+    width: u64,
+) -> Result<String, AllocError>
+    ensures { IfOk result (λ s. string_bytes s ≡ box_text colour left top width) }
+{
+    format!(in alloc;
+        "<rect class=\"i{colour}\" x=\"{left}\" y=\"{top}\" width=\"{width}\" height=\"18\" rx=\"8\"/>"
+    )
+}
+
+/// The number in a box.
+fn boxed_string(alloc: Global, instance: u32, x: u64, base: u64) -> Result<String, AllocError>
+    ensures { IfOk result (λ s. string_bytes s ≡ boxed_text instance x base) }
+{
+    format!(in alloc; "<text class=\"badge\" x=\"{x}\" y=\"{base}\">{instance}</text>\n")
+}
+
+/// Half the width of the box of a number.
+fn half_of(alloc: Global, instance: u32) -> Result<u64, AllocError>
+    ensures is { IfOk result (λ half. half ≡ half_of instance) }
+    ensures low { IfOk result (λ half. half ≤ 85) }
+{
+    let number = format!(in alloc; "{instance}")?;
+    let digits = number.as_bytes().len().min(20);
+    Ok(5 + 4 * digits as u64)
 }
 
 /// A number on the colour of an instance.
 fn badge_string(alloc: Global, instance: u32, x: u64, y: u64) -> Result<String, AllocError>
     requires x { x < 2 ^ 20 }
     requires y { y < 2 ^ 40 }
+    ensures { IfOk result (λ s. string_bytes s ≡ badge_text instance (half_of instance) x y) }
 {
-    let colour = colour_of(instance);
-    let number = format!(in alloc; "{instance}")?;
-    let half = 5 + 4 * number.len().min(20) as u64;
-    let width = 2 * half;
+    let half = half_of(alloc, instance)?;
     let left = x.saturating_sub(half);
     let top = y.saturating_sub(9);
-    let base = y + 4;
-    format!(in alloc;
-        "<rect class=\"i{colour}\" x=\"{left}\" y=\"{top}\" width=\"{width}\" height=\"18\" rx=\"8\"/><text class=\"badge\" x=\"{x}\" y=\"{base}\">{number}</text>\n"
-    )
+    let colour = box_string(alloc, colour_of(instance), left, top, 2 * half)?;
+    let number = boxed_string(alloc, instance, x, y + 4)?;
+    joined(colour, number)
 }
 
 /// Instance 1 at the head of a correct replica's lifeline.
 pub(crate) fn first_badge_string(alloc: Global, lane: &Lane, x: u64) -> Result<String, AllocError>
     requires { x < 2 ^ 20 }
+    ensures { IfOk result (λ s. string_bytes s ≡ first_badge lane.now.core.party lane.now.faulty x) }
 {
     match (lane.core.party, lane.faulty) {
         (Party::Replica(_), false) => badge_string(alloc, 1, x, y_of(0) - 6),
@@ -100,15 +185,45 @@ pub(crate) fn colour_string(
     alloc: Global,
     picture: &Picture,
     mark: &Mark,
-    bottom: u64,
-) -> Result<String, AllocError> {
+) -> Result<String, AllocError>
+    requires { length picture.now.moments.items < 2 ^ 31 }
+    ensures { IfOk result (λ s. IsColour picture.now mark.now (string_bytes s)) }
+{
     let Sign::Entered { instance } = &mark.sign else {
         return Ok(String::new(alloc));
     };
     let colour = colour_of(*instance);
     let x = x_of_party(picture.lanes.as_slice(), mark.party);
     let y = y_of(mark.event);
+    let bottom = bottom_of(picture);
     format!(in alloc; "<path class=\"lane replica i{colour}\" d=\"M{x} {y}V{bottom}\"/>\n")
+}
+
+/// The line of a row.
+fn rule_string(alloc: Global, y: u64, end: u64) -> Result<String, AllocError>
+    ensures { IfOk result (λ s. string_bytes s ≡ rule_text y end) }
+{
+    format!(in alloc; "<path class=\"row\" d=\"M48 {y}H{end}\"/>")
+}
+
+/// The number of an event, before its row.
+fn number_string(alloc: Global, class: &str, event: u32, base: u64) -> Result<String, AllocError>
+    ensures { IfOk result (λ s. string_bytes s ≡ number_text class.now event base) }
+{
+    format!(in alloc; "<text class=\"number {class}\" x=\"44\" y=\"{base}\">{event}</text>")
+}
+
+/// The number of an event, behind its row.
+fn again_string(
+    alloc: Global,
+    class: &str,
+    event: u32,
+    margin: u64,
+    base: u64,
+) -> Result<String, AllocError>
+    ensures { IfOk result (λ s. string_bytes s ≡ again_text class.now event margin base) }
+{
+    format!(in alloc; "<text class=\"again {class}\" x=\"{margin}\" y=\"{base}\">{event}</text>\n")
 }
 
 /// The number of an event, on both sides, with a line between them.
@@ -117,14 +232,36 @@ pub(crate) fn row_string(
     premise: &Premise,
     event: u32,
     margin: u64,
-) -> Result<String, AllocError> {
+) -> Result<String, AllocError>
+    ensures { IfOk result (λ s. string_bytes s ≡ row_text (event_class premise.now event) event (y_of event) (margin - 4) margin) }
+{
     let class = event_class(premise, event);
     let y = y_of(event);
-    let base = y + 4;
-    let end = margin.saturating_sub(4);
-    format!(in alloc;
-        "<path class=\"row\" d=\"M48 {y}H{end}\"/><text class=\"number {class}\" x=\"44\" y=\"{base}\">{event}</text><text class=\"again {class}\" x=\"{margin}\" y=\"{base}\">{event}</text>\n"
-    )
+    let line = rule_string(alloc, y, margin.saturating_sub(4))?;
+    let number = number_string(alloc, class, event, y + 4)?;
+    let again = again_string(alloc, class, event, margin, y + 4)?;
+    let front = joined(line, number)?;
+    joined(front, again)
+}
+
+/// The beginning of an arrow, up to the height of its end.
+fn arrow_begin_string(
+    alloc: Global,
+    x: u64,
+    y: u64,
+    bend: u64,
+    end: u64,
+) -> Result<String, AllocError>
+    ensures { IfOk result (λ s. string_bytes s ≡ arrow_begin x y bend end) }
+{
+    format!(in alloc; "<path class=\"arrow\" d=\"M{x} {y}Q{bend} {end}")
+}
+
+/// The end of an arrow.
+fn arrow_end_string(alloc: Global, there: u64, end: u64) -> Result<String, AllocError>
+    ensures { IfOk result (λ s. string_bytes s ≡ arrow_end there end) }
+{
+    format!(in alloc; " {there} {end}\"/>\n")
 }
 
 /// The line of an arrow. It is bent, so that arrows of one event to several lifelines don't cover each other.
@@ -132,24 +269,20 @@ pub(crate) fn arrow_string(
     alloc: Global,
     picture: &Picture,
     arrow: &Arrow,
-) -> Result<String, AllocError> {
-    let x = x_of_event(
-        picture.lanes.as_slice(),
-        picture.moments.as_slice(),
-        arrow.from,
-    );
+) -> Result<String, AllocError>
+    ensures { IfOk result (λ s. IsArrow picture.now arrow.now (string_bytes s)) }
+{
+    let x = x_of_row(picture, arrow.from);
     let y = y_of(arrow.from);
-    let there = x_of_event(
-        picture.lanes.as_slice(),
-        picture.moments.as_slice(),
-        arrow.to,
-    );
+    let there = x_of_row(picture, arrow.to);
     let end = y_of(arrow.to);
     let bend = if x == there { x + 60 } else { (x + there) / 2 };
-    format!(in alloc; "<path class=\"arrow\" d=\"M{x} {y}Q{bend} {end} {there} {end}\"/>\n")
+    let front = arrow_begin_string(alloc, x, y, bend, end)?;
+    let back = arrow_end_string(alloc, there, end)?;
+    joined(front, back)
 }
 
-/// What stands above an event's row beside its lifeline, to the left or to the right of it.
+/// What stands above an event's row, to the left or to the right of its place.
 fn beside_string(
     alloc: Global,
     x: u64,
@@ -158,18 +291,15 @@ fn beside_string(
     name: &str,
     number: u64,
 ) -> Result<String, AllocError>
-    requires x { x < 2 ^ 20 }
-    requires y { y < 2 ^ 40 }
+    ensures { IfOk result (λ s. string_bytes s ≡ name_text left x y name.now number) }
 {
     let base = y.saturating_sub(3);
     if left {
-        let at = x.saturating_sub(24);
         return format!(in alloc;
-            "<text class=\"name left\" x=\"{at}\" y=\"{base}\">{name} {number}</text>\n"
+            "<text class=\"name left\" x=\"{x}\" y=\"{base}\">{name} {number}</text>\n"
         );
     }
-    let at = x + 24;
-    format!(in alloc; "<text class=\"name\" x=\"{at}\" y=\"{base}\">{name} {number}</text>\n")
+    format!(in alloc; "<text class=\"name\" x=\"{x}\" y=\"{base}\">{name} {number}</text>\n")
 }
 
 /// The name of an arrow, on the far side of its end.
@@ -177,19 +307,43 @@ pub(crate) fn arrow_name_string(
     alloc: Global,
     picture: &Picture,
     arrow: &Arrow,
-) -> Result<String, AllocError> {
-    let x = x_of_event(
-        picture.lanes.as_slice(),
-        picture.moments.as_slice(),
-        arrow.from,
-    );
-    let there = x_of_event(
-        picture.lanes.as_slice(),
-        picture.moments.as_slice(),
-        arrow.to,
-    );
+) -> Result<String, AllocError>
+    ensures { IfOk result (λ s. IsName picture.now arrow.now (string_bytes s)) }
+{
+    let x = x_of_row(picture, arrow.from);
+    let there = x_of_row(picture, arrow.to);
+    let y = y_of(arrow.to);
     let name = message_name(arrow.code);
-    beside_string(alloc, there, y_of(arrow.to), there < x, name, arrow.packet)
+    if there < x {
+        let at = there.saturating_sub(24);
+        return beside_string(alloc, at, y, true, name, arrow.packet);
+    }
+    beside_string(alloc, there + 24, y, false, name, arrow.packet)
+}
+
+/// The line of a stub.
+fn stub_line_string(
+    alloc: Global,
+    x: u64,
+    y: u64,
+    there: u64,
+    end: u64,
+) -> Result<String, AllocError>
+    ensures { IfOk result (λ s. string_bytes s ≡ stub_line x y there end) }
+{
+    format!(in alloc; "<path class=\"stub\" d=\"M{x} {y}L{there} {end}\">")
+}
+
+/// What a stub says of its packet.
+fn stub_title_string(
+    alloc: Global,
+    name: &str,
+    number: u64,
+    party: &str,
+) -> Result<String, AllocError>
+    ensures { IfOk result (λ s. string_bytes s ≡ stub_title name.now number party.now) }
+{
+    format!(in alloc; "<title>{name} {number} to {party}, not delivered</title></path>\n")
 }
 
 /// A stub, towards the lifeline of the addressee.
@@ -197,12 +351,10 @@ pub(crate) fn stub_string(
     alloc: Global,
     picture: &Picture,
     stub: &Stub,
-) -> Result<String, AllocError> {
-    let x = x_of_event(
-        picture.lanes.as_slice(),
-        picture.moments.as_slice(),
-        stub.from,
-    );
+) -> Result<String, AllocError>
+    ensures { IfOk result (λ s. IsStub picture.now stub.now (string_bytes s)) }
+{
+    let x = x_of_row(picture, stub.from);
     let to = x_of_party(picture.lanes.as_slice(), stub.to);
     let y = y_of(stub.from);
     // Stubs of one event end at different heights, by their numbers.
@@ -212,12 +364,39 @@ pub(crate) fn stub_string(
     } else {
         x + 8 + (to - x) / 18
     };
-    let name = message_name(stub.code);
-    let number = stub.packet;
     let party = party_string(alloc, stub.to)?;
-    format!(in alloc;
-        "<path class=\"stub\" d=\"M{x} {y}L{there} {end}\"><title>{name} {number} to {party}, not delivered</title></path>\n"
-    )
+    let line = stub_line_string(alloc, x, y, there, end)?;
+    let title = stub_title_string(alloc, message_name(stub.code), stub.packet, party.as_str())?;
+    joined(line, title)
+}
+
+/// The face of a clock.
+fn clock_face_string(alloc: Global, class: &str, x: u64, y: u64) -> Result<String, AllocError>
+    ensures { IfOk result (λ s. string_bytes s ≡ clock_face class.now x y) }
+{
+    format!(in alloc; "<circle class=\"hollow {class}\" cx=\"{x}\" cy=\"{y}\" r=\"6\"/>")
+}
+
+/// The hand of a clock.
+fn clock_hand_string(
+    alloc: Global,
+    class: &str,
+    x: u64,
+    y: u64,
+    top: u64,
+) -> Result<String, AllocError>
+    ensures { IfOk result (λ s. string_bytes s ≡ clock_hand class.now x y top) }
+{
+    format!(in alloc; "<path class=\"thin {class}\" d=\"M{x} {top}V{y}h4\"/>\n")
+}
+
+/// The sign of a timer that runs out.
+fn clock_string(alloc: Global, class: &str, x: u64, y: u64, top: u64) -> Result<String, AllocError>
+    ensures { IfOk result (λ s. string_bytes s ≡ clock_text class.now x y top) }
+{
+    let face = clock_face_string(alloc, class, x, y)?;
+    let hand = clock_hand_string(alloc, class, x, y, top)?;
+    joined(face, hand)
 }
 
 /// The sign of what an event is.
@@ -227,7 +406,9 @@ fn trigger_string(
     class: &str,
     x: u64,
     y: u64,
-) -> Result<String, AllocError> {
+) -> Result<String, AllocError>
+    ensures { IfOk result (λ s. string_bytes s ≡ trigger_text trigger class.now x y) }
+{
     let left = x.saturating_sub(5);
     let top = y.saturating_sub(5);
     match trigger {
@@ -239,11 +420,7 @@ fn trigger_string(
                 "<rect class=\"{class}\" x=\"{left}\" y=\"{top}\" width=\"10\" height=\"10\"/>\n"
             )
         }
-        Trigger::TimedOut => {
-            format!(in alloc;
-                "<circle class=\"hollow {class}\" cx=\"{x}\" cy=\"{y}\" r=\"6\"/><path class=\"thin {class}\" d=\"M{x} {top}V{y}h4\"/>\n"
-            )
-        }
+        Trigger::TimedOut => clock_string(alloc, class, x, y, top),
         Trigger::Injected => {
             format!(in alloc;
                 "<path class=\"hollow {class}\" d=\"M{x} {y}m-7 0l7 -7 7 7 -7 7z\"/>\n"
@@ -253,7 +430,9 @@ fn trigger_string(
 }
 
 /// What is written beside an event that is no delivery.
-fn trigger_name(trigger: Trigger) -> &'static str {
+fn trigger_name(trigger: Trigger) -> &'static str
+    ensures { result.now ≡ trigger_name trigger }
+{
     match trigger {
         Trigger::Delivered => "",
         Trigger::Invoked => "invoke",
@@ -265,6 +444,7 @@ fn trigger_name(trigger: Trigger) -> &'static str {
 /// The sign of a panic.
 fn panic_string(alloc: Global, panics: bool, x: u64, y: u64) -> Result<String, AllocError>
     requires { y < 2 ^ 40 }
+    ensures { IfOk result (λ s. string_bytes s ≡ panic_text panics x y) }
 {
     if !panics {
         return Ok(String::new(alloc));
@@ -280,7 +460,9 @@ pub(crate) fn moment_string(
     picture: &Picture,
     moment: &Moment,
     event: u32,
-) -> Result<String, AllocError> {
+) -> Result<String, AllocError>
+    ensures { IfOk result (λ s. IsMoment picture.now (event, moment.now) (string_bytes s)) }
+{
     let Some(core) = &moment.core else {
         return Ok(String::new(alloc));
     };
@@ -300,7 +482,9 @@ pub(crate) fn sign_string(
     alloc: Global,
     picture: &Picture,
     mark: &Mark,
-) -> Result<String, AllocError> {
+) -> Result<String, AllocError>
+    ensures { IfOk result (λ s. IsSign picture.now mark.now (string_bytes s)) }
+{
     let x = x_of_party(picture.lanes.as_slice(), mark.party);
     let y = y_of(mark.event);
     match &mark.sign {

@@ -13,7 +13,7 @@ returns-clause-ok g c =
     record {
       picture = picture;
       pictures = whole_run g.P.Protocol.proto head events picture c.in_ok-picture.ensures.ok c.in_ok-run_all.ensures.ok;
-      tells = c.in_ok-svg.ensures;
+      shows = c.in_ok-svg.ensures;
     }
 
 pub returns-in_err-svg-clause-cause : goal.returns-in_err-svg-clause-cause

@@ -1,0 +1,4 @@
+use Rattle.ab_picture.proofs.parts.again_string.Goals as goal
+
+pub returns : goal.returns
+returns c = c.format.ensures.ok
