@@ -3,14 +3,13 @@ use Rattle.std.proofs.Common.{◌≡◌, ℕ, zero, suc, ◌+◌, ◌*◌, ◌-�
 use Rattle.std.proofs.Math.Seq.{take-append-add}
 use Rattle.std.proofs.Math.Nat.{div-add-mod}
 use Rattle.std.proofs.lemmas.Bool.{cases_lt}
-use Rattle.std.proofs.lemmas.List.{length-take, take-append-le, take-append-drop, take_all, take_at, drop_all, get_or-append-add, get_or_append_left}
+use Rattle.std.proofs.lemmas.List.{length-take, take-append-le, take-append-drop, take_all, take_at, drop_all, get_or-append-add, get_or_append_left, get_or_default}
 use Rattle.std.proofs.lemmas.List.Elements.{All-append, Contains-append_cases}
 use Rattle.std.proofs.lemmas.List.Sums.{fold-append}
 use Rattle.std.proofs.lemmas.List.Concat.{flat_map-append}
-use Rattle.std.proofs.lemmas.Option.{slice_get_within, slice_get_read}
-use Rattle.std.proofs.lemmas.Grind.{take_at_read}
+use Rattle.std.proofs.lemmas.Option.{slice_get_within}
 use Rattle.ab_hist.specs.declared.request.Request.{Request}
-use Rattle.ab_hist.specs.Histories.{IsNext, Precedes}
+use Rattle.ab_hist.specs.Histories.{IsHistory, IsNext, Knows, Precedes}
 use Rattle.ab_hist.specs.Digests.{link, digest_of}
 use Rattle.ab_hist.specs.Chunks.{Chunk, IsChained, front, grown, entries_of, digest_from}
 use Rattle.ab_num.proofs.Lists.{slice_get-push}
@@ -216,19 +215,28 @@ next_in cs q c at m next k d lt =
     subst (λ x. Precedes x m) (get_or-append-add before (c.requests ++ after) k d ∙ get_or_append_left c.requests after d k lt)
     (whole (length before + k) d (omega (arith, length-append before (c.requests ++ after), length-append c.requests after)))
 
--- the chunks up to one that is read
-pub entries_more : (cs : List Chunk) (i : ℕ) (c : Chunk) → i < length cs → c ≡ get_or cs i c → entries_of (take (i + 1) cs) ≡ entries_of (take i cs) ++ c.requests
-entries_more cs i c lt is =
-    let more = take_at_read cs i c lt in
-    ap entries_of (more.1 ∙ ap (λ k. take i cs ++ k ∷ []) (sym is)) ∙ entries-end (take i cs) c
+-- chunk q holds its part of the entries
+pub chunk_room : (cs : List Chunk) (is : IsChained cs) (q : ℕ) (c : Chunk) → slice_get cs q ≡ Some c → 64 * q + length c.requests ≤ length (entries_of cs)
+chunk_room cs is q c at =
+    let before = length_before cs q is.full (slice_get_within cs q c at) in
+    omega (arith, before, ap length (split cs q c at), length-append (entries_of (take q cs)) (c.requests ++ entries_of (drop (suc q) cs)), length-append c.requests (entries_of (drop (suc q) cs)))
 
-pub length_more : (cs : List Chunk) (i : ℕ) (c : Chunk) → i < length cs → c ≡ get_or cs i c → length (entries_of (take i cs)) + length c.requests ≤ length (entries_of cs)
-length_more cs i c lt is =
-    let at : slice_get cs i ≡ Some c = slice_get_read cs (length cs) i c refl lt is in
-    omega (arith, ap length (split cs i c at), length-append (entries_of (take i cs)) (c.requests ++ entries_of (drop (suc i) cs)), length-append c.requests (entries_of (drop (suc i) cs)))
+-- entry p of chunk q, counted from 1
+pub entry_in : (cs : List Chunk) (is : IsChained cs) (q : ℕ) (c : Chunk) → slice_get cs q ≡ Some c → (m : Request) (p : ℕ) → (1 ≤ p) × (slice_get c.requests (p - 1) ≡ Some m) → slice_get (entries_of cs) (q * 64 + p - 1) ≡ Some m
+entry_in cs is q c at m p found =
+    let splits : q * 64 + p - 1 ≡ 64 * q + (p - 1) = omega (arith, found.0) in
+    entry_at cs is (q * 64 + p - 1) q (p - 1) splits c at (slice_get_within c.requests (p - 1) m found.1) ∙ found.1
 
-pub next_more : (xs ys : List Request) (m : Request) → IsNext xs m → IsNext ys m → IsNext (xs ++ ys) m
-next_more xs ys m first second = All-append (λ e. Precedes e m) xs ys first second
+drop_here : {X : Type 0} → (xs : List X) (n : ℕ) (x : X) → slice_get xs n ≡ Some x → drop n xs ≡ x ∷ drop (suc n) xs
+drop_here [] n x at = cc
+drop_here (y ∷ xs) zero x at = let one : y ≡ x = cc in ap (λ z. z ∷ xs) one
+drop_here (y ∷ xs) (suc n) x at = drop_here xs n x at
+
+-- the entries from the chunk before number n on
+pub entries_behind : (cs : List Chunk) (n : ℕ) (c : Chunk) → 0 < n → slice_get cs (n - 1) ≡ Some c → entries_of (drop (n - 1) cs) ≡ c.requests ++ entries_of (drop n cs)
+entries_behind cs n c some at =
+    let next : suc (n - 1) ≡ n = omega arith in
+    ap entries_of (drop_here cs (n - 1) c at) ∙ ap (λ k. c.requests ++ entries_of (drop k cs)) next
 
 pub none_more : (xs ys : List Request) (m : Request) → (Contains xs m → ⊥) → (Contains ys m → ⊥) → Contains (xs ++ ys) m → ⊥
 none_more xs ys m first second there = elim (Contains-append_cases xs ys m there) [
@@ -236,14 +244,39 @@ none_more xs ys m first second there = elim (Contains-append_cases xs ys m there
   | inr at ↦ second at
 ]
 
--- entry p of chunk q, counted from 1, by the number of those before it
-pub entry_in : (cs : List Chunk) (i : ℕ) (c : Chunk) → i < length cs → c ≡ get_or cs i c → (m : Request) (p : ℕ) → (1 ≤ p) × (slice_get c.requests (p - 1) ≡ Some m)
-    → slice_get (entries_of cs) (length (entries_of (take i cs)) + p - 1) ≡ Some m
-entry_in cs i c lt is m p found =
-    let at : slice_get cs i ≡ Some c = slice_get_read cs (length cs) i c refl lt is in
-    let short : p - 1 < length c.requests = slice_get_within c.requests (p - 1) m found.1 in
-    let place : length (entries_of (take i cs)) + p - 1 ≡ length (entries_of (take i cs)) + (p - 1) = omega (arith, found.0) in
-    ap (slice_get (entries_of cs)) place
-    ∙ ap (λ l. slice_get l (length (entries_of (take i cs)) + (p - 1))) (split cs i c at)
-    ∙ slice_get-add (entries_of (take i cs)) (c.requests ++ entries_of (drop (suc i) cs)) (p - 1)
-    ∙ slice_get-append-lt c.requests (entries_of (drop (suc i) cs)) (p - 1) short ∙ found.1
+-- a client of which two lists have no entry
+pub unknown_more : (xs ys : List Request) (client : ℕ) → (Knows xs client → ⊥) → (Knows ys client → ⊥) → Knows (xs ++ ys) client → ⊥
+unknown_more xs ys client first second (k, e, lt, at, of) = elim (cases_lt k (length xs)) [
+  | inl low ↦ first (k, e, low, sym (get_or_append_left xs ys e k low) ∙ at, of)
+  | inr high ↦
+      let back : length xs + (k - length xs) ≡ k = omega arith in
+      second (k - length xs, e, omega (arith, length-append xs ys), sym (get_or-append-add xs ys (k - length xs) e) ∙ ap (λ n. get_or (xs ++ ys) n e) back ∙ at, of)
+]
+
+-- m may come next where no entry is of its client
+pub next_unknown : (h : List Request) (m : Request) → (Knows h m.client → ⊥) → IsNext h m
+next_unknown h m none k d lt same = absurd (none (k, get_or h k d, lt, get_or_default h k (get_or h k d) d lt, same))
+
+-- m may come next where it may after entries of which one is of its client, and none behind those is
+module _ (before mine after : List Request) (m : Request) (history : IsHistory (before ++ (mine ++ after))) (next : IsNext mine m) where
+  next_of_those : Knows mine m.client → IsNext before m
+  next_of_those (j, e, lt, at, of) k d low same =
+      let all = before ++ (mine ++ after) in
+      let there : get_or all (length before + j) d ≡ e = get_or-append-add before (mine ++ after) j d ∙ get_or_append_left mine after d j lt ∙ get_or_default mine j d e lt ∙ at in
+      let rising : Precedes (get_or all k d) (get_or all (length before + j) d) =
+      history k (length before + j) d (omega arith) (omega (arith, length-append before (mine ++ after), length-append mine after)) in
+      let both : Precedes (get_or before k d) e = subst (λ x. Precedes x e) (get_or_append_left before (mine ++ after) d k low) (subst (λ x. Precedes (get_or all k d) x) there rising) in
+      let last : Precedes e m = subst (λ x. Precedes x m) at (next j e lt) in
+      omega (arith, both (same ∙ sym of), last of)
+
+  pub next_all : Knows mine m.client → (Knows after m.client → ⊥) → IsNext (before ++ (mine ++ after)) m
+  next_all knows none =
+      All-append (λ x. Precedes x m) before (mine ++ after) (next_of_those knows) (All-append (λ x. Precedes x m) mine after next (next_unknown after m none))
+
+-- m may come next, by the newest chunk that knows its client
+pub next_by : (cs : List Chunk) (n : ℕ) (c : Chunk) → 0 < n → slice_get cs (n - 1) ≡ Some c → (m : Request) → IsHistory (entries_of cs) → Knows c.requests m.client
+    → (Knows (entries_of (drop n cs)) m.client → ⊥) → IsNext c.requests m → IsNext (entries_of cs) m
+next_by cs n c some at m history knows none next =
+    let rest : suc (n - 1) ≡ n = omega arith in
+    let parts = split cs (n - 1) c at ∙ ap (λ k. entries_of (take (n - 1) cs) ++ (c.requests ++ entries_of (drop k cs))) rest in
+    subst (λ h. IsNext h m) (sym parts) (next_all (entries_of (take (n - 1) cs)) c.requests (entries_of (drop n cs)) m (subst IsHistory parts history) next knows none)

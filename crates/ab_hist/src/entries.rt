@@ -3,7 +3,7 @@
 ghost use Rattle.std.specs.Prelude.{◌≡◌, ◌-◌, ◌<◌, ◌≤◌, ◌↔◌, [], ◌∷◌, ◌++◌, length, take, slice_get, map, IsTrue, Some, OnOk, OnErr, IfOk, IfSome, IfNone, Contains, vec_len};
 ghost use Rattle.std.specs.Vec.{vec_capacity};
 ghost use Rattle.ab_hist.specs.Requests.{key_of};
-ghost use Rattle.ab_hist.specs.Histories.{IsHistory, IsNext};
+ghost use Rattle.ab_hist.specs.Histories.{IsHistory, IsNext, Knows};
 ghost use Rattle.ab_hist.specs.Chunks.{begun, grown, front, digest_from};
 
 use crate::digest::link;
@@ -111,14 +111,13 @@ impl Entries {
         }
     }
 
-    /// Whether the stamp of `m` is above the latest one of its client.
-    pub(crate) fn is_later(&self, m: &Request) -> bool
-        ensures { IsTrue result ↔ IsNext self.now.requests m.now }
+    /// Whether the stamp of `m` is above the latest one of its client, if there is one.
+    pub(crate) fn is_later(&self, m: &Request) -> Option<bool>
+        ensures some { IfSome result (λ later. Knows self.now.requests m.now.client × (IsTrue later ↔ IsNext self.now.requests m.now)) }
+        ensures none { IfNone result (¬ Knows self.now.requests m.now.client) }
     {
-        match self.index.latest(m.client) {
-            Some(stamp) => stamp < m.stamp,
-            None => true,
-        }
+        let stamp = self.index.latest(m.client)?;
+        Some(stamp < m.stamp)
     }
 
     /// The place whose entry equals `m`.

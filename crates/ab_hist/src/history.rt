@@ -199,9 +199,9 @@ impl History {
     fn is_later(&self, m: &Request) -> bool
         ensures { IsTrue result ↔ IsNext self.now m.now }
     {
-        for part in &self.parts {
-            if !part.is_later(m) {
-                return false;
+        'chunks: for n in (0..self.parts.len()).rev() {
+            if let Some(later) = self.parts[n].is_later(m) {
+                return later;
             }
         }
         true
@@ -213,12 +213,11 @@ impl History {
         ensures found { IfSome result (λ n. (1 ≤ n) × (slice_get self.now (n - 1) ≡ Some m.now)) }
         ensures none { IfNone result (¬ Contains self.now m.now) }
     {
-        let mut before = 0;
-        for part in &self.parts {
+        'chunks: for n in (0..self.parts.len()).rev() {
+            let part = &self.parts[n];
             if let Some(place) = part.place_of(m) {
-                return Some(before + place);
+                return Some(n * CHUNK + place);
             }
-            before += part.len();
         }
         None
     }
