@@ -105,7 +105,7 @@ impl<'a> ClaimRef<'a> {
         }
     }
 
-    /// The same content, with parts of its own, and with a copy of that history where it states an equal one.
+    /// The same content, with parts of its own, of which a history shares what it has in common with that one.
     pub fn own_like(self, alloc: Global, like: Option<&History>) -> Result<Content, OutOfMemory>
         requires { IsClaim self }
         ensures { IfOk result (λ c. c ≡ claimed self.entry) }

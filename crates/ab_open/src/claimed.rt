@@ -50,7 +50,7 @@ impl Claims {
         self.claims
     }
 
-    /// A copy of the content of each of these. An ABORT with the history of the content before it shares that.
+    /// A copy of the content of each of these. An ABORT's history shares what it has in common with that of the content before it.
     pub(crate) fn of(alloc: Global, given: Checks<'_>) -> Result<Claims, OutOfMemory>
         ensures { IfOk result (λ c. c ≡ map (λ k. by_maker k.content) given.entry) }
     {

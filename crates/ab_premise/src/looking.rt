@@ -23,8 +23,8 @@ use ab_num::OutOfMemory;
 use ab_wire::{MsgRef, ProofRef, ValuesRef};
 use std::alloc::Global;
 
-/// Looks at a history from its first entry on, and keeps it as the last one. Where it is equal to the
-/// last one it shares that, so that nothing is hashed again.
+/// Looks at a history from its first entry on, and keeps it as the last one. What it has in common with the
+/// last one it shares with it, so that only the rest is hashed.
 fn look_at_received(
     alloc: Global,
     digests: &mut Digests,
