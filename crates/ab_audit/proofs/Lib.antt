@@ -8,3 +8,5 @@ pub mod NewsLemmas
 pub mod ExactLemmas
 pub mod OnceLemmas
 pub mod AccusedLemmas
+pub mod TellingLemmas
+pub mod CorrectLemmas

@@ -13,7 +13,7 @@ use Rattle.ab_audit.proofs.KeptLemmas.{known_keep, new_keep}
 other_way : (a b : Accusation) → accusation_eq a b ≡ true → accusation_eq b a ≡ true
 other_way a b h = subst (λ c. accusation_eq c a ≡ true) (one_accusation a b h) (same_accusation a)
 
-symmetric : (a b : Accusation) → accusation_eq a b ≡ accusation_eq b a
+pub symmetric : (a b : Accusation) → accusation_eq a b ≡ accusation_eq b a
 symmetric a b = elim (cases_Bool (accusation_eq a b)) [
   | inl hit ↦ hit ∙ sym (other_way a b hit)
   | inr miss ↦ elim (cases_Bool (accusation_eq b a)) [

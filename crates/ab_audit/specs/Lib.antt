@@ -3,3 +3,6 @@ pub mod Accusations
 pub mod Statements
 pub mod Kept
 pub mod Audits
+pub mod Correct
+pub mod Reports
+pub mod Tellings

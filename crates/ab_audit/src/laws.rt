@@ -10,7 +10,9 @@ ghost use Rattle.ab_sign.specs.declared.key.SignKey.{SignKey};
 ghost use Rattle.ab_audit.specs.declared.accusation.Accusation.{Accusation};
 ghost use Rattle.ab_audit.specs.Accusations.{IsAccused, accusation_eq};
 ghost use Rattle.ab_audit.specs.Audits.{begun, told_all};
+ghost use Rattle.ab_audit.specs.Correct.{FindsItsOwn, StatesOnce, accused_replica};
 ghost use Rattle.ab_audit.specs.Statements.{signed_at, statements_in};
+ghost use Rattle.ab_msg.specs.declared.content.Content.{Content as Stated};
 
 use ab_check::claims_are_checked;
 use ab_content::contents_have_their_own_bytes;
@@ -32,3 +34,10 @@ pub fn audits_accuse_contradictions()
     messages_are_formats();
     opened_messages_are_of_the_grammar();
 }
+
+/// A replica isn't accused if each statement that is found in its name is among what was made, and it made one
+/// ABORT of an instance and one PREPARE of a view and a slot.
+pub fn correct_replicas_are_not_accused()
+    ensures { (keys : List SignKey) (inputs : List (List ℕ)) (made : List Stated) (r : ℕ) (a : Accusation) → FindsItsOwn keys inputs made r → StatesOnce made r
+        → accused_replica a ≡ r → IsAccused keys inputs a → ⊥ }
+{}

@@ -6,9 +6,14 @@ mod added;
 mod audit;
 mod kept;
 mod laws;
+mod report;
 mod subject;
+mod telling;
 
 pub use accusation::Accusation;
 pub use added::Added;
 pub use audit::Audit;
-pub use laws::{audits_accuse_contradictions, signed_statements_are_checked};
+pub use laws::{
+    audits_accuse_contradictions, correct_replicas_are_not_accused, signed_statements_are_checked,
+};
+pub use telling::{Audited, audit_text};

@@ -6,9 +6,10 @@ use Rattle.ab_text.specs.Schedules.{ReadsText}
 use Rattle.ab_command.specs.declared.status.Status.{Status}
 use Rattle.ab_command.specs.Texts.{code_of}
 use Rattle.ab_command.specs.Calls.{Call}
-use Rattle.ab_command.specs.Statuses.{StatusCause, HasCauseOf, IsServedOut, IsToldWhole, Passes}
+use Rattle.ab_command.specs.Statuses.{StatusCause, HasCauseOf, IsServedOut, IsToldWhole, IsVerdict, Passes}
 use Rattle.ab_command.proofs.StatusLemmas.{clear_status, keys_status, storm_status}
 use Rattle.ab_command.proofs.NodeStatuses.{node_status}
+use Rattle.ab_command.proofs.AuditStatuses.{audit_status}
 
 -- the number of a status that has its cause
 pub answers : ((text : List ℕ) (r q : Result Script TextFault) → ReadsText text r → ReadsText text q → r ≡ q)
@@ -26,5 +27,6 @@ answers one n c s code cause = record {
     | inr nine ↦ inr (code ∙ nine)
   ];
   node = λ k clear. subst (λ (m : ℕ). IsServedOut m clear.node c) (sym code) (node_status c k clear s cause);
+  audit = λ clear. subst (λ (m : ℕ). IsVerdict m clear.audit) (sym code) (audit_status c clear s cause);
   storm = λ k clear. subst (λ (m : ℕ). IsToldWhole m k c ⊎ ((Passes k × (m ≡ 7)) ⊎ (m ≡ 9))) (sym code) (storm_status c k clear s cause);
 }

@@ -3,6 +3,7 @@ pub mod Answering
 pub mod NodeStatuses
 pub mod Settled
 pub mod StatusLemmas
+pub mod AuditStatuses
 pub mod StormWords
 pub mod OfStorm
 pub mod ScheduleSettled

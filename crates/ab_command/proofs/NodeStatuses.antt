@@ -1,5 +1,5 @@
 -- What follows from the causes of a node's statuses.
-use Rattle.std.proofs.Common.{◌≡◌, ℕ, List, true, Result, Ok, Err, refl, sym, ap, ◌∙◌, subst, inl, inr}
+use Rattle.std.proofs.Common.{◌≡◌, ℕ, List, true, false, Result, Ok, Err, refl, sym, ap, ◌∙◌, subst, inl, inr}
 use Rattle.ab_num.specs.declared.party.Party.{Party}
 use Rattle.ab_num.specs.declared.party.Party.TheVariants.{Replica, Client}
 use Rattle.ab_io.specs.Causes.{Rose}
@@ -25,7 +25,7 @@ use Rattle.ab_command.specs.Calls.{Call, call_of}
 use Rattle.ab_command.specs.Commands.{AsksNode}
 use Rattle.ab_command.specs.Endings.{Says, Settles}
 use Rattle.ab_command.specs.Statuses.{HasFront, IsClearForNode, IsServedOut, StatusCause}
-use Rattle.ab_command.proofs.StatusLemmas.{keys_or_node, not_none, not_too_long, replay_or_node, same_input, settled, storm_or_node}
+use Rattle.ab_command.proofs.StatusLemmas.{bad_words, input_or_node, keys_or_node, not_none, not_too_long, replay_or_node, same_input, settled, storm_or_node, tells_words}
 
 -- ---- whose counts rose, whatever the party
 
@@ -57,14 +57,14 @@ module _ (c : Call) (k : NodeCommand) (clear : IsClearForNode c k) where
       subst (λ (m : NodeText). is_client m.keys.me ≡ true) same (leaves_as_client node.keys.me node.keys node.commands x n stopped.fault)
 
   pub node_status : (s : Status) → StatusCause s c → IsServedOut (code_of s) clear.node c
-  node_status Done (inl (words, report), kept) = absurd (replay_or_node c.words k words clear.words)
+  node_status Done (inl told, kept) = absurd (input_or_node c.words k (tells_words c true told) clear.words)
   node_status Done (inr (inl (j, asks, written)), kept) = absurd (keys_or_node c.words j k asks clear.words)
   node_status Done (inr (inr (inl (j, summary, asks, storms, written))), kept) = absurd (storm_or_node c.words j k asks clear.words)
   node_status Done (inr (inr (inr served)), kept) = inl (refl, served)
-  node_status Broken (inl (words, report), kept) = absurd (replay_or_node c.words k words clear.words)
+  node_status Broken (inl told, kept) = absurd (input_or_node c.words k (tells_words c false told) clear.words)
   node_status Broken (inr (j, summary, asks, storms, written), kept) = absurd (storm_or_node c.words j k asks clear.words)
   node_status Usage (none, kept, said) = absurd (not_none c.words (command.Node k) clear.words none)
-  node_status (Refused r) (inl (words, input, kept), said) = absurd (replay_or_node c.words k words clear.words)
+  node_status (Refused r) (inl (bad, kept), said) = absurd (input_or_node c.words k (bad_words c r bad) clear.words)
   node_status (Refused r) (inr (j, asks, ((text, input, refused), untouched)), said) = absurd (not_refused text r input refused)
   node_status ReadFault (inl (words, rose, kept), said) = absurd (clear.read rose)
   node_status ReadFault (inr (j, asks, (rose, untouched)), said) = absurd (clear.read rose)
@@ -75,7 +75,7 @@ module _ (c : Call) (k : NodeCommand) (clear : IsClearForNode c k) where
   node_status LinkFault ((j, asks, (text, input, stopped)), said) =
       let node = stopped.node in
       absurd (clear.link (link_rose node.keys.me node.keys node.commands (call_of j c) stopped.fault))
-  node_status (Limit Bytes) (inl (words, long, kept), said) = absurd (replay_or_node c.words k words clear.words)
+  node_status (Limit Bytes) (inl (words, long, kept), said) = absurd (input_or_node c.words k words clear.words)
   node_status (Limit Bytes) (inr (j, asks, (long, untouched)), said) = absurd (not_too_long c.met.input.before.left clear.text clear.input clear.short long)
   node_status (Limit Events) (words, input, kept, said) = absurd (replay_or_node c.words k words clear.words)
   node_status (Limit Packets) (inl (words, input), kept, said) = absurd (replay_or_node c.words k words clear.words)

@@ -17,11 +17,11 @@ use Rattle.ab_command.specs.declared.status.Status.TheVariants.{Done, Broken, Us
 use Rattle.ab_command.specs.Texts.{code_of, fault_status}
 use Rattle.ab_replay.specs.Streams.{IsAllOf, IsInput, IsTooLong, most_bytes}
 use Rattle.ab_words.specs.declared.command.Command.{Command}
-use Rattle.ab_words.specs.declared.command.Command.TheVariants.{Replay, Keys, Storm, Node}
+use Rattle.ab_words.specs.declared.command.Command.TheVariants.{Replay, Keys, Storm, Node, Audit}
 use Rattle.ab_words.specs.Commands.{KeysCommand, NodeCommand, StormCommand}
 use Rattle.ab_words.specs.Language.{command_in}
 use Rattle.ab_command.specs.Calls.{Call}
-use Rattle.ab_command.specs.Commands.{AsksKeys, AsksNode, AsksStorm, IsReplay, key_text}
+use Rattle.ab_command.specs.Commands.{AsksKeys, AsksNode, AsksStorm, IsAudit, IsReplay, key_text}
 use Rattle.ab_world.specs.declared.fault.WorldFault.{WorldFault}
 use Rattle.ab_world.specs.declared.fault.WorldFault.TheVariants.{PacketLimit}
 use Rattle.ab_world.specs.Worlds.{World, premise_of}
@@ -34,7 +34,7 @@ use Rattle.ab_replay.specs.declared.fault.ReplayFault.TheVariants as replaying
 use Rattle.ab_storm.specs.Runs.{Storms}
 use Rattle.ab_command.specs.Endings.{HasInput, Says, SaysNoMemory, Settles, WritesOrSays}
 use Rattle.ab_command.specs.Outputs.{Gets, GetsFront, HasFailed, IsKept}
-use Rattle.ab_command.specs.Statuses.{StatusCause, HasFront, HasReport, HasSummary, IsToldWhole, Passes, kv, IsClear, IsClearForKeys, IsClearForStorm, premise_code}
+use Rattle.ab_command.specs.Statuses.{StatusCause, AsksInput, HasFront, HasReport, HasSummary, IsBadInput, TellsInput, IsToldWhole, Passes, kv, IsClear, IsClearForKeys, IsClearForStorm, premise_code}
 use Rattle.ab_command.proofs.Settled.{settled_as, written_or_said}
 
 -- a run has one end
@@ -63,6 +63,18 @@ held_code false p says = code_of_broken p says.1
 pub not_none : (words : List (List ℕ)) (a : Command) → command_in words ≡ Some a → command_in words ≡ None → ⊥
 not_none words a asks none = let e : ◌≡◌ {A = Option Command} (Some a) None = sym asks ∙ none in cc
 
+pub replay_or_audit : (words : List (List ℕ)) → IsReplay words → IsAudit words → ⊥
+replay_or_audit words replay audit = let e : ◌≡◌ {A = Option Command} (Some Replay) (Some Audit) = sym replay ∙ audit in cc
+
+pub audit_or_keys : (words : List (List ℕ)) (k : KeysCommand) → IsAudit words → AsksKeys words k → ⊥
+audit_or_keys words k audit asks = let e : ◌≡◌ {A = Option Command} (Some Audit) (Some (Keys k)) = sym audit ∙ asks in cc
+
+pub audit_or_storm : (words : List (List ℕ)) (k : StormCommand) → IsAudit words → AsksStorm words k → ⊥
+audit_or_storm words k audit asks = let e : ◌≡◌ {A = Option Command} (Some Audit) (Some (Storm k)) = sym audit ∙ asks in cc
+
+pub audit_or_node : (words : List (List ℕ)) (k : NodeCommand) → IsAudit words → AsksNode words k → ⊥
+audit_or_node words k audit asks = let e : ◌≡◌ {A = Option Command} (Some Audit) (Some (Node k)) = sym audit ∙ asks in cc
+
 pub replay_or_keys : (words : List (List ℕ)) (k : KeysCommand) → IsReplay words → AsksKeys words k → ⊥
 replay_or_keys words k replay asks = let e : ◌≡◌ {A = Option Command} (Some Replay) (Some (Keys k)) = sym replay ∙ asks in cc
 
@@ -80,6 +92,27 @@ keys_or_node words j k keys asks = let e : ◌≡◌ {A = Option Command} (Some 
 
 pub storm_or_node : (words : List (List ℕ)) (j : StormCommand) (k : NodeCommand) → AsksStorm words j → AsksNode words k → ⊥
 storm_or_node words j k storm asks = let e : ◌≡◌ {A = Option Command} (Some (Storm j)) (Some (Node k)) = sym storm ∙ asks in cc
+
+-- what tells of the input asks for no keys, no storm and no node
+pub input_or_keys : (words : List (List ℕ)) (k : KeysCommand) → AsksInput words → AsksKeys words k → ⊥
+input_or_keys words k (inl replay) asks = replay_or_keys words k replay asks
+input_or_keys words k (inr audit) asks = audit_or_keys words k audit asks
+
+pub input_or_storm : (words : List (List ℕ)) (k : StormCommand) → AsksInput words → AsksStorm words k → ⊥
+input_or_storm words k (inl replay) asks = replay_or_storm words k replay asks
+input_or_storm words k (inr audit) asks = audit_or_storm words k audit asks
+
+pub input_or_node : (words : List (List ℕ)) (k : NodeCommand) → AsksInput words → AsksNode words k → ⊥
+input_or_node words k (inl replay) asks = replay_or_node words k replay asks
+input_or_node words k (inr audit) asks = audit_or_node words k audit asks
+
+pub tells_words : (c : Call) (well : Bool) → TellsInput well c → AsksInput c.words
+tells_words c well (inl (words, report)) = inl words
+tells_words c well (inr (words, report)) = inr words
+
+pub bad_words : (c : Call) (r : Refusal) → IsBadInput r c → AsksInput c.words
+bad_words c r (inl (words, input)) = inl words
+bad_words c r (inr (words, input)) = inr words
 
 same_storm : (words : List (List ℕ)) (j k : StormCommand) → AsksStorm words j → AsksStorm words k → j ≡ k
 same_storm words j k one other = let e : ◌≡◌ {A = Option Command} (Some (Storm j)) (Some (Storm k)) = sym one ∙ other in cc
@@ -118,14 +151,17 @@ module _ (one : (text : List ℕ) (r q : Result Script TextFault) → ReadsText 
       said_of s.service s report held clear.end replays.performs (subst (λ (q : Script). Runs q (Ok clear.end)) (sym is) clear.runs)
 
   pub clear_status : (s : Status) → StatusCause s c → (code_of s ≡ premise_code (premise_of clear.end)) ⊎ (code_of s ≡ 9)
-  clear_status Done (inl (words, report), kept) = inl (ap premise_code (sym ((says_clear true report).0 refl)))
+  clear_status Done (inl (inr (words, report)), kept) = absurd (replay_or_audit c.words clear.words words)
+  clear_status Done (inl (inl (words, report)), kept) = inl (ap premise_code (sym ((says_clear true report).0 refl)))
   clear_status Done (inr (inl (k, asks, written)), kept) = absurd (replay_or_keys c.words k clear.words asks)
   clear_status Done (inr (inr (inl (k, summary, asks, storms, written))), kept) = absurd (replay_or_storm c.words k clear.words asks)
   clear_status Done (inr (inr (inr (k, asks, served))), kept) = absurd (replay_or_node c.words k clear.words asks)
-  clear_status Broken (inl (words, report), kept) = inl (code_of_broken (premise_of clear.end) ((says_clear false report).1))
+  clear_status Broken (inl (inr (words, report)), kept) = absurd (replay_or_audit c.words clear.words words)
+  clear_status Broken (inl (inl (words, report)), kept) = inl (code_of_broken (premise_of clear.end) ((says_clear false report).1))
   clear_status Broken (inr (k, summary, asks, storms, written), kept) = absurd (replay_or_storm c.words k clear.words asks)
   clear_status Usage (none, kept, said) = absurd (not_none c.words Replay clear.words none)
-  clear_status (Refused r) (inl (words, (text, input, refused), kept), said) = absurd (not_refused text r (same_text text input) refused)
+  clear_status (Refused r) (inl (inr (words, refused), kept), said) = absurd (replay_or_audit c.words clear.words words)
+  clear_status (Refused r) (inl (inl (words, (text, input, refused)), kept), said) = absurd (not_refused text r (same_text text input) refused)
   clear_status (Refused r) (inr (k, asks, why), said) = absurd (replay_or_node c.words k clear.words asks)
   clear_status ReadFault (inl (words, rose, kept), said) = absurd (clear.read rose)
   clear_status ReadFault (inr (k, asks, why), said) = absurd (replay_or_node c.words k clear.words asks)
@@ -149,26 +185,26 @@ module _ (one : (text : List ℕ) (r q : Result Script TextFault) → ReadsText 
 -- where keys are asked for
 module _ (c : Call) (k : KeysCommand) (clear : IsClearForKeys c k) where
   pub keys_status : (s : Status) → StatusCause s c → ((code_of s ≡ 0) × Gets c.met.out (key_text k)) ⊎ (code_of s ≡ 9)
-  keys_status Done (inl (words, report), kept) = absurd (replay_or_keys c.words k words clear.words)
+  keys_status Done (inl told, kept) = absurd (input_or_keys c.words k (tells_words c true told) clear.words)
   keys_status Done (inr (inr (inl (s, summary, asks, storms, written))), kept) = absurd (keys_or_storm c.words k s clear.words asks)
   keys_status Done (inr (inr (inr (n, asks, served))), kept) = absurd (keys_or_node c.words k n clear.words asks)
   keys_status Done (inr (inl (j, asks, written)), kept) =
       let e : ◌≡◌ {A = Option Command} (Some (Keys j)) (Some (Keys k)) = sym asks ∙ clear.words in
       let same : j ≡ k = cc in
       inl (refl, subst (λ (x : KeysCommand). Gets c.met.out (key_text x)) same written)
-  keys_status Broken (inl (words, report), kept) = absurd (replay_or_keys c.words k words clear.words)
+  keys_status Broken (inl told, kept) = absurd (input_or_keys c.words k (tells_words c false told) clear.words)
   keys_status Broken (inr (s, summary, asks, storms, written), kept) = absurd (keys_or_storm c.words k s clear.words asks)
   keys_status Usage (none, kept, said) = absurd (not_none c.words (Keys k) clear.words none)
-  keys_status (Refused r) (inl (words, input, kept), said) = absurd (replay_or_keys c.words k words clear.words)
+  keys_status (Refused r) (inl (bad, kept), said) = absurd (input_or_keys c.words k (bad_words c r bad) clear.words)
   keys_status (Refused r) (inr (n, asks, why), said) = absurd (keys_or_node c.words k n clear.words asks)
-  keys_status ReadFault (inl (words, rose, kept), said) = absurd (replay_or_keys c.words k words clear.words)
+  keys_status ReadFault (inl (words, rose, kept), said) = absurd (input_or_keys c.words k words clear.words)
   keys_status ReadFault (inr (n, asks, why), said) = absurd (keys_or_node c.words k n clear.words asks)
   keys_status WriteFault (rose, front) = elim rose [
     | inl out ↦ absurd (clear.out out.0)
     | inr err ↦ absurd (clear.err err)
   ]
   keys_status LinkFault ((n, asks, why), said) = absurd (keys_or_node c.words k n clear.words asks)
-  keys_status (Limit Bytes) (inl (words, long, kept), said) = absurd (replay_or_keys c.words k words clear.words)
+  keys_status (Limit Bytes) (inl (words, long, kept), said) = absurd (input_or_keys c.words k words clear.words)
   keys_status (Limit Bytes) (inr (n, asks, why), said) = absurd (keys_or_node c.words k n clear.words asks)
   keys_status (Limit Events) (words, input, kept, said) = absurd (replay_or_keys c.words k words clear.words)
   keys_status (Limit Packets) (inl (words, input), kept, said) = absurd (replay_or_keys c.words k words clear.words)
@@ -192,23 +228,23 @@ module _ (c : Call) (k : StormCommand) (clear : IsClearForStorm c k) where
       })
 
   pub storm_status : (s : Status) → StatusCause s c → Told (code_of s)
-  storm_status Done (inl (words, report), kept) = absurd (replay_or_storm c.words k words clear.words)
+  storm_status Done (inl told, kept) = absurd (input_or_storm c.words k (tells_words c true told) clear.words)
   storm_status Done (inr (inl (j, asks, written)), kept) = absurd (keys_or_storm c.words j k asks clear.words)
   storm_status Done (inr (inr (inl summary)), kept) = told_as true 0 refl summary
   storm_status Done (inr (inr (inr (n, asks, served))), kept) = absurd (storm_or_node c.words k n clear.words asks)
-  storm_status Broken (inl (words, report), kept) = absurd (replay_or_storm c.words k words clear.words)
+  storm_status Broken (inl told, kept) = absurd (input_or_storm c.words k (tells_words c false told) clear.words)
   storm_status Broken (inr summary, kept) = told_as false 1 refl summary
   storm_status Usage (none, kept, said) = absurd (not_none c.words (Storm k) clear.words none)
-  storm_status (Refused r) (inl (words, input, kept), said) = absurd (replay_or_storm c.words k words clear.words)
+  storm_status (Refused r) (inl (bad, kept), said) = absurd (input_or_storm c.words k (bad_words c r bad) clear.words)
   storm_status (Refused r) (inr (n, asks, why), said) = absurd (storm_or_node c.words k n clear.words asks)
-  storm_status ReadFault (inl (words, rose, kept), said) = absurd (replay_or_storm c.words k words clear.words)
+  storm_status ReadFault (inl (words, rose, kept), said) = absurd (input_or_storm c.words k words clear.words)
   storm_status ReadFault (inr (n, asks, why), said) = absurd (storm_or_node c.words k n clear.words asks)
   storm_status WriteFault (rose, front) = elim rose [
     | inl out ↦ absurd (clear.out out.0)
     | inr err ↦ absurd (clear.err err)
   ]
   storm_status LinkFault ((n, asks, why), said) = absurd (storm_or_node c.words k n clear.words asks)
-  storm_status (Limit Bytes) (inl (words, long, kept), said) = absurd (replay_or_storm c.words k words clear.words)
+  storm_status (Limit Bytes) (inl (words, long, kept), said) = absurd (input_or_storm c.words k words clear.words)
   storm_status (Limit Bytes) (inr (n, asks, why), said) = absurd (storm_or_node c.words k n clear.words asks)
   storm_status (Limit Events) (words, input, kept, said) = absurd (replay_or_storm c.words k words clear.words)
   storm_status (Limit Packets) (inl (words, input), kept, said) = absurd (replay_or_storm c.words k words clear.words)
@@ -217,15 +253,15 @@ module _ (c : Call) (k : StormCommand) (clear : IsClearForStorm c k) where
   storm_status OutOfMemory cause = inr (inr refl)
 
 written_whole : (c : Call) (held : Bool) → IsReplay c.words → HasReport held c → IsKept c.met.err → StatusCause (if held then Done else Broken) c
-written_whole c true words report kept = (inl (words, report), kept)
-written_whole c false words report kept = (inl (words, report), kept)
+written_whole c true words report kept = (inl (inl (words, report)), kept)
+written_whole c false words report kept = (inl (inl (words, report)), kept)
 
 summed_whole : (c : Call) (held : Bool) → HasSummary held c → IsKept c.met.err → StatusCause (if held then Done else Broken) c
 summed_whole c true summary kept = (inr (inr (inl summary)), kept)
 summed_whole c false summary kept = (inr summary, kept)
 
 -- a text that was to be written has its cause
-text_told : (c : Call) (r s : Status) (text : List ℕ) → WritesOrSays r s text c.met.out c.met.err → (Gets c.met.out text → IsKept c.met.err → StatusCause s c) → (GetsFront c.met.out text → HasFront c) → StatusCause r c
+pub text_told : (c : Call) (r s : Status) (text : List ℕ) → WritesOrSays r s text c.met.out c.met.err → (Gets c.met.out text → IsKept c.met.err → StatusCause s c) → (GetsFront c.met.out text → HasFront c) → StatusCause r c
 text_told c r s text how whole front =
     written_or_said (λ x. StatusCause x c) r s text c.met.out c.met.err how whole (λ part fails. (fails, front part)) (λ part says. (front part, says))
 
@@ -235,7 +271,7 @@ pub report_told : (c : Call) (r s : Status) (report : List ℕ) (held : Bool) �
 report_told c r s report held how is words input =
     text_told c r s report how
     (λ got kept. subst (λ (x : Status). StatusCause x c) (sym is) (written_whole c held words (report, input, got) kept))
-    (λ part. inr (inl (report, held, input, part)))
+    (λ part. inr (inl (inl (report, held, input, part))))
 
 -- a key text
 pub keys_told : (c : Call) (k : KeysCommand) (r : Status) (text : List ℕ) → WritesOrSays r Done text c.met.out c.met.err → text ≡ key_text k → AsksKeys c.words k → StatusCause r c
@@ -257,9 +293,9 @@ pub settled : (c : Call) (r s : Status) → Settles r s c.met.err → (Says s c.
 settled c r s how make front = settled_as (λ x. StatusCause x c) r s c.met.err how make (λ rose. (inr rose, front)) (λ says. (front, says))
 
 fault_said : (c : Call) (fault : ReplayFault) → IsReplay c.words → ReplayCause fault c.met.input.before.left c.met.input.before.faults c.met.input.after.faults → IsKept c.met.out → Says (fault_status fault) c.met.err → StatusCause (fault_status fault) c
-fault_said c replaying.Read replay rose kept said = (inl (replay, rose, kept), said)
-fault_said c replaying.TooLong replay long kept said = (inl (replay, long, kept), said)
-fault_said c (replaying.Refused r) replay refused kept said = (inl (replay, refused, kept), said)
+fault_said c replaying.Read replay rose kept said = (inl (inl replay, rose, kept), said)
+fault_said c replaying.TooLong replay long kept said = (inl (inl replay, long, kept), said)
+fault_said c (replaying.Refused r) replay refused kept said = (inl (inl (replay, refused), kept), said)
 fault_said c replaying.TooManyEvents replay many kept said = (replay, many, kept, said)
 fault_said c replaying.TooManyPackets replay many kept said = (inl (replay, many), kept, said)
 fault_said c replaying.OutOfMemory replay cause kept said = (inl kept, inl said)

@@ -8,7 +8,7 @@ use Rattle.ab_text.specs.Heads.{spelled_in, plans}
 use Rattle.ab_text.specs.Numbers.{number_of as number_text}
 use Rattle.ab_key_text.specs.Lines.{bounded}
 use Rattle.ab_words.specs.declared.command.Command.{Command}
-use Rattle.ab_words.specs.declared.command.Command.TheVariants.{Replay, Keys, Storm, Node}
+use Rattle.ab_words.specs.declared.command.Command.TheVariants.{Replay, Keys, Storm, Node, Audit}
 use Rattle.ab_words.specs.Commands.{StormCommand}
 use Rattle.ab_words.specs.Uses.{Use, ◌>>=◌, uses_in}
 use Rattle.ab_words.specs.Values.{value_of, number_in, number_of, plan_name}
@@ -81,14 +81,14 @@ not_storm : {A : Type 0} (o : Option A) (make : A → Command) (k : StormCommand
 not_storm None make k other e = cc (e)
 not_storm (Some a) make k other e = let same : make a ≡ Storm k = cc (e) in other a same
 
-empty_other : (ws : List (List ℕ)) (k : StormCommand) → empty ws ≡ Some (Storm k) → ⊥
-empty_other [] k e = let same : Replay ≡ Storm k = cc (e) in cc (same)
-empty_other (w ∷ ws) k e = cc (e)
+empty_other : (c : Command) (ws : List (List ℕ)) (k : StormCommand) → (c ≡ Storm k → ⊥) → empty c ws ≡ Some (Storm k) → ⊥
+empty_other c [] k other e = let same : c ≡ Storm k = cc (e) in other same
+empty_other c (w ∷ ws) k other e = cc (e)
 
 named_few : (name : List ℕ) (ws : List (List ℕ)) (k : StormCommand) → command_of name ws ≡ Some (Storm k) → k.events ≤ 100000
 unfolding command_of
 named_few name ws k e =
-    if_some (bytes_eq name (codes "replay")) (empty ws) _ (Storm k) (k.events ≤ 100000) (λ x. absurd (empty_other ws k x))
+    if_some (bytes_eq name (codes "replay")) (empty Replay ws) _ (Storm k) (k.events ≤ 100000) (λ x. absurd (empty_other Replay ws k (λ e. cc (e)) x))
     (if_some (bytes_eq name (codes "storm")) _ _ (Storm k) (k.events ≤ 100000)
     (λ x. let uses = bound (uses_in ws) (λ uses. storm_in uses >>= λ c. Some (Storm c)) (Storm k) x in
     let asked = bound (storm_in uses.value) (λ c. Some (Storm c)) (Storm k) uses.rest in
@@ -96,9 +96,10 @@ named_few name ws k e =
     subst (λ (c : StormCommand). c.events ≤ 100000) same (storm_few uses.value asked.value asked.is))
     (if_some (bytes_eq name (codes "keys")) _ _ (Storm k) (k.events ≤ 100000)
     (λ x. let uses = bound (uses_in ws) (λ uses. keys_in uses >>= λ c. Some (Keys c)) (Storm k) x in absurd (not_storm (keys_in uses.value) Keys k (λ a e. cc (e)) uses.rest))
-    (if_some (bytes_eq name (codes "node")) _ None (Storm k) (k.events ≤ 100000)
+    (if_some (bytes_eq name (codes "node")) _ _ (Storm k) (k.events ≤ 100000)
     (λ x. let uses = bound (uses_in ws) (λ uses. node_in uses >>= λ c. Some (Node c)) (Storm k) x in absurd (not_storm (node_in uses.value) Node k (λ a e. cc (e)) uses.rest))
-    (λ x. absurd (cc (x)))))) e
+    (if_some (bytes_eq name (codes "audit")) (empty Audit ws) None (Storm k) (k.events ≤ 100000) (λ x. absurd (empty_other Audit ws k (λ e. cc (e)) x))
+    (λ x. absurd (cc (x))))))) e
 
 -- words of a storm bound its events
 pub few_events : (words : List (List ℕ)) (k : StormCommand) → command_in words ≡ Some (Storm k) → k.events ≤ 100000

@@ -2,7 +2,7 @@
 use Rattle.std.specs.Prelude.{◌≡◌, ◌⊎◌, ℕ, List, None, Some}
 use Rattle.ab_key_text.specs.Derived.{keys_of}
 use Rattle.ab_key_text.specs.Spelling.{key_lines}
-use Rattle.ab_words.specs.declared.command.Command.TheVariants.{Replay, Storm, Keys, Node}
+use Rattle.ab_words.specs.declared.command.Command.TheVariants.{Replay, Storm, Keys, Node, Audit}
 use Rattle.ab_words.specs.Commands.{KeysCommand, NodeCommand, StormCommand}
 use Rattle.ab_words.specs.Language.{command_in}
 use Rattle.ab_text.specs.Texts.{text_of}
@@ -14,6 +14,10 @@ IsNoCommand words = command_in words ≡ None
 -- the words ask for a replay
 abbrev pub IsReplay : List (List ℕ) → Type 0
 IsReplay words = command_in words ≡ Some Replay
+
+-- the words ask for an audit
+abbrev pub IsAudit : List (List ℕ) → Type 0
+IsAudit words = command_in words ≡ Some Audit
 
 -- the words ask for these keys
 abbrev pub AsksKeys : List (List ℕ) → KeysCommand → Type 0
@@ -33,7 +37,7 @@ IsNode words = (k : NodeCommand) × AsksNode words k
 
 -- the words ask for what reads the input
 abbrev pub TakesInput : List (List ℕ) → Type 0
-TakesInput words = IsReplay words ⊎ IsNode words
+TakesInput words = IsReplay words ⊎ (IsNode words ⊎ IsAudit words)
 
 -- the text of the keys that are asked for
 abbrev pub key_text : KeysCommand → List ℕ

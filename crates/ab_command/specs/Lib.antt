@@ -2,6 +2,7 @@
 pub mod Calls
 pub mod Commands
 pub mod Endings
+pub mod Audits
 pub mod Outputs
 pub mod Statuses
 pub mod Texts

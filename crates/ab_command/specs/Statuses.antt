@@ -1,5 +1,5 @@
 -- The statuses of the top call, each with its cause.
-use Rattle.std.specs.Prelude.{◌≡◌, ◌≤◌, ℕ, Bool, true, false, List, ◌⊎◌, Some, Ok, Err, length}
+use Rattle.std.specs.Prelude.{◌≡◌, ◌≤◌, ℕ, Bool, true, false, not, List, ◌⊎◌, Some, Ok, Err, length}
 use Rattle.ab_io.specs.Causes.{Rose}
 use Rattle.ab_command.specs.declared.status.Bound.TheVariants.{Bytes, Events, Packets}
 use Rattle.ab_command.specs.declared.status.Status.{Status}
@@ -11,6 +11,7 @@ use Rattle.ab_loop.specs.Nodes.{is_client}
 use Rattle.ab_node.specs.declared.stop.Stop.{Stop}
 use Rattle.ab_node.specs.declared.stop.Stop.TheVariants as stop
 use Rattle.ab_node.specs.Nodes.{IsServed, StopCause}
+use Rattle.ab_replay.specs.declared.refusal.Refusal.{Refusal}
 use Rattle.ab_replay.specs.Streams.{IsTooLong, most_bytes}
 use Rattle.ab_text.specs.Heads.{Script}
 use Rattle.ab_text.specs.Lines.{lines_of}
@@ -25,7 +26,10 @@ use Rattle.ab_abs.specs.Ensembles.{Proto}
 use Rattle.ab_kv.specs.KvMachines.{kv_machine}
 use Rattle.ab_replay.specs.Protocols.{Any, any}
 use Rattle.ab_command.specs.Calls.{Call, call_of}
-use Rattle.ab_command.specs.Commands.{AsksKeys, AsksNode, AsksStorm, IsNoCommand, IsReplay, key_text}
+use Rattle.ab_audit_text.specs.Texts.{AuditText, audit_in}
+use Rattle.ab_audit.specs.Tellings.{Accuses, Audits}
+use Rattle.ab_command.specs.Audits.{IsNoAudit}
+use Rattle.ab_command.specs.Commands.{AsksKeys, AsksNode, AsksStorm, IsAudit, IsNoCommand, IsReplay, key_text}
 use Rattle.ab_command.specs.Endings.{HasInput, FailsToWrite, Says, SaysNoMemory}
 use Rattle.ab_command.specs.Outputs.{Gets, GetsFront, HasFailed, IsKept}
 use Rattle.ab_replay.specs.Replays.{Replays, IsRefused, HasTooManyEvents, HasTooManyBytes, Runs}
@@ -35,6 +39,29 @@ use Rattle.ab_storm.specs.Summaries.{summary_of}
 -- out got the report of the run that the input spells, and nothing else. Its premise line says `held` or `broken`
 abbrev pub HasReport : Bool → Call → Type 0
 HasReport held c = (report : List ℕ) × HasInput (λ text. Replays text report held) c.met.input.before.left × Gets c.met.out report
+
+-- out got the report of the audit that the input spells, and nothing else. It says whether someone is accused
+abbrev pub HasAudit : Bool → Call → Type 0
+HasAudit accuses c = (report : List ℕ) × HasInput (λ text. Audits text report accuses) c.met.input.before.left × Gets c.met.out report
+
+-- what the words ask to be told of the input was told: a run whose premises held or not, or an audit that accuses no one or someone
+abbrev pub TellsInput : Bool → Call → Type 0
+TellsInput well c = (IsReplay c.words × HasReport well c) ⊎ (IsAudit c.words × HasAudit (not well) c)
+
+-- out got a front of it
+abbrev pub TellsInputFront : Call → Type 0
+TellsInputFront c =
+    ((report : List ℕ) × (held : Bool) × HasInput (λ text. Replays text report held) c.met.input.before.left × GetsFront c.met.out report)
+    ⊎ ((report : List ℕ) × (accuses : Bool) × HasInput (λ text. Audits text report accuses) c.met.input.before.left × GetsFront c.met.out report)
+
+-- the words ask to be told of the input
+abbrev pub AsksInput : List (List ℕ) → Type 0
+AsksInput words = IsReplay words ⊎ IsAudit words
+
+-- a line of the input is refused
+abbrev pub IsBadInput : Refusal → Call → Type 0
+IsBadInput r c =
+    (IsReplay c.words × HasInput (λ text. IsRefused text r) c.met.input.before.left) ⊎ (IsAudit c.words × HasInput (λ text. IsNoAudit text r) c.met.input.before.left)
 
 -- out got the key text that the words ask for, and nothing else
 abbrev pub HasKeys : Call → Type 0
@@ -74,27 +101,27 @@ ServesNode c = (k : NodeCommand) × AsksNode c.words k × HasInput (λ text. (se
 abbrev pub StopsNode : Stop → Call → Type 0
 StopsNode why c = (k : NodeCommand) × AsksNode c.words k × StopCause why c.met.input (call_of k c)
 
--- out got a front of the report, of the key text, of the summary or of a node's lines, or nothing
+-- out got a front of a report, of the key text, of the summary or of a node's lines, or nothing
 abbrev pub HasFront : Call → Type 0
 HasFront c =
     IsKept c.met.out
-    ⊎ (((report : List ℕ) × (held : Bool) × HasInput (λ text. Replays text report held) c.met.input.before.left × GetsFront c.met.out report)
+    ⊎ (TellsInputFront c
     ⊎ (HasKeysFront c ⊎ (HasSummaryFront c ⊎ ((why : Stop) × StopsNode why c))))
 
 -- when each status comes, and what it leaves on out and err
 abbrev pub StatusCause : Status → Call → Type 0
-StatusCause Done c = ((IsReplay c.words × HasReport true c) ⊎ (HasKeys c ⊎ (HasSummary true c ⊎ ServesNode c))) × IsKept c.met.err
-StatusCause Broken c = ((IsReplay c.words × HasReport false c) ⊎ HasSummary false c) × IsKept c.met.err
+StatusCause Done c = (TellsInput true c ⊎ (HasKeys c ⊎ (HasSummary true c ⊎ ServesNode c))) × IsKept c.met.err
+StatusCause Broken c = (TellsInput false c ⊎ HasSummary false c) × IsKept c.met.err
 StatusCause Usage c = IsNoCommand c.words × IsKept c.met.out × Says Usage c.met.err
 StatusCause (Refused r) c =
-    ((IsReplay c.words × HasInput (λ text. IsRefused text r) c.met.input.before.left × IsKept c.met.out) ⊎ StopsNode (stop.Refused r) c)
+    ((IsBadInput r c × IsKept c.met.out) ⊎ StopsNode (stop.Refused r) c)
     × Says (Refused r) c.met.err
 StatusCause ReadFault c =
-    ((IsReplay c.words × Rose c.met.input.before.faults c.met.input.after.faults × IsKept c.met.out) ⊎ StopsNode stop.Read c) × Says ReadFault c.met.err
+    ((AsksInput c.words × Rose c.met.input.before.faults c.met.input.after.faults × IsKept c.met.out) ⊎ StopsNode stop.Read c) × Says ReadFault c.met.err
 StatusCause WriteFault c = FailsToWrite c.met.out c.met.err × HasFront c
 StatusCause LinkFault c = StopsNode (stop.Serving serving.LinkFailed) c × Says LinkFault c.met.err
 StatusCause (Limit Bytes) c =
-    ((IsReplay c.words × IsTooLong c.met.input.before.left × IsKept c.met.out) ⊎ StopsNode stop.TooLong c) × Says (Limit Bytes) c.met.err
+    ((AsksInput c.words × IsTooLong c.met.input.before.left × IsKept c.met.out) ⊎ StopsNode stop.TooLong c) × Says (Limit Bytes) c.met.err
 StatusCause (Limit Packets) c =
     ((IsReplay c.words × HasInput HasTooManyBytes c.met.input.before.left) ⊎ StormPasses c) × IsKept c.met.out × Says (Limit Packets) c.met.err
 StatusCause (Limit Events) c = IsReplay c.words × HasInput HasTooManyEvents c.met.input.before.left × IsKept c.met.out × Says (Limit Events) c.met.err
@@ -127,6 +154,22 @@ pub record IsClearForKeys (c : Call) (k : KeysCommand) : Type 0 where
   pub words : AsksKeys c.words k
   pub out : HasFailed c.met.out → ⊥
   pub err : HasFailed c.met.err → ⊥
+
+-- the words ask for an audit, the input tells that it is the text of one within the limits, and no object has counted a fault
+pub record IsClearForAudit (c : Call) : Type 0 where
+  pub words : IsAudit c.words
+  pub text : List ℕ
+  pub audit : AuditText
+  pub input : c.met.input.before.left ≡ Some text
+  pub short : length text ≤ most_bytes
+  pub reads : audit_in (lines_of text) ≡ Ok audit
+  pub read : Rose c.met.input.before.faults c.met.input.after.faults → ⊥
+  pub out : HasFailed c.met.out → ⊥
+  pub err : HasFailed c.met.err → ⊥
+
+-- 0 where nobody is accused, 1 where someone is, or 9 where an allocation failed
+abbrev pub IsVerdict : ℕ → AuditText → Type 0
+IsVerdict n t = ((n ≡ 0) × (Accuses t → ⊥)) ⊎ (((n ≡ 1) × Accuses t) ⊎ (n ≡ 9))
 
 -- the words ask for a storm, and neither out nor err has counted a fault
 pub record IsClearForStorm (c : Call) (k : StormCommand) : Type 0 where
@@ -165,7 +208,7 @@ IsServedOut n node c =
 -- the number is that of a status that has its cause. Where nothing stands in the way and no allocation fails, it is that of the
 -- premise line. Where keys are asked for, they are written whole. Where a storm is asked for, its summary is written whole and the
 -- number is that of the premise line, or its packets pass the limit of bytes and the number is 7. Where a node is asked for, its
--- party is served out
+-- party is served out. Where an audit is asked for, the number says whether someone is accused
 pub record HasCauseOf (n : ℕ) (c : Call) : Type 0 where
   pub status : Status
   pub code : n ≡ code_of status
@@ -174,3 +217,4 @@ pub record HasCauseOf (n : ℕ) (c : Call) : Type 0 where
   pub keys : (k : KeysCommand) → IsClearForKeys c k → ((n ≡ 0) × Gets c.met.out (key_text k)) ⊎ (n ≡ 9)
   pub storm : (k : StormCommand) → IsClearForStorm c k → IsToldWhole n k c ⊎ ((Passes k × (n ≡ 7)) ⊎ (n ≡ 9))
   pub node : (k : NodeCommand) → (clear : IsClearForNode c k) → IsServedOut n clear.node c
+  pub audit : (clear : IsClearForAudit c) → IsVerdict n clear.audit

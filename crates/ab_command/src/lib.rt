@@ -1,6 +1,7 @@
 //! What the programs do over any objects of input, output, link and clock: the command that words ask for, and the schedule of a storm.
 #![tactic(auto)]
 
+mod audit;
 mod keys;
 mod saying;
 mod schedule;

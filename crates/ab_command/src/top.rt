@@ -5,10 +5,11 @@ ghost use Rattle.ab_io.specs.Causes.{Rose};
 ghost use Rattle.ab_io.specs.States.{Change, ClockState, LinkState, SourceState, change, outside};
 ghost use Rattle.ab_command.specs.Texts.{status_of, stop_status};
 ghost use Rattle.ab_command.specs.Calls.{call};
-ghost use Rattle.ab_command.specs.Commands.{AsksKeys, AsksNode, AsksStorm, IsNode, IsReplay, TakesInput};
+ghost use Rattle.ab_command.specs.Commands.{AsksKeys, AsksNode, AsksStorm, IsAudit, IsNode, IsReplay, TakesInput};
 ghost use Rattle.ab_command.specs.Endings.{SaysNoMemory, Settles};
 ghost use Rattle.ab_command.specs.Statuses.{StatusCause, HasCauseOf};
 
+use crate::audit::audit_input;
 use crate::keys::key_text;
 use crate::saying::{say, say_no_memory, say_refusal, say_replay_fault, write_or_say};
 use crate::status::{Bound, Status, turns_line};
@@ -141,6 +142,25 @@ fn serve_node<I: Source, O: Sink, E: Sink, L: Link, C: Clock>(
     }
 }
 
+/// Audits the messages of the input.
+fn serve_audit<I: Source, O: Sink, E: Sink>(
+    alloc: Global,
+    input: &mut I,
+    out: &mut O,
+    err: &mut E,
+) -> Status
+    ensures cause { (words : List (List ℕ)) (link : Change LinkState) (clock : Change ClockState) → IsAudit words
+        → StatusCause result (call words (outside (change (I.state input.old) (I.state input.new))
+        (change (O.state out.old) (O.state out.new)) (change (E.state err.old) (E.state err.new)) link clock)) }
+{
+    let audited = match audit_input(alloc, input) {
+        Ok(audited) => audited,
+        Err(fault) => return say_replay_fault(alloc, err, fault),
+    };
+    let status = done(!audited.accuses);
+    write_or_say(out, err, audited.report.as_slice(), status)
+}
+
 /// What the program does.
 fn serve<I: Source, O: Sink, E: Sink, L: Link, C: Clock>(
     alloc: Global,
@@ -165,6 +185,7 @@ fn serve<I: Source, O: Sink, E: Sink, L: Link, C: Clock>(
         Ok(Some(Command::Node(asked))) => {
             serve_node(alloc, &asked, input, out, err, link, clock)
         }
+        Ok(Some(Command::Audit)) => serve_audit(alloc, input, out, err),
         Ok(None) => say(err, USAGE, Status::Usage),
         Err(_) => say_no_memory(err),
     }
@@ -176,11 +197,15 @@ fn serve<I: Source, O: Sink, E: Sink, L: Link, C: Clock>(
 /// `out`. `storm` runs random events that a seed gives, and writes the summary of the run to `out`.
 /// `keys` writes the key text of a party to `out`. `node` reads the keys of a party and its commands from
 /// `input` to its end, and serves that party over `link` and `clock`: what it commits is written to `out`.
+/// `audit` reads public keys and messages from `input` to its end, and writes to `out` which replicas contradict
+/// themselves in them.
 /// The statuses are:
 ///
 /// - 0: the report or the summary was written, and its premise line says `held`; or the key text was
-///   written; or the node was served until its client's commands were answered, or its replica's turns used.
-/// - 1: the report or the summary was written, and its premise line says `broken`.
+///   written; or the node was served until its client's commands were answered, or its replica's turns used; or the
+///   report of an audit was written, and nobody is accused.
+/// - 1: the report or the summary was written, and its premise line says `broken`; or the report of an audit was
+///   written, and someone is accused.
 /// - 2: the words are no command.
 /// - 3: a line is out of form or missing, or its event is refused.
 /// - 4: `input` failed.

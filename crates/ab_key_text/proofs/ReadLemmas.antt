@@ -45,12 +45,12 @@ Lines = List (List ℕ)
 front : (a b : List ℕ) → a ∷ [] ≡ b ∷ [] → a ≡ b
 front a b e = ap (λ (t : Lines). get_or t 0 []) e
 
-same_ok : {A : Type 0} (x y : A) → ◌≡◌ {A = Result A NodeFault} (Ok x) (Ok y) → x ≡ y
+pub same_ok : {A : Type 0} (x y : A) → ◌≡◌ {A = Result A NodeFault} (Ok x) (Ok y) → x ≡ y
 same_ok x y e = (let same : x ≡ y = cc in same)
 
 -- ---- the parts of a line
 
-word_was : (ws l rest : List ℕ) → stripped ws l ≡ Some rest → l ≡ ws ++ rest
+pub word_was : (ws l rest : List ℕ) → stripped ws l ≡ Some rest → l ≡ ws ++ rest
 word_was [] l rest h = same_Some l rest h
 word_was (w ∷ ws) [] rest h = absurd (none-some rest h)
 word_was (w ∷ ws) (b ∷ bs) rest h =
@@ -63,11 +63,11 @@ word_was (w ∷ ws) (b ∷ bs) rest h =
     ]
 
 -- what a second reading gave was read of what the first gave
-then_was : {A B : Type 0} (f : A → Option B) (o : Option A) (b : B) → option_and_then f o ≡ Some b → (a : A) × (o ≡ Some a) × (f a ≡ Some b)
+pub then_was : {A B : Type 0} (f : A → Option B) (o : Option A) (b : B) → option_and_then f o ≡ Some b → (a : A) × (o ≡ Some a) × (f a ≡ Some b)
 then_was f None b h = absurd (none-some b h)
 then_was f (Some a) b h = (a, refl, h)
 
-name_was : {A : Type 0} (spell : A → List ℕ) (all : List A) (l : List ℕ) (a : A) → spelled_in spell all l ≡ Some a → l ≡ spell a
+pub name_was : {A : Type 0} (spell : A → List ℕ) (all : List A) (l : List ℕ) (a : A) → spelled_in spell all l ≡ Some a → l ≡ spell a
 name_was spell all l a h = front l (spell a) (name_is spell all 1 (l ∷ []) [] a (ap (taken 1 []) h))
 
 in_text : (low high : ℕ) (o : Option ℕ) (k : ℕ) → bounded low high o ≡ Some k → within low high 1 [] o ≡ Ok (k, [])
@@ -77,7 +77,7 @@ in_text low high (Some m) k h =
     let kept : Result (ℕ × Lines) TextFault = Ok (m, []) in
     ap (λ b. if b then kept else Err (BadText 1)) both.0 ∙ ap (λ (x : ℕ). let r : Result (ℕ × Lines) TextFault = Ok (x, []) in r) both.1
 
-number_was : (word : List ℕ) (low high : ℕ) (l : List ℕ) (k : ℕ) → number_in word low high l ≡ Some k → (l ≡ word ++ decimal k) × (low ≤ k) × (k ≤ high)
+pub number_was : (word : List ℕ) (low high : ℕ) (l : List ℕ) (k : ℕ) → number_in word low high l ≡ Some k → (l ≡ word ++ decimal k) × (low ≤ k) × (k ≤ high)
 number_was word low high l k h =
     let all = number_is word low high 1 (l ∷ []) [] k (in_text low high (number_after word l) k h) in
     (front l (word ++ decimal k) all.0, all.1, all.2)
@@ -134,24 +134,24 @@ secret_was l s h =
 
 -- ---- lines
 
-found_was : {A : Type 0} (n : ℕ) (ls rest : Lines) (o : Option A) (a : A) → found_at n ls o ≡ Ok (a, rest) → (o ≡ Some a) × (ls ≡ rest)
+pub found_was : {A : Type 0} (n : ℕ) (ls rest : Lines) (o : Option A) (a : A) → found_at n ls o ≡ Ok (a, rest) → (o ≡ Some a) × (ls ≡ rest)
 found_was n ls rest None a h = absurd (cc)
 found_was {A} n ls rest (Some b) a h =
     let both : ◌≡◌ {A = A × Lines} (b, ls) (a, rest) = cc in
     (ap (λ (p : A × Lines). Some p.0) both, ap (λ (p : A × Lines). p.1) both)
 
-line_was : {A : Type 0} (read : List ℕ → Option A) (n : ℕ) (ls rest : Lines) (a : A) → line_at read n ls ≡ Ok (a, rest) → (l : List ℕ) × (ls ≡ l ∷ rest) × (read l ≡ Some a)
+pub line_was : {A : Type 0} (read : List ℕ → Option A) (n : ℕ) (ls rest : Lines) (a : A) → line_at read n ls ≡ Ok (a, rest) → (l : List ℕ) × (ls ≡ l ∷ rest) × (read l ≡ Some a)
 line_was read n [] rest a h = absurd (cc)
 line_was read n (l ∷ ls) rest a h = let both = found_was n ls rest (read l) a h in (l, ap (λ t. l ∷ t) both.1, both.0)
 
 -- a line that is known once it is read
-line_said : {A : Type 0} (read : List ℕ → Option A) (said : A → List ℕ) → ((l : List ℕ) (a : A) → read l ≡ Some a → l ≡ said a)
+pub line_said : {A : Type 0} (read : List ℕ → Option A) (said : A → List ℕ) → ((l : List ℕ) (a : A) → read l ≡ Some a → l ≡ said a)
     → (n : ℕ) (ls rest : Lines) (a : A) → line_at read n ls ≡ Ok (a, rest) → ls ≡ said a ∷ rest
 line_said read said says n ls rest a h = let line = line_was read n ls rest a h in line.1 ∙ ap (λ t. t ∷ rest) (says line.0 a line.2)
 
 -- ---- the head
 
-form_was : (form l : List ℕ) (u : Unit {0}) → form_in form l ≡ Some u → l ≡ form
+pub form_was : (form l : List ℕ) (u : Unit {0}) → form_in form l ≡ Some u → l ≡ form
 form_was form l u h = (bytes_eq-Decides l form).0 (cond_some (bytes_eq l form) tt u h).0
 
 member_was : (b : Bool) (u : Unit {0}) → (let r : Result (Unit {0}) NodeFault = if b then Ok tt else Err (BadLine 2) in r) ≡ Ok u → b ≡ true
@@ -247,13 +247,13 @@ peers_were (p ∷ ps) done n ls x e =
       },
     )
 
-record ArePublicsRead (r m : ℕ) (done : Lines) (ls : Lines) (x : Read Lines) (keys : Lines) : Type 0 where
-  value : x.value ≡ done ++ keys
-  many : length keys ≡ m
-  each : AllByRecursion (IsBytes 56) keys
-  lines : ls ≡ public_lines r keys ++ x.rest
+pub record ArePublicsRead (r m : ℕ) (done : Lines) (ls : Lines) (x : Read Lines) (keys : Lines) : Type 0 where
+  pub value : x.value ≡ done ++ keys
+  pub many : length keys ≡ m
+  pub each : AllByRecursion (IsBytes 56) keys
+  pub lines : ls ≡ public_lines r keys ++ x.rest
 
-publics_were : (m r : ℕ) (done : Lines) (n : ℕ) (ls : Lines) (x : Read Lines) → publics_at (map Replica (range_with_len r m)) done n ls ≡ Ok x → (keys : Lines) × ArePublicsRead r m done ls x keys
+pub publics_were : (m r : ℕ) (done : Lines) (n : ℕ) (ls : Lines) (x : Read Lines) → publics_at (map Replica (range_with_len r m)) done n ls ≡ Ok x → (keys : Lines) × ArePublicsRead r m done ls x keys
 publics_were zero r done n ls x e =
     let made : Read Lines = record { value = done; next = n; rest = ls } in
     let same : made ≡ x = same_ok made x e in
@@ -321,7 +321,7 @@ front_were ls x e =
     let s = bound (setting_at ls) (λ (s : KeyLines × Lines). keys_after s.0 s.1) x e in
     behind_were s.0.0 ls s.0.1 x (setting_was ls s.0.1 s.0.0 s.1) s.2
 
-ended_was : {A : Type 0} (a : A) (n : ℕ) (ls : Lines) (b : A) → ended a n ls ≡ Ok b → (ls ≡ []) × (a ≡ b)
+pub ended_was : {A : Type 0} (a : A) (n : ℕ) (ls : Lines) (b : A) → ended a n ls ≡ Ok b → (ls ≡ []) × (a ≡ b)
 ended_was a n [] b e = (refl, same_ok a b e)
 ended_was a n (l ∷ ls) b e = absurd (cc)
 

@@ -23,6 +23,9 @@ pub use laws::{
     derived_keys_are_in_form, fault_is_first, keys_are_whole, read_is_spelled, spelled_is_read,
     spelled_nodes_are_read, written_is_read,
 };
+pub use lines::{form_at, height_at, number_at};
 pub use node::{Commands, read_node};
 pub use parts::party_in;
+pub use peers::replicas;
+pub use reading::{Read, publics_of};
 pub use secret::Secret;

@@ -14,7 +14,7 @@ use ab_num::{Height, Party, Plan, ServiceName};
 use ab_text::{height_in, next_line, plan_in, service_in};
 
 /// What comes after line `n`, which has this form.
-pub(crate) fn form_at<'a>(text: &'a [u8], form: &[u8], n: u32) -> Result<&'a [u8], NodeFault>
+pub fn form_at<'a>(text: &'a [u8], form: &[u8], n: u32) -> Result<&'a [u8], NodeFault>
     ensures reads { Gives (λ rest. (tt, lines_of rest.now)) result (line_at (form_in form.now) n (lines_of text.now)) }
     ensures shorter { IfOk result (λ rest. length rest.now ≤ length text.now) }
 {
@@ -31,7 +31,7 @@ pub(crate) fn form_at<'a>(text: &'a [u8], form: &[u8], n: u32) -> Result<&'a [u8
 }
 
 /// The number of line `n`, after its word, and what comes after that line.
-pub(crate) fn number_at<'a>(
+pub fn number_at<'a>(
     text: &'a [u8],
     word: &[u8],
     low: u64,
@@ -95,7 +95,7 @@ pub(crate) fn service_at<'a>(text: &'a [u8], n: u32) -> Result<(ServiceName, &'a
 }
 
 /// The height of line `n`, and what comes after that line.
-pub(crate) fn height_at<'a>(text: &'a [u8], n: u32) -> Result<(Height, &'a [u8]), NodeFault>
+pub fn height_at<'a>(text: &'a [u8], n: u32) -> Result<(Height, &'a [u8]), NodeFault>
     ensures reads { Gives (λ p. (p.0, lines_of p.1.now)) result (line_at (spelled_in lms_line heights) n (lines_of text.now)) }
     ensures shorter { IfOk result (λ p. length p.1.now ≤ length text.now) }
 {

@@ -9,7 +9,7 @@ use ab_num::{Cluster, OutOfMemory, Party};
 use std::alloc::Global;
 
 /// The replicas, ascending.
-pub(crate) fn replicas(alloc: Global, c: &Cluster) -> Result<Vec<Party>, OutOfMemory>
+pub fn replicas(alloc: Global, c: &Cluster) -> Result<Vec<Party>, OutOfMemory>
     ensures replicas { IfOk result (λ v. v.items ≡ replicas c.now.f) }
     ensures few { IfOk result (λ v. length v.items ≤ 7) }
 {

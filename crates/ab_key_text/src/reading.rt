@@ -19,10 +19,10 @@ use std::alloc::Global;
 
 /// What was read, the number of the next line, and what comes from it on.
 #[derive(Drop)]
-pub(crate) struct Read<'a, T> {
-    pub(crate) value: T,
-    pub(crate) next: u32,
-    pub(crate) rest: &'a [u8],
+pub struct Read<'a, T> {
+    pub value: T,
+    pub next: u32,
+    pub rest: &'a [u8],
 }
 
 /// The secret of a replica, from line 8 on.
@@ -78,7 +78,7 @@ fn peers_of<'a>(
 }
 
 /// The public keys of these replicas, from line `first` on.
-fn publics_of<'a>(
+pub fn publics_of<'a>(
     alloc: Global,
     text: &'a [u8],
     parties: &[Party],

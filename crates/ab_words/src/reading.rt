@@ -141,6 +141,13 @@ fn command_of<'a>(
     if name == b"node".as_slice() {
         return node_of(alloc, words);
     }
+    if name == b"audit".as_slice() {
+        return Ok(if words.is_empty() {
+            Some(Command::Audit)
+        } else {
+            None
+        });
+    }
     Ok(None)
 }
 

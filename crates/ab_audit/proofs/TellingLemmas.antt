@@ -1,0 +1,51 @@
+-- What is told of the messages of a text.
+use Rattle.std.proofs.Common.{◌≡◌, ◌↔◌, ℕ, zero, suc, ◌<◌, List, [], ◌∷◌, Bool, true, false, not, IsTrue, All, arith, refl, sym, ap, subst, map, length, is_empty}
+use Rattle.std.specs.List.{AllByRecursion, Contains, IsDistinct}
+use Rattle.std.specs.List.Sorted.{IsPermutation}
+use Rattle.std.proofs.lemmas.List.Elements.{All-cons}
+use Rattle.std.proofs.lemmas.List.Sorted.{Contains-permutation, IsPermutation-sym}
+use Rattle.std.proofs.lemmas.Map.Keys.{IsDistinct-IsPermutation}
+use Rattle.ab_num.proofs.Lists.{Contains-head, Contains-none}
+use Rattle.ab_form.specs.Formats.{IsBytes}
+use Rattle.ab_sign.specs.declared.key.SignKey.{SignKey}
+use Rattle.ab_text.specs.EventLines.{IsInjected}
+use Rattle.ab_audit_text.specs.Texts.{AuditText}
+use Rattle.ab_audit.specs.declared.accusation.Accusation.{Accusation}
+use Rattle.ab_audit.specs.Accusations.{IsAccused, accusation_eq}
+use Rattle.ab_audit.specs.Audits.{IsToldOf, begun, told_all}
+use Rattle.ab_audit.specs.Tellings.{Accuses, AreAllOf, keys_in}
+use Rattle.ab_audit.proofs.OnceLemmas.{symmetric}
+
+-- ---- messages are bytes
+
+small_bytes : (bytes : List ℕ) → All (λ b. b < 256) bytes → IsBytes bytes
+small_bytes [] good i = omega arith
+small_bytes (b ∷ rest) good zero = good 0 0 (omega arith)
+small_bytes (b ∷ rest) good (suc i) = small_bytes rest (λ k d lt. good (suc k) d (omega arith)) i
+
+pub are_bytes : (ms : List (List ℕ)) → AllByRecursion IsInjected ms → All IsBytes ms
+are_bytes [] good = λ k d lt. absurd (omega arith)
+are_bytes (m ∷ ms) good = All-cons IsBytes m ms (small_bytes m good.0.small) (are_bytes ms good.1)
+
+-- ---- the list that is told
+
+abbrev LawOf : Type 0
+LawOf = (keys : List SignKey) (inputs : List (List ℕ)) (a : Accusation) → All IsBytes inputs → Contains (told_all (begun keys) inputs).kept.accused a ↔ IsAccused keys inputs a
+
+module _ (exact : LawOf) (once : (keys : List SignKey) (inputs : List (List ℕ)) → IsDistinct accusation_eq (told_all (begun keys) inputs).kept.accused)
+    (t : AuditText) (form : AllByRecursion IsInjected t.messages) (listed : List Accusation) where
+  pub all_of : IsToldOf (told_all (begun (keys_in t)) t.messages).kept.accused listed → AreAllOf t listed
+  all_of told =
+      let keys = keys_in t in
+      let accused = (told_all (begun keys) t.messages).kept.accused in
+      let law = λ a. exact keys t.messages a (are_bytes t.messages form) in
+      record {
+        exact = λ a. (λ is. (law a).0 (Contains-permutation listed accused a (IsPermutation-sym accused listed told.each) is), λ is. Contains-permutation accused listed a told.each ((law a).1 is));
+        once = IsDistinct-IsPermutation accusation_eq symmetric accused listed told.each (once keys t.messages);
+        rising = told.rising;
+      }
+
+-- whether there are any says whether someone is accused
+pub any_accused : (t : AuditText) (listed : List Accusation) → AreAllOf t listed → IsTrue (not (is_empty listed)) ↔ Accuses t
+any_accused t [] all = (λ e. absurd (cc), λ a. absurd (Contains-none a.0 ((all.exact a.0).1 a.1)))
+any_accused t (a ∷ listed) all = (λ e. (a, (all.exact a).0 (Contains-head a listed)), λ b. refl)
