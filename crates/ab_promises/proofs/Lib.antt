@@ -6,5 +6,6 @@ pub mod RunsOwn
 pub mod EmptyLogs
 pub mod SmallStarts
 pub mod SmallCalls
+pub mod SmallCommits
 pub mod SmallLocks
 pub mod SmallBackups

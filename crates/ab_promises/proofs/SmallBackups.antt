@@ -38,7 +38,7 @@ use Rattle.ab_order.specs.Protos.{OrderProto, Obeys, told, viewed, answer_out}
 use Rattle.ab_pbft_rules.specs.Locks.{ArePrepared}
 use Rattle.ab_pbft_rules.specs.Rules.{Pbft, pbft}
 use Rattle.ab_promises.specs.OwnCalls.{AreOwnCalls, none_yet, begins, takes}
-use Rattle.ab_promises.specs.SmallCalls.{no_pen}
+use Rattle.ab_msg.specs.Pens.{no_pen}
 use Rattle.ab_promises.specs.SmallStarts.{four}
 use Rattle.ab_promises.proofs.EmptyLogs.{AllEmpty, IsIdle, state_empty, more_empty, empty_apart, empty_slots, rises}
 use Rattle.ab_promises.specs.SmallBackups.{backup_of_four, empty_base, offers, prepared_by, rule, once, begun_by, taken_by, offered_acts, first_of, primary_acts, backup_acts}

@@ -20,7 +20,8 @@ use Rattle.ab_abs.proofs.SmallClients.{invokes_by, commits_by, takes_by}
 use Rattle.ab_abs.proofs.Witness.{cert}
 use Rattle.ab_quorum.specs.Rules.{quorum}
 use Rattle.ab_promises.specs.OwnCalls.{AreOwnCalls, none_yet, begins, takes, stops, others}
-use Rattle.ab_promises.specs.SmallCalls.{no_pen, asking, member}
+use Rattle.ab_msg.specs.Pens.{no_pen}
+use Rattle.ab_promises.specs.SmallCalls.{asking, member}
 
 module _ {S : Type 0} (machine : Machine S) (m : Request) (fits : IsRequest 0 15 m) where
   abbrev Own : List Act → (ℕ → Option Member) → Type 0

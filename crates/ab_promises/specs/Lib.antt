@@ -4,5 +4,6 @@ pub mod Starts
 pub mod Certified
 pub mod SmallStarts
 pub mod SmallCalls
+pub mod SmallCommits
 pub mod SmallLocks
 pub mod SmallBackups

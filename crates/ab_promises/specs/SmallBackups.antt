@@ -16,7 +16,7 @@ use Rattle.ab_abs.specs.Messages.{took}
 use Rattle.ab_order.specs.Backups.{Backing}
 use Rattle.ab_order.specs.Protos.{OrderProto, backup}
 use Rattle.ab_pbft_rules.specs.Rules.{Pbft, pbft}
-use Rattle.ab_promises.specs.SmallCalls.{no_pen}
+use Rattle.ab_msg.specs.Pens.{no_pen}
 use Rattle.ab_promises.specs.SmallStarts.{four}
 
 abbrev pub backup_of_four : Setting

@@ -5,11 +5,7 @@ use Rattle.ab_hist.specs.declared.request.Request.{Request}
 use Rattle.ab_msg.specs.declared.content.Content.TheVariants.{Req}
 use Rattle.ab_msg.specs.declared.message.Msg.{Msg}
 use Rattle.ab_msg.specs.declared.message.Msg.TheVariants as msg
-use Rattle.ab_msg.specs.Pens.{Pen}
 use Rattle.ab_abs.specs.Members.{Member}
-
-abbrev pub no_pen : Pen
-no_pen = record { used = 0; sig = λ s n. [] }
 
 abbrev pub asking : Request → Msg
 asking m = msg.Req (Req (Client m.client) 1 m) (record { items = (0, replicate 32 0) ∷ [] })

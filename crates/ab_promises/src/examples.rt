@@ -2,6 +2,7 @@
 
 ghost use Rattle.std.specs.Prelude.{ℕ, Option, [], ◌∷◌, List, Contains};
 ghost use Rattle.ab_num.specs.declared.plan.Plan.{Plan};
+ghost use Rattle.ab_num.specs.declared.plan.Plan.TheVariants as plan;
 ghost use Rattle.ab_hist.specs.declared.request.Request.{Request};
 ghost use Rattle.ab_hist.specs.Digests.{NoCollision, digest_of};
 ghost use Rattle.ab_msg.specs.Fields.{IsRequest, IsSig};
@@ -18,7 +19,10 @@ ghost use Rattle.ab_order.specs.Protos.{OrderProto, Obeys, backup};
 ghost use Rattle.ab_pbft_rules.specs.Locks.{ArePrepared};
 ghost use Rattle.ab_pbft_rules.specs.Rules.{Pbft, pbft};
 ghost use Rattle.ab_quorum.specs.Rules.{quorum};
+ghost use Rattle.ab_zlight.specs.Rules.{Light, zlight};
+ghost use Rattle.ab_chain.specs.Rules.{ChainState, chain};
 ghost use Rattle.ab_promises.specs.OwnCalls.{AreOwnCalls};
+ghost use Rattle.ab_promises.specs.SmallCommits.{last_faulty, zlight_acts, chain_acts};
 ghost use Rattle.ab_promises.specs.SmallLocks.{third_faulty, two_prepare};
 ghost use Rattle.ab_promises.specs.SmallStarts.{all_correct, starts};
 ghost use Rattle.ab_promises.specs.SmallBackups.{backup_of_four, backup_acts, empty_base};
@@ -40,6 +44,16 @@ pub fn four_replicas_answer<S: Service>()
     ensures own { (m : Request) → IsRequest 0 15 m → (left : ℕ → Option Member) × AreOwnCalls (quorum S.machine) small (small_acts S.machine m) left }
     ensures premises { (m : Request) → NoCollision (histories (small_acts S.machine m)) → SlotsApart (histories (small_acts S.machine m)) (requests (small_acts S.machine m)) → Premises small (small_acts S.machine m) }
     ensures commits { (m : Request) → Contains (observations (small_acts S.machine m)) (Committed 1 m.client m 1 (digest_of (m ∷ [])) (reply_to S.machine m)) }
+{}
+
+/// Three replicas of ZLight, and three of Chain, whose calls are their own, answer a request, and its
+/// client commits on their votes and that of a fourth, which is faulty. These acts meet the premises,
+/// if the digests of their histories differ.
+pub fn three_replicas_commit<S: Service>()
+    ensures zlight { (left : ℕ → Option Light) × AreOwnCalls (zlight S.machine) (last_faulty plan.ZLight) (zlight_acts S.machine) left }
+    ensures zlight_premises { NoCollision (histories (zlight_acts S.machine)) → SlotsApart (histories (zlight_acts S.machine)) (requests (zlight_acts S.machine)) → Premises (last_faulty plan.ZLight) (zlight_acts S.machine) }
+    ensures chain { (left : ℕ → Option ChainState) × AreOwnCalls (chain S.machine) (last_faulty plan.Chain) (chain_acts S.machine) left }
+    ensures chain_premises { NoCollision (histories (chain_acts S.machine)) → SlotsApart (histories (chain_acts S.machine)) (requests (chain_acts S.machine)) → Premises (last_faulty plan.Chain) (chain_acts S.machine) }
 {}
 
 /// Two of four replicas prepare a value in slot 0, with the PREPARE of a third, which is faulty. These

@@ -7,7 +7,8 @@ mod locks;
 mod own;
 
 pub use examples::{
-    four_replicas_answer, four_replicas_begin, two_replicas_lock, two_replicas_prepare,
+    four_replicas_answer, four_replicas_begin, three_replicas_commit, two_replicas_lock,
+    two_replicas_prepare,
 };
 pub use kinds::replicas_begin_and_stop;
 pub use locks::{pbft_locks_views, pbft_signs_once, prepared_values_lock, replicas_sign_once};
