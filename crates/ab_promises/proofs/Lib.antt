@@ -3,6 +3,7 @@ pub mod OwnLaws
 pub mod SignsOnce
 pub mod OwnOrders
 pub mod RunsOwn
+pub mod ChosenOwn
 pub mod EmptyLogs
 pub mod SmallStarts
 pub mod SmallCalls

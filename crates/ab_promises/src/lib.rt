@@ -11,7 +11,9 @@ pub use examples::{
     two_replicas_prepare,
 };
 pub use kinds::replicas_begin_and_stop;
-pub use locks::{pbft_locks_views, pbft_signs_once, prepared_values_lock, replicas_sign_once};
+pub use locks::{
+    pbft_locks_views, pbft_signs_once, prepared_values_lock, replicas_sign_once, runs_lock_views,
+};
 pub use own::{
     backup_calls_are_abstract, chain_calls_are_abstract, own_calls_are_abstract,
     pbft_calls_are_abstract, quorum_calls_are_abstract, runs_call_their_own,
