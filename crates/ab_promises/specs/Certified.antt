@@ -8,7 +8,7 @@ use Rattle.ab_abs.specs.OrderRules.{WasClaimed}
 use Rattle.ab_lock.specs.Quorums.{AreReplicas, quorum}
 use Rattle.ab_pbft_rules.specs.Locks.{ArePrepared}
 
--- a correct replica signs at most one PREPARE for each view and slot
+-- the PREPAREs that a correct replica signs for one view and slot have one digest
 abbrev pub SignOnce : Setting → List Act → Type 0
 SignOnce x acts = (r v n : ℕ) (d e : List ℕ) → IsCorrect x r → WasMade acts (Prepare (Replica r) x.i v n d) → WasMade acts (Prepare (Replica r) x.i v n e) → d ≡ e
 

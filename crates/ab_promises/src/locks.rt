@@ -40,8 +40,8 @@ pub fn prepared_values_lock<V, X>()
         → (v w n q : ℕ) (x y : X) → IsCommitted digest f faulty (steps_of acts) v n x → v ≤ w → IsCorrect f faulty q → HasPrepared digest (steps_of acts) q w n y → y ≡ x }
 {}
 
-/// In a Backup over PBFT in which each call is its own a correct replica signs at most one PREPARE for
-/// each view and slot.
+/// In a Backup over PBFT in which each call is its own the PREPAREs that a correct replica signs for one
+/// view and slot have one digest.
 pub fn pbft_signs_once<S: Service, Q>()
     ensures { (orders : OrderProto Q Pbft) → Obeys orders pbft → OwnCallsKeep (backup orders pbft S.machine) kind.Backup SignOnce }
 {}
