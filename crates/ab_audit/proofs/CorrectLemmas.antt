@@ -1,7 +1,5 @@
 -- Who states each thing once isn't accused.
-use Rattle.std.proofs.Common.{◌≡◌, ℕ, List, Option, Some, None, sym, ap, ◌∙◌, refl, subst}
-use Rattle.std.specs.List.{Contains}
-use Rattle.ab_num.specs.declared.party.Party.{Party}
+use Rattle.std.proofs.Common.{◌≡◌, ℕ, List, Some, ap, ◌∙◌}
 use Rattle.ab_num.specs.declared.party.Party.TheVariants.{Replica, Client}
 use Rattle.ab_msg.specs.declared.content.Content.{Content}
 use Rattle.ab_msg.specs.declared.content.Content.TheVariants as content
@@ -9,7 +7,7 @@ use Rattle.ab_msg.specs.Claims.{maker_of}
 use Rattle.ab_sign.specs.declared.key.SignKey.{SignKey}
 use Rattle.ab_audit.specs.declared.accusation.Accusation.{Accusation}
 use Rattle.ab_audit.specs.declared.accusation.Accusation.TheVariants.{Abort, Prepare}
-use Rattle.ab_audit.specs.Accusations.{IsAccused, found_among, subject_of}
+use Rattle.ab_audit.specs.Accusations.{IsAccused, subject_of}
 use Rattle.ab_audit.specs.Correct.{FindsItsOwn, StatesOnce, accused_replica}
 
 -- a subject names its maker

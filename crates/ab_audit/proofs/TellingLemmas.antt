@@ -1,7 +1,9 @@
 -- What is told of the messages of a text.
-use Rattle.std.proofs.Common.{◌≡◌, ◌↔◌, ℕ, zero, suc, ◌<◌, List, [], ◌∷◌, Bool, true, false, not, IsTrue, All, arith, refl, sym, ap, subst, map, length, is_empty}
+use Rattle.std.proofs.Common.{◌≡◌, ◌↔◌, ℕ, zero, suc, ◌<◌, ◌==◌, List, [], ◌∷◌, Bool, true, false, not, IsTrue, Ok, All, arith, ap, sym, ◌∙◌, subst, length}
+use Rattle.std.specs.Prelude.{count_by}
 use Rattle.std.specs.List.{AllByRecursion, Contains, IsDistinct}
-use Rattle.std.specs.List.Sorted.{IsPermutation}
+use Rattle.std.proofs.lemmas.Bool.{false≢true}
+use Rattle.std.proofs.lemmas.Bool.Decides.{nat_tests}
 use Rattle.std.proofs.lemmas.List.Elements.{All-cons}
 use Rattle.std.proofs.lemmas.List.Sorted.{Contains-permutation, IsPermutation-sym}
 use Rattle.std.proofs.lemmas.Map.Keys.{IsDistinct-IsPermutation}
@@ -9,11 +11,13 @@ use Rattle.ab_num.proofs.Lists.{Contains-head, Contains-none}
 use Rattle.ab_form.specs.Formats.{IsBytes}
 use Rattle.ab_sign.specs.declared.key.SignKey.{SignKey}
 use Rattle.ab_text.specs.EventLines.{IsInjected}
-use Rattle.ab_audit_text.specs.Texts.{AuditText}
+use Rattle.ab_text.specs.Lines.{lines_of}
+use Rattle.ab_audit_text.specs.Texts.{AuditText, audit_in}
 use Rattle.ab_audit.specs.declared.accusation.Accusation.{Accusation}
 use Rattle.ab_audit.specs.Accusations.{IsAccused, accusation_eq}
 use Rattle.ab_audit.specs.Audits.{IsToldOf, begun, told_all}
-use Rattle.ab_audit.specs.Tellings.{Accuses, AreAllOf, keys_in}
+use Rattle.ab_audit.specs.Reports.{report_text}
+use Rattle.ab_audit.specs.Tellings.{Accuses, AreAllOf, Audits, is_bad, keys_in}
 use Rattle.ab_audit.proofs.OnceLemmas.{symmetric}
 
 -- ---- messages are bytes
@@ -38,14 +42,32 @@ module _ (exact : LawOf) (once : (keys : List SignKey) (inputs : List (List ℕ)
   all_of told =
       let keys = keys_in t in
       let accused = (told_all (begun keys) t.messages).kept.accused in
-      let law = λ a. exact keys t.messages a (are_bytes t.messages form) in
+      let law = λ (a : Accusation). exact keys t.messages a (are_bytes t.messages form) in
       record {
         exact = λ a. (λ is. (law a).0 (Contains-permutation listed accused a (IsPermutation-sym accused listed told.each) is), λ is. Contains-permutation accused listed a told.each ((law a).1 is));
         once = IsDistinct-IsPermutation accusation_eq symmetric accused listed told.each (once keys t.messages);
         rising = told.rising;
       }
 
+none_test : (0 == 0) ≡ true
+none_test = grind (arith, nat_tests)
+
+some_test : (n : ℕ) → (suc n == 0) ≡ false
+some_test n = grind (arith, nat_tests)
+
 -- whether there are any says whether someone is accused
-pub any_accused : (t : AuditText) (listed : List Accusation) → AreAllOf t listed → IsTrue (not (is_empty listed)) ↔ Accuses t
-any_accused t [] all = (λ e. absurd (cc), λ a. absurd (Contains-none a.0 ((all.exact a.0).1 a.1)))
-any_accused t (a ∷ listed) all = (λ e. (a, (all.exact a).0 (Contains-head a listed)), λ b. refl)
+any_accused : (t : AuditText) (listed : List Accusation) → AreAllOf t listed → IsTrue (not (length listed == 0)) ↔ Accuses t
+any_accused t [] all = (λ e. absurd (false≢true (sym (ap not none_test) ∙ e)), λ a. absurd (Contains-none a.0 ((all.exact a.0).1 a.1)))
+any_accused t (a ∷ listed) all = (λ e. (a, (all.exact a).0 (Contains-head a listed)), λ b. ap not (some_test (length listed)))
+
+-- the report of a list of all accusations
+pub audited : (text report : List ℕ) (accuses : Bool) (t : AuditText) (listed : List Accusation) (m b : ℕ) → audit_in (lines_of text) ≡ Ok t → AreAllOf t listed
+    → m ≡ length t.messages → b ≡ count_by is_bad t.messages → report ≡ report_text listed m b → accuses ≡ not (length listed == 0) → Audits text report accuses
+audited text report accuses t listed m b reads all messages bad is says = record {
+  audit = t;
+  reads = reads;
+  listed = listed;
+  accused = all;
+  reports = is ∙ (λ j. report_text listed (messages j) (bad j));
+  says = subst (λ (x : Bool). IsTrue x ↔ Accuses t) (sym says) (any_accused t listed all);
+}

@@ -52,8 +52,9 @@ pub fn audit_text(alloc: Global, text: &[u8]) -> Result<Audited, NodeFault>
     let messages = input.messages();
     let mut audit = Audit::new(alloc, input.cluster(), input.publics())?;
     let bad = add_all(alloc, &mut audit, messages)?;
-    let listed = audit.accusations(alloc)?;
-    let report = report_of(alloc, listed.as_slice(), messages.len() as u64, bad)?;
+    let accused = audit.accusations(alloc)?;
+    let listed = accused.as_slice();
+    let report = report_of(alloc, listed, messages.len() as u64, bad)?;
     Ok(Audited {
         report,
         accuses: !listed.is_empty(),
