@@ -1,0 +1,5 @@
+-- The definitions that the contracts of this crate cite.
+pub mod Children
+pub mod Gathering
+pub mod Steps
+pub mod Told
