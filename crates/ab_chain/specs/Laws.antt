@@ -65,26 +65,26 @@ rule_of_chain kind.Backup f served = absurd (cc (served))
 -- ---- when a position passes on
 
 -- an answer, if it isn't stopped
-answered : {S : Type 0} (machine : Machine S) (q : Member) (m : Request) (stopped : Bool) (o : Option Vote) (vote : Vote) → (if stopped then None else o) ≡ Some vote → (stopped ≡ false) × (o ≡ Some vote)
+pub answered : {S : Type 0} (machine : Machine S) (q : Member) (m : Request) (stopped : Bool) (o : Option Vote) (vote : Vote) → (if stopped then None else o) ≡ Some vote → (stopped ≡ false) × (o ≡ Some vote)
 answered machine q m true o vote is = absurd (cc (is))
 answered machine q m false o vote is = (refl, is)
 
 -- the position gives this answer, and passes it on with this reply and these tags
-if_true : (b : Bool) (t : Task) (m : Request) (vote : Vote) (reply : Option Reply) (tags : List TagBetween) → (if b then t else idle) ≡ passes m vote reply tags → (b ≡ true) × (t ≡ passes m vote reply tags)
+pub if_true : (b : Bool) (t : Task) (m : Request) (vote : Vote) (reply : Option Reply) (tags : List TagBetween) → (if b then t else idle) ≡ passes m vote reply tags → (b ≡ true) × (t ≡ passes m vote reply tags)
 if_true true t m vote reply tags is = (refl, is)
 if_true false t m vote reply tags is = absurd (cc (is))
 
-if_false : (b : Bool) (t : Task) (m : Request) (vote : Vote) (reply : Option Reply) (tags : List TagBetween) → (if b then idle else t) ≡ passes m vote reply tags → t ≡ passes m vote reply tags
+pub if_false : (b : Bool) (t : Task) (m : Request) (vote : Vote) (reply : Option Reply) (tags : List TagBetween) → (if b then idle else t) ≡ passes m vote reply tags → t ≡ passes m vote reply tags
 if_false true t m vote reply tags is = absurd (cc (is))
 if_false false t m vote reply tags is = is
 
-record IsPassing (f p : ℕ) (n m : Request) (came : Option Reply) (given : List TagBetween) (o : Option Vote) (vote : Vote) (reply : Option Reply) (tags : List TagBetween) : Type 0 where
-  same : n ≡ m
-  answers : o ≡ Some vote
-  replies : reply ≡ reply_from f p came vote.reply
-  carries : tags ≡ given
+pub record IsPassing (f p : ℕ) (n m : Request) (came : Option Reply) (given : List TagBetween) (o : Option Vote) (vote : Vote) (reply : Option Reply) (tags : List TagBetween) : Type 0 where
+  pub same : n ≡ m
+  pub answers : o ≡ Some vote
+  pub replies : reply ≡ reply_from f p came vote.reply
+  pub carries : tags ≡ given
 
-passing_is : (f p : ℕ) (n m : Request) (came : Option Reply) (given : List TagBetween) (o : Option Vote) (vote : Vote) (reply : Option Reply) (tags : List TagBetween) → passing f p n came given o ≡ passes m vote reply tags
+pub passing_is : (f p : ℕ) (n m : Request) (came : Option Reply) (given : List TagBetween) (o : Option Vote) (vote : Vote) (reply : Option Reply) (tags : List TagBetween) → passing f p n came given o ≡ passes m vote reply tags
     → IsPassing f p n m came given o vote reply tags
 passing_is f p n m came given None vote reply tags is = absurd (cc (is))
 passing_is f p n m came given (Some v) vote reply tags is =
@@ -96,11 +96,11 @@ agreed_by : (f p k : ℕ) (d : List ℕ) (came : Option Reply) (v vote : Vote) (
 agreed_by f p k d came v vote true test is = let e : v ≡ vote = cc (is) in (is, subst (λ (z : Vote). agrees f p k d came z ≡ true) e test)
 agreed_by f p k d came v vote false test is = absurd (cc (is))
 
-agreed_is : (f p k : ℕ) (d : List ℕ) (came : Option Reply) (o : Option Vote) (vote : Vote) → agreed f p k d came o ≡ Some vote → (o ≡ Some vote) × (agrees f p k d came vote ≡ true)
+pub agreed_is : (f p k : ℕ) (d : List ℕ) (came : Option Reply) (o : Option Vote) (vote : Vote) → agreed f p k d came o ≡ Some vote → (o ≡ Some vote) × (agrees f p k d came vote ≡ true)
 agreed_is f p k d came None vote is = absurd (cc (is))
 agreed_is f p k d came (Some v) vote is = agreed_by f p k d came v vote (agrees f p k d came v) refl is
 
-late_reply : (f p : ℕ) (came : Option Reply) (own : Reply) → 2 * f < p → reply_from f p came own ≡ Some own
+pub late_reply : (f p : ℕ) (came : Option Reply) (own : Reply) → 2 * f < p → reply_from f p came own ≡ Some own
 late_reply f p came own lt = let no' : nat_le p (2 * f) ≡ false = over p (2 * f) lt in rw no' refl
   where
     over : (a b : ℕ) → b < a → nat_le a b ≡ false
@@ -113,7 +113,7 @@ grows_at log m (Some x) next = prefix_refl log
 grows_at log m None true = (m ∷ [], refl)
 grows_at log m None false = prefix_refl log
 
-grows_with : (log : List Request) (t : Task) → IsPrefix log (log_after log t)
+pub grows_with : (log : List Request) (t : Task) → IsPrefix log (log_after log t)
 grows_with log idle = prefix_refl log
 grows_with log (passes m vote reply tags) = grows_at log m (place_in log m) (can_push log m)
 
@@ -210,7 +210,7 @@ module _ {S : Type 0} (machine : Machine S) where
   written_with log (passes m vote reply tags) fits was = written_logged log m (fits m vote reply tags refl) was
 
   -- a stopped replica does nothing
-  no_pass : (q : ChainState) (call : Call) → q.at.stopped ≡ true → task machine q call ≡ idle
+  pub no_pass : (q : ChainState) (call : Call) → q.at.stopped ≡ true → task machine q call ≡ idle
   no_pass q (took (msg.Req (Req maker i m) tags)) stopped =
       let none : answer_of machine q.at m ≡ None = ap (λ b. if b then None else answer_to machine (length q.at.base) q.at.log m) stopped in
       rw none (either_idle (position_at q == 1))
@@ -228,12 +228,12 @@ module _ {S : Type 0} (machine : Machine S) where
   no_pass q _ stopped = refl
 
   -- where a value is
-  record IsHere (f i r : ℕ) (q : ChainState) : Type 0 where
-    sized : q.f ≡ f
-    placed : q.at.instance ≡ i
-    owned : q.at.me ≡ r
+  pub record IsHere (f i r : ℕ) (q : ChainState) : Type 0 where
+    pub sized : q.f ≡ f
+    pub placed : q.at.instance ≡ i
+    pub owned : q.at.me ≡ r
 
-  here : (c : Cluster) (i r : ℕ) (q : ChainState) → Belongs (chain machine) is_chain c i r q → IsHere c.f i r q
+  pub here : (c : Cluster) (i r : ℕ) (q : ChainState) → Belongs (chain machine) is_chain c i r q → IsHere c.f i r q
   here c i r q (begun e served) = record { sized = refl; placed = refl; owned = refl }
   here c i r q (called pen p call was) = let h = here c i r p was in record { sized = h.sized; placed = h.placed; owned = h.owned }
   here c i r q (halted p was) = let h = here c i r p was in record { sized = h.sized; placed = h.placed; owned = h.owned }

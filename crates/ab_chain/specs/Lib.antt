@@ -4,3 +4,4 @@ pub mod Rules
 pub mod Trials
 pub mod Passing
 pub mod Laws
+pub mod RuleLaws

@@ -448,10 +448,13 @@ impl<S: Service> Protocol<S> for Chain<S> {
     ghost use Rattle.ab_abs.proofs.TailSteps.{tail_nil};
     ghost use Rattle.ab_abs.proofs.Steps.{stays_at};
     ghost use Rattle.ab_chain.specs.Laws.{form_law, start_law, on_law, stop_law, others_law};
+    ghost use Rattle.ab_chain.specs.RuleLaws.{rule_law};
 
     ghost stands_stays = { λ x acts a me q still was. (stays_at x acts a me q.at still was.0, was.1) };
 
     ghost formed = { form_law S.machine S.short };
+
+    ghost ruled = { rule_law S.machine };
 
     ghost sound_nil = { λ x served. tail_nil S.machine x };
 

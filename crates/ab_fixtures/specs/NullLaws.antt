@@ -5,6 +5,7 @@ use base.Growing.{prefix_refl}
 use Rattle.ab_num.specs.declared.plan.Kind.{Kind}
 use Rattle.ab_num.specs.declared.plan.Kind.TheVariants as kind
 use Rattle.ab_num.specs.declared.cluster.Cluster.{Cluster}
+use Rattle.ab_num.specs.Places.{kind_of}
 use Rattle.ab_num.proofs.Lists.{Contains-none}
 use Rattle.ab_msg.specs.Fields.{IsWritten}
 use Rattle.ab_svc.specs.Machines.{Machine}
@@ -19,14 +20,16 @@ use Rattle.ab_abs.specs.Faults.{is_faulty}
 use Rattle.ab_abs.specs.Observations.{observed_in}
 use Rattle.ab_abs.specs.Instances.{IsAbstract}
 use Rattle.ab_abs.specs.Acts.{Act, Setting, MayStart, Premises, IsNoted, unmarked, observations, named_in, state_of, call_of}
-use Rattle.ab_abs.specs.Kinds.{kind_in, rule_in, rule_of}
+use Rattle.ab_abs.specs.Kinds.{is_backup, kind_in, rule_in, rule_of}
 use Rattle.ab_abs.specs.Rules.{IsOther, IsOtherBy}
 use Rattle.ab_abs.specs.Lawful.{BeginsThere}
 use Rattle.ab_abs.specs.TailRules.{TailCalls}
 use Rattle.ab_abs.specs.Messages.{Call, call_claims, call_values, claims_in}
 use Rattle.ab_abs.specs.Ensembles.{begin_of, asked_of, halt_of, MayTake}
 use Rattle.ab_abs.specs.FormLaws.{KeepsForm, Arises, from_entry, by_call, by_stop}
+use Rattle.ab_abs.specs.RuleLaws.{KeepsRules}
 use Rattle.ab_abs.specs.Members.{IsAt, member_state}
+use Rattle.ab_abs.proofs.TableLemmas.{begins_there}
 use Rattle.ab_abs.proofs.Positions.{position_there}
 use Rattle.ab_abs.proofs.Following.{IsLater, named_here}
 use Rattle.ab_abs.proofs.Abstracts.{promises}
@@ -71,6 +74,23 @@ form_law = record {
   settles = λ c i r pen q call cert was is formed. inl refl;
   written = λ c i r q was. written_of c i r q was;
   drafts = λ c i r pen q call lawful was formed o sent. absurd (Contains-none o sent);
+}
+
+-- ---- the rule table
+
+no_backup : (k : Kind) → IsTrue (is_of_most k) → is_backup k ≡ false
+no_backup kind.Quorum served = refl
+no_backup kind.ZLight served = refl
+no_backup kind.Chain served = refl
+no_backup kind.Backup served = absurd (cc (served))
+
+pub rule_law : {S : Type 0} (machine : Machine S) → KeepsRules machine null is_of_most
+rule_law machine = record {
+  answers = λ c i r pen q call o s was sent has. absurd (Contains-none o sent);
+  ignores = λ c i r pen q call was shut. (refl, refl, refl);
+  begins = λ c i r e is. begins_there (kind_of c.plan i) e.base (no_backup (kind_of c.plan i) is);
+  stops = λ c i r q was other. refl;
+  rests = λ c i r q was backup. refl;
 }
 
 module _ {S : Type 0} (machine : Machine S) (x : Setting) where

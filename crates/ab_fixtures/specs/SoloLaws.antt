@@ -1,6 +1,6 @@
 -- It is a lawful orderer: all lists but that of replica 0 are empty.
 use Rattle.std.proofs.Common.{◌≡◌, ◌≢◌, ℕ, zero, suc, ◌+◌, ◌<◌, ◌≤◌, Bool, true, false, Option, Some, None, List, [], ◌∷◌, ◌++◌, ◌⊎◌, refl, sym, ap, ◌∙◌, subst, inl, inr, arith, length, length-append, append_assoc, slice_get}
-use Rattle.std.specs.Prelude.{Contains, unwrap_or, if◌then◌else◌, nat_lt, ◌==◌, ◌&&◌, ◌||◌}
+use Rattle.std.specs.Prelude.{Contains, unwrap_or, if◌then◌else◌, nat_lt, ◌==◌, ◌&&◌}
 use Rattle.std.proofs.lemmas.List.{append-nil}
 use Rattle.std.proofs.lemmas.Bool.{cases_Bool}
 use Rattle.std.proofs.lemmas.Bool.Decides.{Decides-eqb, Decides-ltb, Decides-and}
@@ -26,12 +26,13 @@ use Rattle.ab_order.specs.Inputs.{Reading, request, handed, asked_by, Given}
 use Rattle.ab_order.specs.Orders.{IsOneOrder, IsQuiet}
 use Rattle.ab_order.specs.Orderers.{IsReached, from_start, by_input, IsTurn, IsOrderly, IsLawfulOrderer, begun_empty}
 use Rattle.ab_order.specs.Protos.{Obeys}
+use Rattle.ab_order.specs.Owned.{KeepsOwn}
 use Rattle.ab_order.proofs.OwnActs.{own_cases, own_state, own_within, own_grows, tail_within, claimed_within, init_within}
 use Rattle.ab_order.specs.Readings.{read}
 use Rattle.ab_order.specs.Bytes.{ArisesAs, from_entry, by_call, KeepsBytes}
 use Rattle.ab_backup.specs.Laws.{asked_formed}
 use Rattle.ab_backup.proofs.AnswerLemmas.{next_logged}
-use Rattle.ab_fixtures.specs.SoloRules.{Sole, Placed, behind_with, next, base_if, list_if, solo, solos, StandsSolo, IsSoloSound}
+use Rattle.ab_fixtures.specs.SoloRules.{Sole, Placed, behind_with, begun_with, next, base_if, list_if, solo, solos, StandsSolo, IsSoloSound}
 
 -- ---- lists
 
@@ -43,10 +44,11 @@ base_begins : (b : Bool) (h ms g : List Request) → base_if b h ≡ Some g → 
 base_begins false h ms g is = absurd (none-some g is)
 base_begins true h ms g is = (ms, ap (λ (l : List Request). l ++ ms) (sym (same_Some h g is)))
 
-base_keeps : (z b : Bool) (h g : List Request) → base_if b h ≡ Some g → base_if (z || b) h ≡ Some g
-base_keeps true false h g is = absurd (none-some g is)
-base_keeps true true h g is = is
-base_keeps false b h g is = is
+base_keeps : (z b : Bool) (o : Option Request) (h g : List Request) → base_if b h ≡ Some g → base_if (begun_with z b o) h ≡ Some g
+base_keeps z b None h g is = is
+base_keeps true false (Some m) h g is = absurd (none-some g is)
+base_keeps true true (Some m) h g is = is
+base_keeps false b (Some m) h g is = is
 
 -- what stands behind the base goes on
 record Extends (k : ℕ) (h ms more : List Request) (o : Option Request) : Type 0 where
@@ -68,19 +70,24 @@ extends_if k h ms m true can = record {
 }
 
 extends : (z : Bool) (k : ℕ) (h ms : List Request) (o : Option Request) → Extends k h ms (behind_with z k h ms o) o
-extends false k h ms o = extends_not k h ms o
-extends true k h ms None = extends_not k h ms None
+extends z k h ms None = extends_not k h ms None
+extends false k h ms (Some m) = extends_not k h ms (Some m)
 extends true k h ms (Some m) =
     extends_if k h ms m (nat_lt (length ms) k && can_push (h ++ ms) m) (Decides-and (nat_lt (length ms) k) (can_push (h ++ ms) m) (Decides-ltb (length ms) k) (can_push-Decides (h ++ ms) m)).0
 
-list_grows : (z b : Bool) (h ms more : List Request) → IsPrefix ms more → (z ≡ false → more ≡ ms) → IsPrefix (list_if b h ms) (list_if (z || b) h more)
-list_grows true false h ms more p still = (h ++ more, refl)
-list_grows true true h ms more p still = (p.0, append_assoc h ms p.0 ∙ ap (λ (l : List Request). h ++ l) p.1)
-list_grows false b h ms more p still = subst (λ (l : List Request). IsPrefix (list_if b h ms) (list_if b h l)) (sym (still refl)) (prefix_refl (list_if b h ms))
+list_more : (b : Bool) (h ms more : List Request) → IsPrefix ms more → IsPrefix (list_if b h ms) (list_if b h more)
+list_more false h ms more p = prefix_refl []
+list_more true h ms more p = (p.0, append_assoc h ms p.0 ∙ ap (λ (l : List Request). h ++ l) p.1)
 
-behind_still : (z : Bool) (k : ℕ) (h ms : List Request) (o : Option Request) → z ≡ false → behind_with z k h ms o ≡ ms
-behind_still false k h ms o is = refl
-behind_still true k h ms o is = absurd (cc (is))
+list_grows : (z b : Bool) (o : Option Request) (h ms more : List Request) → IsPrefix ms more → IsPrefix (list_if b h ms) (list_if (begun_with z b o) h more)
+list_grows z b None h ms more p = list_more b h ms more p
+list_grows true false (Some m) h ms more p = (h ++ more, refl)
+list_grows true true (Some m) h ms more p = list_more true h ms more p
+list_grows false b (Some m) h ms more p = list_more b h ms more p
+
+-- nothing is executed where nothing is asked for
+still : (q : Sole) → next q None ≡ q
+still q = refl
 
 -- ---- what holds of each value
 
@@ -100,10 +107,9 @@ solo_orderly = record {
   begun = λ k f i me h. (refl, refl);
   empty = λ q none. base_none q.begun q.entered q.behind none;
   begins = λ q g is. base_begins q.begun q.entered q.behind g is;
-  keeps = λ q e g is. base_keeps (q.me == 0) q.begun q.entered g is;
+  keeps = λ q e g is. base_keeps (q.me == 0) q.begun (asked_by e) q.entered g is;
   grows = λ q e.
-      list_grows (q.me == 0) q.begun q.entered q.behind (behind_with (q.me == 0) q.k q.entered q.behind (asked_by e)) (extends (q.me == 0) q.k q.entered q.behind (asked_by e)).begins
-      (behind_still (q.me == 0) q.k q.entered q.behind (asked_by e));
+      list_grows (q.me == 0) q.begun (asked_by e) q.entered q.behind (behind_with (q.me == 0) q.k q.entered q.behind (asked_by e)) (extends (q.me == 0) q.k q.entered q.behind (asked_by e)).begins;
   at_most = λ k q g was is. base_most q.begun k q.entered q.behind g (within k q was).1 is;
   opens = λ q e h is. inl refl;
   idles = λ q. refl;
@@ -124,11 +130,21 @@ solo_obeys = record {
   sent = λ pen p call s has. absurd (Contains-none s has);
 }
 
+pub solo_owns : KeepsOwn solos solo
+solo_owns = record {
+  states = λ pen p call o s f r sent has. absurd (Contains-none o sent);
+  carries = λ pen p call o f r sent. absurd (Contains-none o sent);
+  ignores = λ pen p call nothing.
+      let placed : Sole → Placed = λ q. record { cluster = p.cluster; at = q } in
+      (ap (λ (e : Reading). placed (next p.at (asked_by e))) nothing ∙ ap placed (still p.at), refl, refl);
+}
+
 -- ---- the law
 
-idle_still : (z b : Bool) → (z ≡ false → b ≡ false) → z ≡ false → (z || b) ≡ false
-idle_still true b was is = absurd (cc (is))
-idle_still false b was is = was is
+idle_still : (z b : Bool) (o : Option Request) → (z ≡ false → b ≡ false) → z ≡ false → begun_with z b o ≡ false
+idle_still z b None was is = was is
+idle_still true b (Some m) was is = absurd (cc (is))
+idle_still false b (Some m) was is = was is
 
 asks_own : (i : ℕ) (e : Reading) (m : Request) → asked_by e ≡ Some m → Contains (handed.claims i e) (Req (Client m.client) i m)
 asks_own i (request n) m is = subst (λ (z : Request). Contains (Req (Client n.client) i n ∷ []) (Req (Client z.client) i z)) (same_Some n m is) (Contains-head (Req (Client n.client) i n) [])
@@ -227,7 +243,7 @@ module _ (x : Setting) (k : ℕ) where
               | inl old ↦ claimed_within own (a ∷ own) (Req (Client m.client) x.i m) (tail_within a own) (was.claimed m old)
               | inr now ↦ (a, Contains-head a own, turn.claims (Req (Client m.client) x.i m) (asks_own x.i e m now))
             ];
-        idle = idle_still (q.me == 0) q.begun was.idle;
+        idle = idle_still (q.me == 0) q.begun o was.idle;
       }
 
   -- where replica r is
@@ -366,8 +382,8 @@ written_more h ms m false can asked was = was
 written_more h ms m true can asked was = subst IsWritten (next_logged (h ++ ms) m (can refl) ∙ append_assoc h ms (m ∷ [])) (written_logged (h ++ ms) m asked was)
 
 written_behind : (z : Bool) (k : ℕ) (h ms : List Request) (o : Option Request) → ((m : Request) → o ≡ Some m → IsRequest 0 15 m) → IsWritten (h ++ ms) → IsWritten (h ++ behind_with z k h ms o)
-written_behind false k h ms o asked was = was
-written_behind true k h ms None asked was = was
+written_behind z k h ms None asked was = was
+written_behind false k h ms (Some m) asked was = was
 written_behind true k h ms (Some m) asked was =
     written_more h ms m (nat_lt (length ms) k && can_push (h ++ ms) m)
     (λ is. ((Decides-and (nat_lt (length ms) k) (can_push (h ++ ms) m) (Decides-ltb (length ms) k) (can_push-Decides (h ++ ms) m)).0 is).1) (asked m refl) was

@@ -1,4 +1,4 @@
--- An orderer by which replica 0 alone orders, whatever it takes, as it comes. So its cluster goes on only while replica 0 is correct.
+-- An orderer by which replica 0 alone orders, each request as it comes. So its cluster goes on only while replica 0 is correct.
 use Rattle.std.specs.Prelude.{◌≡◌, ◌⊎◌, ℕ, ◌≤◌, ◌==◌, ◌&&◌, ◌||◌, Bool, true, false, nat_lt, if◌then◌else◌, Option, None, Some, unwrap_or, List, [], ◌∷◌, ◌++◌, Contains, length}
 use Rattle.ab_num.specs.declared.cluster.Cluster.{Cluster}
 use Rattle.ab_num.specs.Places.{limit_of}
@@ -30,12 +30,17 @@ pub record Placed : Type 0 where
   pub at : Sole
 
 abbrev pub behind_with : Bool → ℕ → List Request → List Request → Option Request → List Request
-behind_with false k entered behind o = behind
-behind_with true k entered behind None = behind
+behind_with first k entered behind None = behind
+behind_with false k entered behind (Some m) = behind
 behind_with true k entered behind (Some m) = if nat_lt (length behind) k && can_push (entered ++ behind) m then behind ++ m ∷ [] else behind
 
+-- the first request has the base executed
+abbrev pub begun_with : Bool → Bool → Option Request → Bool
+begun_with first begun None = begun
+begun_with first begun (Some m) = first || begun
+
 abbrev pub next : Sole → Option Request → Sole
-next q o = record q { begun = (q.me == 0) || q.begun; behind = behind_with (q.me == 0) q.k q.entered q.behind o }
+next q o = record q { begun = begun_with (q.me == 0) q.begun o; behind = behind_with (q.me == 0) q.k q.entered q.behind o }
 
 abbrev pub base_if : Bool → List Request → Option (List Request)
 base_if false h = None

@@ -100,11 +100,13 @@ impl<S: Service> Protocol<S> for Null<S> {
     }
 
     ghost use Rattle.ab_abs.proofs.Steps.{stays_at};
-    ghost use Rattle.ab_fixtures.specs.NullLaws.{form_law, nil_law, start_law, on_law, stop_law, others_law, abstract_law, names_law};
+    ghost use Rattle.ab_fixtures.specs.NullLaws.{form_law, rule_law, nil_law, start_law, on_law, stop_law, others_law, abstract_law, names_law};
 
     ghost stands_stays = { λ x acts a me q. stays_at x acts a me (member_of q) };
 
     ghost formed = { form_law };
+
+    ghost ruled = { rule_law S.machine };
 
     ghost sound_nil = { nil_law S.machine };
 

@@ -1,6 +1,6 @@
 //! A replica of an order that replica 0 makes by itself.
 
-ghost use Rattle.std.specs.Prelude.{◌≡◌, ◌++◌, ◌∷◌, [], ◌&&◌, true, IfOk, OnOk, drop, if◌then◌else◌, length};
+ghost use Rattle.std.specs.Prelude.{◌≡◌, ◌++◌, ◌∷◌, [], ◌&&◌, true, Some, IfOk, OnOk, drop, if◌then◌else◌, length};
 ghost use Rattle.ab_hist.specs.Histories.{can_push as test_push};
 ghost use Rattle.ab_fixtures.specs.SoloRules.{next, behind_with};
 
@@ -13,8 +13,8 @@ use ab_wire::MsgRef;
 use std::alloc::Global;
 use std::marker::Model;
 
-/// Replica 0 executes the history that it entered with, and behind it each request as it comes, with no word to the
-/// others. No other replica executes anything.
+/// As the first request comes, replica 0 executes the history that it entered with, and behind it each request as it
+/// comes, with no word to the others. No other replica executes anything.
 #[derive(Drop)]
 pub struct Solo {
     cluster: Cluster,
@@ -63,14 +63,11 @@ impl Solo {
         }
     }
 
-    /// The list after an event, in which a request may be asked for.
-    fn next_log(&self, alloc: Global, asked: Option<Request>) -> Result<History, OutOfMemory>
-        ensures { IfOk result (λ log. log ≡ self.now.at.entered ++ behind_with true self.now.at.k self.now.at.entered self.now.at.behind asked) }
+    /// The list after a request.
+    fn next_log(&self, alloc: Global, m: Request) -> Result<History, OutOfMemory>
+        ensures { IfOk result (λ log. log ≡ self.now.at.entered ++ behind_with true self.now.at.k self.now.at.entered self.now.at.behind (Some m)) }
     {
         let mut log = self.begun_log(alloc)?;
-        let Some(m) = asked else {
-            return Ok(log);
-        };
         let room = log.len() - self.entered.len() < usize::from(self.limit);
         add(alloc, &mut log, room, m)?;
         Ok(log)
@@ -80,10 +77,13 @@ impl Solo {
     fn turn(&self, alloc: Global, asked: Option<Request>) -> Result<Solo, OutOfMemory>
         ensures { IfOk result (λ p. p ≡ record { cluster = self.now.cluster; at = next self.now.at asked }) }
     {
+        let Some(m) = asked else {
+            return self.copy(alloc);
+        };
         if self.me != 0 {
             return self.copy(alloc);
         }
-        let log = self.next_log(alloc, asked)?;
+        let log = self.next_log(alloc, m)?;
         Ok(Solo {
             cluster: self.cluster,
             instance: self.instance,
@@ -171,11 +171,13 @@ impl Orderer for Solo {
         None
     }
 
-    ghost use Rattle.ab_fixtures.specs.SoloLaws.{solo_obeys, solo_orderly, solo_lawful, solo_bytes};
+    ghost use Rattle.ab_fixtures.specs.SoloLaws.{solo_obeys, solo_orderly, solo_owns, solo_lawful, solo_bytes};
 
     ghost obeys = { solo_obeys };
 
     ghost orderly = { solo_orderly };
+
+    ghost owned = { solo_owns };
 
     ghost lawful = { solo_lawful };
 

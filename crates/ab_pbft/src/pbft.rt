@@ -251,11 +251,14 @@ impl Orderer for Pbft {
     ghost use Rattle.ab_pbft_rules.proofs.LawfulOrderer.{pbft_lawful};
     ghost use Rattle.ab_pbft_rules.proofs.OrderlyOrderer.{pbft_orderly};
     ghost use Rattle.ab_pbft_shelf.proofs.Obeying.{signing_obeys};
+    ghost use Rattle.ab_pbft_shelf.proofs.Owning.{signing_owns};
     ghost use Rattle.ab_pbft_drafts.proofs.KeptBytes.{signing_keeps_bytes};
 
     ghost obeys = { signing_obeys };
 
     ghost orderly = { pbft_orderly };
+
+    ghost owned = { signing_owns };
 
     ghost lawful = { pbft_lawful };
 

@@ -117,15 +117,17 @@ module _ (by : Author) where
     states : (o : Out) → Contains outs o → (g r : ℕ) → fresh g (Replica r) o.msg ≡ says_by d
     signs : (o : Out) → Contains outs o → signed_in o.msg ≡ map (signature p) (signed_by by d)
     some : 1 ≤ f → (s : Content) → Contains (says_by d) s → (o : Out) × Contains outs o
+    speaks : (o : Out) → Contains outs o → (s : Content) × Contains (says_by d) s
 
-  telling : (d : Notice) (p : Post) (says : ℕ → Msg) → (posts by d p).sent ≡ p.sent ++ to_others (3 * f + 1) by.me says → ((q g r : ℕ) → fresh g (Replica r) (says q) ≡ says_by d)
-      → ((q : ℕ) → signed_in (says q) ≡ map (signature p) (signed_by by d)) → Tells d p
-  telling d p says sends states signatures = record {
+  telling : (d : Notice) (p : Post) (says : ℕ → Msg) (first : Content) → (posts by d p).sent ≡ p.sent ++ to_others (3 * f + 1) by.me says → ((q g r : ℕ) → fresh g (Replica r) (says q) ≡ says_by d)
+      → ((q : ℕ) → signed_in (says q) ≡ map (signature p) (signed_by by d)) → says_by d ≡ first ∷ [] → Tells d p
+  telling d p says first sends states signatures one = record {
     outs = to_others (3 * f + 1) by.me says;
     sent = sends;
     states = λ o has g r. let w = others_from (3 * f + 1) by.me says o has in ap (λ (m : Msg). fresh g (Replica r) m) w.1 ∙ states w.0 g r;
     signs = λ o has. let w = others_from (3 * f + 1) by.me says o has in ap (λ (m : Msg). signed_in m) w.1 ∙ signatures w.0;
     some = λ faulty s has. let w = others_some (3 * f + 1) by.me says (omega (arith, faulty)) in (w.0, w.1);
+    speaks = λ o has. (first, subst (λ (l : List Content). Contains l first) (sym one) (Contains-head first []));
   }
 
   silent : (d : Notice) (p : Post) → (posts by d p).sent ≡ p.sent → says_by d ≡ [] → Tells d p
@@ -135,17 +137,18 @@ module _ (by : Author) where
     states = λ o has. absurd (Contains-none o has);
     signs = λ o has. absurd (Contains-none o has);
     some = λ faulty s has. absurd (Contains-none s (subst (λ (l : List Content). Contains l s) says has));
+    speaks = λ o has. absurd (Contains-none o has);
   }
 
   tells_of : (d : Notice) (p : Post) → Tells d p
   tells_of (Signs view slot x) p =
       let s = Prepare (Replica by.me) by.instance view slot x in
-      telling (Signs view slot x) p (λ r. msg.Prepare (signature p s)) refl (λ q g r. refl) (λ q. refl)
-  tells_of (Prepares view slot value) p = telling (Prepares view slot value) p (λ r. commit_message by view slot value) refl (λ q g r. refl) (λ q. refl)
-  tells_of (Changes view entries) p = telling (Changes view entries) p (λ r. msg.ViewChange (own_change_of by p.shelf p.pen view entries)) refl (λ q g r. refl) (λ q. refl)
+      telling (Signs view slot x) p (λ r. msg.Prepare (signature p s)) s refl (λ q g r. refl) (λ q. refl) refl
+  tells_of (Prepares view slot value) p = telling (Prepares view slot value) p (λ r. commit_message by view slot value) _ refl (λ q g r. refl) (λ q. refl) refl
+  tells_of (Changes view entries) p = telling (Changes view entries) p (λ r. msg.ViewChange (own_change_of by p.shelf p.pen view entries)) _ refl (λ q g r. refl) (λ q. refl) refl
   tells_of (Enters view) p = silent (Enters view) p refl refl
-  tells_of (Offers view slot value) p = telling (Offers view slot value) p (offer_message by p.shelf view slot value) refl (λ q g r. refl) (λ q. refl)
-  tells_of (Leads view) p = telling (Leads view) p (λ r. lead_message by p.shelf view) refl (λ q g r. refl) (λ q. refl)
+  tells_of (Offers view slot value) p = telling (Offers view slot value) p (offer_message by p.shelf view slot value) _ refl (λ q g r. refl) (λ q. refl) refl
+  tells_of (Leads view) p = telling (Leads view) p (λ r. lead_message by p.shelf view) _ refl (λ q g r. refl) (λ q. refl) refl
 
   abbrev told : Notice → Post → List Out
   told d p = (tells_of d p).outs
@@ -183,6 +186,18 @@ module _ (by : Author) where
           | inr now ↦ inr (Contains-append_left (says_by d) (said_by deeds) s (subst (λ (l : List Content). Contains l s) ((tells_of d p).states o now g r) is))
         ]
         | inr later ↦ inr (Contains-append_right (says_by d) (said_by deeds) s later)
+      ]
+
+  -- each message states something
+  pub all_speak : (deeds : List Notice) (p : Post) (o : Out) (g r : ℕ) → Contains (posts_all by deeds p).sent o → Contains p.sent o ⊎ ((s : Content) × Contains (fresh g (Replica r) o.msg) s)
+  all_speak [] p o g r has = inl has
+  all_speak (d ∷ deeds) p o g r has =
+      elim (all_speak deeds (posts by d p) o g r has) [
+        | inl before ↦ elim (sent_cases d p o before) [
+          | inl old ↦ inl old
+          | inr now ↦ inr (let w = (tells_of d p).speaks o now in (w.0, subst (λ (l : List Content). Contains l w.0) (sym ((tells_of d p).states o now g r)) w.1))
+        ]
+        | inr later ↦ inr later
       ]
 
   -- ---- signatures

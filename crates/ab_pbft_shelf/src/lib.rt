@@ -12,5 +12,5 @@ mod shelf;
 
 pub use author::Author;
 pub use kept::{Certified, SignedVote, Tagged};
-pub use laws::replicas_obey;
+pub use laws::{replicas_obey, replicas_send_their_own};
 pub use shelf::Shelf;

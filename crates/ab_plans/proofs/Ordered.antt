@@ -15,7 +15,8 @@ use Rattle.ab_abs.specs.Promises.{ServesAll}
 use Rattle.ab_abs.specs.Ensembles.{Proto}
 use Rattle.ab_abs.proofs.Reach.{reached_abstract, reached_ordered}
 use Rattle.ab_plans.specs.ChoiceRules.{sound_by, stands_by}
-use Rattle.ab_order.specs.Protos.{OrderProto, Obeys, is_backup, backup, backup_sound, backup_stands}
+use Rattle.ab_abs.specs.Kinds.{is_backup}
+use Rattle.ab_order.specs.Protos.{OrderProto, Obeys, backup, backup_sound, backup_stands}
 use Rattle.ab_order.proofs.ProtoLaws as laws
 use Rattle.ab_pbft_rules.specs.Traces.{IsPbftSound}
 use Rattle.ab_pbft_rules.specs.Rules.{Pbft, pbft}

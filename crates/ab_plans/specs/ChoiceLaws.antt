@@ -13,6 +13,7 @@ use Rattle.ab_abs.specs.Kinds.{kind_in}
 use Rattle.ab_abs.specs.Rules.{IsStill}
 use Rattle.ab_abs.specs.Messages.{Call}
 use Rattle.ab_abs.specs.Ensembles.{Proto, entry_of, begin_of, asked_of, halt_of, MayTake}
+use Rattle.ab_abs.specs.RuleLaws.{KeepsRules, log_at_start, may_take}
 use Rattle.ab_abs.specs.FormLaws.{KeepsForm, IsBlank, Belongs, begun, called, halted, Arises, from_entry, by_call, by_stop}
 use Rattle.ab_plans.specs.declared.choice.Choice.{Choice}
 use Rattle.ab_plans.specs.declared.choice.Choice.TheVariants.{First, Second}
@@ -108,6 +109,38 @@ module _ {P Q : Type 0} (p : Proto P) (q : Proto Q) (serves_p serves_q : Kind �
       drafts = λ c i r pen. elim [
         | First v ↦ λ call lawful was. form_p.drafts c i r pen v call lawful (arises c i r (First v) was)
         | Second v ↦ λ call lawful was. form_q.drafts c i r pen v call lawful (arises c i r (Second v) was)
+      ];
+    }
+
+  -- the one that runs it keeps to its rule table
+  module _ {S : Type 0} (machine : Machine S) (rules_p : KeepsRules machine p serves_p) (rules_q : KeepsRules machine q serves_q) where
+    log_begins_in : (b : Bool) (c : Cluster) (i r : ℕ) (e : Entry) → serves_p (kind_of c.plan i) ≡ b → IsTrue (b || serves_q (kind_of c.plan i))
+        → (one_of.state (begins p q b c i r e)).log ≡ log_at_start (kind_of c.plan i) e.base
+    log_begins_in true c i r e is served = rules_p.begins c i r e is
+    log_begins_in false c i r e is served = rules_q.begins c i r e served
+
+    abbrev Ignored : Choice P Q → Pen → Call → Type 0
+    Ignored v pen call = (one_of.after pen v call ≡ v) × (one_of.sends pen v call ≡ []) × (one_of.signs v call ≡ [])
+
+    ignores_in : (c : Cluster) (i r : ℕ) (pen : Pen) (v : Choice P Q) (call : Call) → Belongs one_of serves c i r v → may_take (kind_of c.plan i) (one_of.state v).stopped call ≡ false → Ignored v pen call
+    ignores_in c i r pen (First v) call was shut = let w = rules_p.ignores c i r pen v call (belongs c i r (First v) was) shut in (ap First w.0, w.1, w.2)
+    ignores_in c i r pen (Second v) call was shut = let w = rules_q.ignores c i r pen v call (belongs c i r (Second v) was) shut in (ap Second w.0, w.1, w.2)
+
+    pub rule_law : KeepsRules machine one_of serves
+    rule_law = record {
+      answers = λ c i r pen. elim [
+        | First v ↦ λ call o s was. rules_p.answers c i r pen v call o s (belongs c i r (First v) was)
+        | Second v ↦ λ call o s was. rules_q.answers c i r pen v call o s (belongs c i r (Second v) was)
+      ];
+      ignores = ignores_in;
+      begins = λ c i r e is. log_begins_in (serves_p (kind_of c.plan i)) c i r e refl is;
+      stops = λ c i r. elim [
+        | First v ↦ λ was. rules_p.stops c i r v (belongs c i r (First v) was)
+        | Second v ↦ λ was. rules_q.stops c i r v (belongs c i r (Second v) was)
+      ];
+      rests = λ c i r. elim [
+        | First v ↦ λ was is. ap First (rules_p.rests c i r v (belongs c i r (First v) was) is)
+        | Second v ↦ λ was is. ap Second (rules_q.rests c i r v (belongs c i r (Second v) was) is)
       ];
     }
 

@@ -10,7 +10,8 @@ use Rattle.ab_zlight.specs.Rules.{Light, is_zlight, zlight}
 use Rattle.ab_plans.specs.declared.choice.Choice.{Choice}
 use Rattle.ab_plans.specs.ChoiceRules.{choice, either}
 use Rattle.ab_order.specs.Backups.{Backing}
-use Rattle.ab_order.specs.Protos.{OrderProto, is_backup, backup}
+use Rattle.ab_abs.specs.Kinds.{is_backup}
+use Rattle.ab_order.specs.Protos.{OrderProto, backup}
 use Rattle.ab_pbft_rules.specs.Rules.{Pbft, pbft}
 
 -- PBFT runs where the other protocol doesn't serve the kind of the instance

@@ -121,11 +121,13 @@ impl<S: Service, P: Protocol<S>, Q: Protocol<S>> Protocol<S> for Choice<P, Q> {
     ghost use Rattle.ab_abs.specs.Acts.{observations, named_in};
     ghost use Rattle.ab_abs.specs.Instances.{IsAbstract};
     ghost use Rattle.ab_abs.specs.Observations.{observed_in};
-    ghost use Rattle.ab_plans.specs.ChoiceLaws.{form_law, stays_law, nil_law, start_law, on_law, stop_law, others_law, act_law};
+    ghost use Rattle.ab_plans.specs.ChoiceLaws.{form_law, rule_law, stays_law, nil_law, start_law, on_law, stop_law, others_law, act_law};
 
     ghost stands_stays = { stays_law S.machine P.proto Q.proto P.serves Q.serves P.sound Q.sound P.stands Q.stands P.stands_stays Q.stands_stays };
 
     ghost formed = { form_law P.proto Q.proto P.serves Q.serves P.formed Q.formed };
+
+    ghost ruled = { rule_law P.proto Q.proto P.serves Q.serves S.machine P.ruled Q.ruled };
 
     ghost sound_nil = { λ x. nil_law S.machine P.proto Q.proto P.serves Q.serves P.sound Q.sound P.stands Q.stands x (P.sound_nil x) (Q.sound_nil x) };
 

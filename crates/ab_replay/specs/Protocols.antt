@@ -8,7 +8,8 @@ use Rattle.ab_quorum.specs.Rules.{quorum, is_quorum}
 use Rattle.ab_zlight.specs.Rules.{Light, zlight, is_zlight}
 use Rattle.ab_chain.specs.Rules.{ChainState, chain, is_chain}
 use Rattle.ab_order.specs.Backups.{Backing}
-use Rattle.ab_order.specs.Protos.{backup, is_backup}
+use Rattle.ab_abs.specs.Kinds.{is_backup}
+use Rattle.ab_order.specs.Protos.{backup}
 use Rattle.ab_pbft_rules.specs.Rules.{pbft}
 use Rattle.ab_pbft_shelf.specs.Signing.{Signing, signing}
 use Rattle.ab_plans.specs.declared.choice.Choice.{Choice}

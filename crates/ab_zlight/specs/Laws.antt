@@ -134,13 +134,13 @@ grows_unless : (stopped : Bool) (log : List Request) (m : Request) → IsPrefix 
 grows_unless true log m = prefix_refl log
 grows_unless false log m = grows_at log m (place_in log m) (can_push log m)
 
-grows_with : (q : Member) (t : Task) → IsPrefix q.log (log_after q t)
+pub grows_with : (q : Member) (t : Task) → IsPrefix q.log (log_after q t)
 grows_with q idle = prefix_refl q.log
 grows_with q (ordered m) = grows_unless q.stopped q.log m
 grows_with q (asked m tags) = grows_unless q.stopped q.log m
 
 -- a stopped replica logs nothing
-frozen_with : (q : Member) (t : Task) → q.stopped ≡ true → log_after q t ≡ q.log
+pub frozen_with : (q : Member) (t : Task) → q.stopped ≡ true → log_after q t ≡ q.log
 frozen_with q idle stopped = refl
 frozen_with q (ordered m) stopped = ap (λ b. if b then q.log else logged q.log m) stopped
 frozen_with q (asked m tags) stopped = ap (λ b. if b then q.log else logged q.log m) stopped
@@ -164,11 +164,11 @@ other_out (suc n) me says o has =
     ]
 
 -- it names the place of the request in the log
-record IsOrderOut (q : Member) (m : Request) (tags : List (ℕ × List ℕ)) (o : Out) : Type 0 where
-  x : ℕ
-  to : ℕ
-  placed : place_in (log_with q m) m ≡ Some x
-  says : o.msg ≡ order_msg q m x tags to
+pub record IsOrderOut (q : Member) (m : Request) (tags : List (ℕ × List ℕ)) (o : Out) : Type 0 where
+  pub x : ℕ
+  pub to : ℕ
+  pub placed : place_in (log_with q m) m ≡ Some x
+  pub says : o.msg ≡ order_msg q m x tags to
 
 placed_out : (f : ℕ) (q : Member) (m : Request) (tags : List (ℕ × List ℕ)) (place : Option ℕ) (o : Out) → place_in (log_with q m) m ≡ place → Contains (orders_at f q m tags place) o → IsOrderOut q m tags o
 placed_out f q m tags None o is has = absurd (Contains-none o has)
@@ -176,7 +176,7 @@ placed_out f q m tags (Some x) o is has =
     let found = other_out (3 * f + 1) q.me (order_msg q m x tags) o has in
     record { x = x; to = found.0; placed = is; says = found.1 }
 
-order_out : (f : ℕ) (q : Member) (m : Request) (tags : List (ℕ × List ℕ)) (answer : Option Vote) (o : Out) → Contains (orders f q m tags answer) o → IsOrderOut q m tags o
+pub order_out : (f : ℕ) (q : Member) (m : Request) (tags : List (ℕ × List ℕ)) (answer : Option Vote) (o : Out) → Contains (orders f q m tags answer) o → IsOrderOut q m tags o
 order_out f q m tags None o has = absurd (Contains-none o has)
 order_out f q m tags (Some vote) o has = placed_out f q m tags (place_in (log_with q m) m) o refl has
 
@@ -223,7 +223,7 @@ fresh_of f r outs s has =
     (found.0, found.1, (Contains-filter_cases (λ t. party_eq (maker_of t) (Replica r)) (fresh f (Replica r) found.0.msg) s found.2).0)
 
 module _ {S : Type 0} (machine : Machine S) where
-  silent_with : (f : ℕ) (q : Member) (t : Task) → q.stopped ≡ true → sends_with machine f q t ≡ []
+  pub silent_with : (f : ℕ) (q : Member) (t : Task) → q.stopped ≡ true → sends_with machine f q t ≡ []
   silent_with f q idle stopped = refl
   silent_with f q (ordered m) stopped = ap (λ b. respond q.instance q.me m (if b then None else answer_to machine (length q.base) q.log m)) stopped
   silent_with f q (asked m tags) stopped =
