@@ -3,3 +3,4 @@ pub mod AnswerLemmas
 pub mod CertLemmas
 pub mod MovedLemmas
 pub mod Targets
+pub mod TimerLemmas

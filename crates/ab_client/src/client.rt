@@ -193,8 +193,8 @@ impl Client {
         Ok((outs, marks))
     }
 
-    /// A number that rises with each invocation and each entry, the last stamp and the instance added.
-    /// None exactly where no request is open.
+    /// A number that rises with each invocation and each entry (`timers_count`), the last stamp and the
+    /// instance added. None exactly where no request is open.
     pub fn timer(&self) -> Option<u64>
         ensures idle { IsNone result ↔ (self.now.cli.phase ≡ Phase.Idle) }
         ensures number { IfSome result (λ n. n ≡ self.now.cli.stamp + self.now.cli.at) }

@@ -7,4 +7,4 @@ mod laws;
 mod sending;
 
 pub use client::{Client, InvokeFault};
-pub use laws::clients_act_by_their_cluster;
+pub use laws::{clients_act_by_their_cluster, timers_count};
