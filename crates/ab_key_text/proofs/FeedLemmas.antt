@@ -1,7 +1,8 @@
 -- No line of a key text has a line feed, so its text has these lines.
 use Rattle.std.proofs.Common.{◌≡◌, ℕ, zero, suc, ◌+◌, ◌*◌, ◌<◌, ◌≤◌, List, [], ◌∷◌, ◌++◌, Bool, true, false, Option, None, Some, Ok, IsTrue, codes, decimal, length, map, refl, sym, ap, ◌∙◌, subst, arith, if◌then◌else◌}
-use Rattle.std.specs.Prelude.{flat_map}
+use Rattle.std.specs.Prelude.{flat_map, nat_le, ◌&&◌}
 use Rattle.std.specs.List.{AllByRecursion, filter, range_with_len}
+use Rattle.std.proofs.lemmas.Bool.{leb-true}
 use Rattle.std.proofs.lemmas.Bool.Decides.{Decides-ltb}
 use Rattle.hex.specs.Hex.{encode_lower}
 use Rattle.ab_num.specs.declared.party.Party.{Party}
@@ -14,8 +15,10 @@ use Rattle.ab_text.specs.Lines.{lines_of}
 use Rattle.ab_text.proofs.PartLemmas.{Lacks-append, Lacks-cons, Lacks-decimal}
 use Rattle.ab_text.proofs.CoreLemmas.{Lacks-party}
 use Rattle.ab_key_text.specs.Keys.{Secret, PartyKeys, IsBytes, IsSecretOf, IsPartyKeys, peers_in}
+use Rattle.ab_key_text.specs.Nodes.{AreCommandsOf, IsNodeText, NodeText, command_line, command_lines, is_command, is_printable, node_in, node_lines}
 use Rattle.ab_key_text.specs.Reading.{keys_in}
 use Rattle.ab_key_text.specs.Spelling.{key_line, peer_lines, public_lines, secret_lines, cluster_lines, name_lines, key_lines}
+use Rattle.ab_key_text.proofs.ReadLemmas.{nodes_are_read}
 use Rattle.ab_key_text.proofs.RoundLemmas.{spelled_reads}
 use Rattle.ab_text.proofs.FeedLemmas.{lines_of-text_of, both, tested, no_feed_in_digits, no_feed_in_plan, no_feed_in_service, no_feed_in_height, HasNoFeed, HaveNoFeed}
 use Rattle.ab_text.specs.Texts.{text_of}
@@ -105,3 +108,35 @@ no_feed k good =
 -- what is written is read
 pub written_reads : (k : PartyKeys) → IsPartyKeys k → keys_in (lines_of (text_of (key_lines k))) ≡ Ok k
 written_reads k good = ap keys_in (lines_of-text_of (key_lines k) (no_feed k good)) ∙ spelled_reads k good
+
+-- ---- a node's text
+
+both_true : (a b : Bool) → (a && b) ≡ true → (a ≡ true) × (b ≡ true)
+both_true true b e = (refl, e)
+both_true false b e = absurd (cc)
+
+no_feed_in_printable : (text : List ℕ) → is_printable text ≡ true → HasNoFeed text
+no_feed_in_printable [] e = tested [] refl
+no_feed_in_printable (b ∷ bs) e =
+    let parts = both_true (nat_le 0x20 b && nat_le b 0x7e) (is_printable bs) e in
+    let low : 0x20 ≤ b = leb-true 0x20 b (both_true (nat_le 0x20 b) (nat_le b 0x7e) parts.0).0 in
+    Lacks-cons 10 b bs (λ same. omega (arith, same, low)) (no_feed_in_printable bs parts.1)
+
+no_feed_in_command : (command : List ℕ) → is_command command ≡ true → HasNoFeed (command_line command)
+no_feed_in_command command e =
+    let some = both_true (nat_le 1 (length command)) (nat_le (length command) 128 && is_printable command) e in
+    let few = both_true (nat_le (length command) 128) (is_printable command) some.1 in
+    Lacks-append 10 (codes "do ") command (tested (codes "do ") refl) (no_feed_in_printable command few.1)
+
+no_feed_in_clients : (commands : List (List ℕ)) → AllByRecursion (λ command. IsTrue (is_command command)) commands → HaveNoFeed (command_lines commands)
+no_feed_in_clients [] good = (tested (codes "end") refl, tt)
+no_feed_in_clients (c ∷ cs) good = (no_feed_in_command c good.0, no_feed_in_clients cs good.1)
+
+no_feed_in_commands : (me : Party) (commands : List (List ℕ)) → AreCommandsOf me commands → HaveNoFeed (command_lines commands)
+no_feed_in_commands (Replica r) commands none = subst (λ (cs : List (List ℕ)). HaveNoFeed (command_lines cs)) (sym none) (no_feed_in_clients [] tt)
+no_feed_in_commands (Client c) commands good = no_feed_in_clients commands good
+
+pub written_node_reads : (n : NodeText) → IsNodeText n → node_in (lines_of (text_of (node_lines n))) ≡ Ok n
+written_node_reads n good =
+    ap node_in (lines_of-text_of (node_lines n) (both (key_lines n.keys) (command_lines n.commands) (no_feed n.keys good.keys) (no_feed_in_commands n.keys.me n.commands good.commands)))
+    ∙ nodes_are_read n good

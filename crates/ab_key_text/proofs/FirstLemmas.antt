@@ -17,10 +17,11 @@ use Rattle.ab_key_text.specs.declared.fault.NodeFault.TheVariants.{BadLine, NoEn
 use Rattle.ab_key_text.specs.Faults.{seen}
 use Rattle.ab_key_text.specs.Keys.{Secret, PartyKeys, IsPartyKeys, peers_in, replicas}
 use Rattle.ab_key_text.specs.Lines.{◌>>=◌, found_at, line_at, form_in, number_in, party_in, key_in}
-use Rattle.ab_key_text.specs.Nodes.{IsNodeText, NodeText, command_in, commands_at, node_in, node_lines, node_of, with_command}
+use Rattle.ab_key_text.specs.Nodes.{AreCommandsOf, IsNodeText, NodeText, command_in, command_lines, commands_at, commands_in, node_in, node_lines, node_of}
 use Rattle.ab_key_text.specs.Reading.{Read, KeyLines, ended, keys_after, keys_at, keys_in, member, peers_at, publics_at, put_together, secret_at, secret_in, setting_at}
 use Rattle.ab_key_text.specs.Spelling.{key_lines}
-use Rattle.ab_key_text.proofs.ReadLemmas.{nodes_are_read}
+use Rattle.ab_key_text.proofs.CommandLemmas.{in_middle}
+use Rattle.ab_key_text.proofs.ReadLemmas.{commands_are_read, nodes_are_read}
 use Rattle.ab_key_text.proofs.RoundLemmas.{setting, from2, from3, from4, from5, from6, from7, inside, spelled_reads}
 
 abbrev Lines : Type 0
@@ -238,68 +239,85 @@ keys_before ls n bad some =
 
 -- ---- the commands of a node
 
-abbrev Commands : NodeText → ℕ → Reading NodeText
-Commands node n ls = commands_at node n ls
-
--- a line of commands that isn't the end
-abbrev in_middle : NodeText → ℕ → Lines → Option (List ℕ) → Result NodeText NodeFault
-in_middle node n ls o = found_at n ls o >>= λ (x : List ℕ × Lines). commands_at (with_command node x.0) (n + 1) ls
-
 ended_far : {A : Type 0} (a : A) (n m : ℕ) (ls : Lines) → ended a n ls ≡ Err (BadLine m) → n ≤ m
 ended_far a n m [] e = absurd (cc)
 ended_far {A} a n m (l ∷ ls) e = let same = same_line {B = A} n m e in omega (arith, same)
 
-commands_far : (ls : Lines) (node : NodeText) (n m : ℕ) → commands_at node n ls ≡ Err (BadLine m) → n ≤ m
-commands_far [] node n m e = absurd (cc)
-commands_far (l ∷ ls) node n m e = go (λ c. commands_far ls (with_command node c) (n + 1) m) (bytes_eq l (codes "end")) (command_in node.keys.me l) e where
-  go : ((c : List ℕ) → commands_at (with_command node c) (n + 1) ls ≡ Err (BadLine m) → n + 1 ≤ m) → (b : Bool) (o : Option (List ℕ)) → (if b then ended node (n + 1) ls else in_middle node n ls o) ≡ Err (BadLine m) → n ≤ m
-  go rest true o was = let far = ended_far node (n + 1) m ls was in omega (arith, far)
-  go rest false None was = let same = same_line {B = NodeText} n m was in omega (arith, same)
+commands_far : (ls : Lines) (me : Party) (done : Lines) (n m : ℕ) → commands_at me done n ls ≡ Err (BadLine m) → n ≤ m
+commands_far [] me done n m e = absurd (cc)
+commands_far (l ∷ ls) me done n m e = go (λ c. commands_far ls me (done ++ c ∷ []) (n + 1) m) (bytes_eq l (codes "end")) (command_in me l) e where
+  go : ((c : List ℕ) → commands_at me (done ++ c ∷ []) (n + 1) ls ≡ Err (BadLine m) → n + 1 ≤ m) → (b : Bool) (o : Option (List ℕ)) → (if b then ended done (n + 1) ls else in_middle me done n ls o) ≡ Err (BadLine m) → n ≤ m
+  go rest true o was = let far = ended_far done (n + 1) m ls was in omega (arith, far)
+  go rest false None was = let same = same_line {B = Lines} n m was in omega (arith, same)
   go rest false (Some c) was = let far = rest c was in omega (arith, far)
 
-commands_sure : (ls more : Lines) (node : NodeText) (n m : ℕ) → commands_at node n ls ≡ Err (BadLine m) → commands_at node n (take (seen m + 1 - n) ls ++ more) ≡ Err (BadLine m)
-commands_sure [] more node n m e = absurd (cc)
-commands_sure (l ∷ ls) more node n m e =
-    let far = commands_far (l ∷ ls) node n m e in
+commands_sure : (ls more : Lines) (me : Party) (done : Lines) (n m : ℕ) → commands_at me done n ls ≡ Err (BadLine m) → commands_at me done n (take (seen m + 1 - n) ls ++ more) ≡ Err (BadLine m)
+commands_sure [] more me done n m e = absurd (cc)
+commands_sure (l ∷ ls) more me done n m e =
+    let far = commands_far (l ∷ ls) me done n m e in
     let late = seen_late m in
     let k = seen m + 1 - (n + 1) in
-    ap (commands_at node n) (more_taken l ls more (seen m + 1 - n) k (omega (arith, far, late)))
-    ∙ go (λ c. commands_sure ls more (with_command node c) (n + 1) m) (bytes_eq l (codes "end")) (command_in node.keys.me l) e
+    ap (commands_at me done n) (more_taken l ls more (seen m + 1 - n) k (omega (arith, far, late)))
+    ∙ go (λ c. commands_sure ls more me (done ++ c ∷ []) (n + 1) m) (bytes_eq l (codes "end")) (command_in me l) e
   where
-    go : ((c : List ℕ) → commands_at (with_command node c) (n + 1) ls ≡ Err (BadLine m) → commands_at (with_command node c) (n + 1) (take (seen m + 1 - (n + 1)) ls ++ more) ≡ Err (BadLine m))
-        → (b : Bool) (o : Option (List ℕ)) → (if b then ended node (n + 1) ls else in_middle node n ls o) ≡ Err (BadLine m)
-        → (if b then ended node (n + 1) (take (seen m + 1 - (n + 1)) ls ++ more) else in_middle node n (take (seen m + 1 - (n + 1)) ls ++ more) o) ≡ Err (BadLine m)
-    go rest true o was = (ended_first node (n + 1)).sure ls more m was
+    go : ((c : List ℕ) → commands_at me (done ++ c ∷ []) (n + 1) ls ≡ Err (BadLine m) → commands_at me (done ++ c ∷ []) (n + 1) (take (seen m + 1 - (n + 1)) ls ++ more) ≡ Err (BadLine m))
+        → (b : Bool) (o : Option (List ℕ)) → (if b then ended done (n + 1) ls else in_middle me done n ls o) ≡ Err (BadLine m)
+        → (if b then ended done (n + 1) (take (seen m + 1 - (n + 1)) ls ++ more) else in_middle me done n (take (seen m + 1 - (n + 1)) ls ++ more) o) ≡ Err (BadLine m)
+    go rest true o was = (ended_first done (n + 1)).sure ls more m was
     go rest false None was = was
     go rest false (Some c) was = rest c was
 
-abbrev IsQuiet : ℕ → Result NodeText NodeFault → Type 0
-IsQuiet n r = (r ≡ Err (NoEnd n)) ⊎ ((b : NodeText) × (r ≡ Ok b))
+abbrev IsQuiet : ℕ → Result Lines NodeFault → Type 0
+IsQuiet n r = (r ≡ Err (NoEnd n)) ⊎ ((b : Lines) × (r ≡ Ok b))
 
-commands_before : (ls : Lines) (node : NodeText) (n m k : ℕ) → commands_at node n ls ≡ Err (BadLine m) → n + k ≤ m → IsQuiet (n + k) (commands_at node n (take k ls))
-commands_before [] node n m k e le = absurd (cc)
-commands_before (l ∷ ls) node n m zero e le = inl (ap (λ j. let r : Result NodeText NodeFault = Err (NoEnd j) in r) (let i : n ≡ n + 0 = omega arith in i))
-commands_before (l ∷ ls) node n m (suc k) e le =
+commands_before : (ls : Lines) (me : Party) (done : Lines) (n m k : ℕ) → commands_at me done n ls ≡ Err (BadLine m) → n + k ≤ m → IsQuiet (n + k) (commands_at me done n (take k ls))
+commands_before [] me done n m k e le = absurd (cc)
+commands_before (l ∷ ls) me done n m zero e le = inl (ap (λ j. let r : Result Lines NodeFault = Err (NoEnd j) in r) (let i : n ≡ n + 0 = omega arith in i))
+commands_before (l ∷ ls) me done n m (suc k) e le =
     let i : n + 1 + k ≡ n + suc k = omega arith in
-    subst (λ j. IsQuiet j (commands_at node n (l ∷ take k ls))) i (go (λ c was. commands_before ls (with_command node c) (n + 1) m k was (omega (arith, le))) (bytes_eq l (codes "end")) (command_in node.keys.me l) e)
+    subst (λ j. IsQuiet j (commands_at me done n (l ∷ take k ls))) i (go (λ c was. commands_before ls me (done ++ c ∷ []) (n + 1) m k was (omega (arith, le))) (bytes_eq l (codes "end")) (command_in me l) e)
   where
-    go : ((c : List ℕ) → commands_at (with_command node c) (n + 1) ls ≡ Err (BadLine m) → IsQuiet (n + 1 + k) (commands_at (with_command node c) (n + 1) (take k ls)))
-        → (b : Bool) (o : Option (List ℕ)) → (if b then ended node (n + 1) ls else in_middle node n ls o) ≡ Err (BadLine m)
-        → IsQuiet (n + 1 + k) (if b then ended node (n + 1) (take k ls) else in_middle node n (take k ls) o)
-    go rest true o was = (ended_first node (n + 1)).before ls m k was (omega (arith, le))
-    go rest false None was = absurd (let same = same_line {B = NodeText} n m was in omega (arith, same, le))
+    go : ((c : List ℕ) → commands_at me (done ++ c ∷ []) (n + 1) ls ≡ Err (BadLine m) → IsQuiet (n + 1 + k) (commands_at me (done ++ c ∷ []) (n + 1) (take k ls)))
+        → (b : Bool) (o : Option (List ℕ)) → (if b then ended done (n + 1) ls else in_middle me done n ls o) ≡ Err (BadLine m)
+        → IsQuiet (n + 1 + k) (if b then ended done (n + 1) (take k ls) else in_middle me done n (take k ls) o)
+    go rest true o was = (ended_first done (n + 1)).before ls m k was (omega (arith, le))
+    go rest false None was = absurd (let same = same_line {B = Lines} n m was in omega (arith, same, le))
     go rest false (Some c) was = rest c was
 
-commands_first : (node : NodeText) (n : ℕ) → IsFirst (λ ls. commands_at node n ls) n
-commands_first node n = record {
-  late = λ ls m e. let far = commands_far ls node n m e in let late = seen_late m in omega (arith, far, late);
-  sure = λ ls more m e. commands_sure ls more node n m e;
-  before = λ ls m k e le. commands_before ls node n m k e le;
+commands_first : (me : Party) (done : Lines) (n : ℕ) → IsFirst (λ ls. commands_at me done n ls) n
+commands_first me done n = record {
+  late = λ ls m e. let far = commands_far ls me done n m e in let late = seen_late m in omega (arith, far, late);
+  sure = λ ls more m e. commands_sure ls more me done n m e;
+  before = λ ls m k e le. commands_before ls me done n m k e le;
 }
+
+-- what is made of what was read
+then_first : {A B : Type 0} (r : Reading A) (make : A → B) (n : ℕ) → IsFirst r n → IsFirst (λ ls. r ls >>= λ (a : A). Ok (make a)) n
+then_first {A} {B} r make n first = record {
+  late = λ ls m e. first.late ls m (bad_was (r ls) m e);
+  sure = λ ls more m e. ap with_made (first.sure ls more m (bad_was (r ls) m e));
+  before = λ ls m k e le. elim (first.before ls m k (bad_was (r ls) m e) le) [
+    | inl none ↦ inl (ap with_made none)
+    | inr some ↦ inr (make some.0, ap with_made some.1)
+  ];
+} where
+  with_made : Result A NodeFault → Result B NodeFault
+  with_made x = x >>= λ (a : A). Ok (make a)
+
+  bad_was : (x : Result A NodeFault) (m : ℕ) → with_made x ≡ Err (BadLine m) → x ≡ Err (BadLine m)
+  bad_was (Ok a) m e = absurd (ok_not_bad (make a) m e)
+  bad_was (Err fault) m e = let same : fault ≡ BadLine m = cc in ap (λ (f : NodeFault). let y : Result A NodeFault = Err f in y) same
 
 node_first : IsFirst node_in 1
 unfolding node_in
-node_first = keys_first (λ x. commands_at (node_of x.value []) x.next x.rest) (λ k n. commands_first (node_of k []) n)
+node_first = keys_first (λ x. commands_at x.value.me [] x.next x.rest >>= λ (cs : Lines). Ok (node_of x.value cs)) (λ k n. then_first (λ ls. commands_at k.me [] n ls) (node_of k) n (commands_first k.me [] n))
+
+commands_in_first : IsFirst commands_in 1
+unfolding commands_in
+commands_in_first = commands_first (Client 0) [] 1
+
+abbrev IsQuietNode : ℕ → Result NodeText NodeFault → Type 0
+IsQuietNode n r = (r ≡ Err (NoEnd n)) ⊎ ((b : NodeText) × (r ≡ Ok b))
 
 -- no node's text in form begins with the lines up to the bad one
 pub no_node_begins : (ls more : Lines) (n : ℕ) (t : NodeText) → node_in ls ≡ Err (BadLine n) → IsNodeText t → node_lines t ≡ take (seen n) ls ++ more → ⊥
@@ -312,4 +330,17 @@ no_node_begins ls more n t bad good begins =
 pub node_before : (ls : Lines) (n : ℕ) → node_in ls ≡ Err (BadLine n) → 1 ≤ n → (node_in (take (n - 1) ls) ≡ Err (NoEnd n)) ⊎ ((t : NodeText) × (node_in (take (n - 1) ls) ≡ Ok t))
 node_before ls n bad some =
     let i : 1 + (n - 1) ≡ n = omega (arith, some) in
-    subst (λ j. IsQuiet j (node_in (take (n - 1) ls))) i (node_first.before ls n (n - 1) bad (omega (arith, some)))
+    subst (λ j. IsQuietNode j (node_in (take (n - 1) ls))) i (node_first.before ls n (n - 1) bad (omega (arith, some)))
+
+-- the same of commands alone
+pub no_commands_begin : (ls more : Lines) (n : ℕ) (commands : Lines) → commands_in ls ≡ Err (BadLine n) → AreCommandsOf (Client 0) commands → command_lines commands ≡ take (seen n) ls ++ more → ⊥
+no_commands_begin ls more n commands bad good begins =
+    let all : seen n + 1 - 1 ≡ seen n = omega arith in
+    let again : commands_in (take (seen n) ls ++ more) ≡ Err (BadLine n) = ap (λ i. commands_in (take i ls ++ more)) (sym all) ∙ commands_in_first.sure ls more n bad in
+    let read : commands_in (take (seen n) ls ++ more) ≡ Ok commands = ap commands_in (sym begins) ∙ commands_are_read commands good in
+    ok_not_bad commands n (sym read ∙ again)
+
+pub lone_commands_before : (ls : Lines) (n : ℕ) → commands_in ls ≡ Err (BadLine n) → 1 ≤ n → (commands_in (take (n - 1) ls) ≡ Err (NoEnd n)) ⊎ ((commands : Lines) × (commands_in (take (n - 1) ls) ≡ Ok commands))
+lone_commands_before ls n bad some =
+    let i : 1 + (n - 1) ≡ n = omega (arith, some) in
+    subst (λ j. IsQuiet j (commands_in (take (n - 1) ls))) i (commands_in_first.before ls n (n - 1) bad (omega (arith, some)))

@@ -32,9 +32,10 @@ use Rattle.ab_key_text.specs.declared.fault.NodeFault.TheVariants.{BadLine}
 use Rattle.ab_key_text.specs.Hex.{bytes_in, in_lower_case}
 use Rattle.ab_key_text.specs.Keys.{Secret, PartyKeys, IsBytes, IsSecretOf, IsPartyKeys, peers_in, replicas}
 use Rattle.ab_key_text.specs.Lines.{◌>>=◌, found_at, line_at, form_in, bounded, number_in, numbered, or_else, party_in, bytes_after, key_in}
-use Rattle.ab_key_text.specs.Nodes.{NodeText, AreCommandsOf, IsNodeText, command_in, command_line, commands_at, checked_command, is_command, node_in, node_lines, node_of, with_command}
+use Rattle.ab_key_text.specs.Nodes.{NodeText, AreCommandsOf, IsNodeText, command_in, command_line, command_lines, commands_at, commands_in, checked_command, is_command, node_in, node_lines, node_of}
 use Rattle.ab_key_text.specs.Reading.{Read, KeyLines, member, ended, keys_after, keys_at, keys_in, peers_at, publics_at, put_together, secret_at, secret_in, secret_of_parts, secret_text_in, setting_at}
 use Rattle.ab_key_text.specs.Spelling.{cluster_lines, key_line, key_lines, name_lines, peer_lines, public_lines, secret_line, secret_lines}
+use Rattle.ab_key_text.proofs.CommandLemmas.{in_middle}
 use Rattle.ab_key_text.proofs.RoundLemmas.{setting, from2, from3, from4, from5, from6, from7, inside, whole_read}
 use Rattle.ab_key_text.proofs.SpelledLemmas.{after_secret}
 use Rattle.ab_key_text.proofs.WholeLemmas.{bound}
@@ -336,10 +337,10 @@ keys_are_spelled ls k e =
 
 -- ---- commands
 
-record AreCommandsRead (node : NodeText) (ls : Lines) (out : NodeText) (commands : Lines) : Type 0 where
-  value : out ≡ node_of node.keys (node.commands ++ commands)
-  form : AreCommandsOf node.keys.me commands
-  lines : ls ≡ map command_line commands ++ codes "end" ∷ []
+record AreCommandsRead (me : Party) (done ls out commands : Lines) : Type 0 where
+  value : out ≡ done ++ commands
+  form : AreCommandsOf me commands
+  lines : ls ≡ command_lines commands
 
 command_was : (me : Party) (l c : List ℕ) (commands : Lines) → command_in me l ≡ Some c → AreCommandsOf me commands → (l ≡ command_line c) × AreCommandsOf me (c ∷ commands)
 command_was (Replica r) l c commands h are = absurd (none-some c h)
@@ -352,29 +353,29 @@ no_commands : (me : Party) → AreCommandsOf me []
 no_commands (Replica r) = refl
 no_commands (Client c) = tt
 
-commands_were : (ls : Lines) (node : NodeText) (n : ℕ) (out : NodeText) → commands_at node n ls ≡ Ok out → (commands : Lines) × AreCommandsRead node ls out commands
-commands_were [] node n out e = absurd (cc)
-commands_were (l ∷ ls) node n out e = go (λ x. commands_were ls (with_command node x.0) (n + 1) out) (bytes_eq l (codes "end")) refl e where
-  go : ((x : List ℕ × Lines) → commands_at (with_command node x.0) (n + 1) ls ≡ Ok out → (commands : Lines) × AreCommandsRead (with_command node x.0) ls out commands)
+commands_were : (ls : Lines) (me : Party) (done : Lines) (n : ℕ) (out : Lines) → commands_at me done n ls ≡ Ok out → (commands : Lines) × AreCommandsRead me done ls out commands
+commands_were [] me done n out e = absurd (cc)
+commands_were (l ∷ ls) me done n out e = go (λ x. commands_were ls me (done ++ x.0 ∷ []) (n + 1) out) (bytes_eq l (codes "end")) refl e where
+  go : ((x : List ℕ × Lines) → commands_at me (done ++ x.0 ∷ []) (n + 1) ls ≡ Ok out → (commands : Lines) × AreCommandsRead me (done ++ x.0 ∷ []) ls out commands)
       → (b : Bool) → bytes_eq l (codes "end") ≡ b
-      → (if b then ended node (n + 1) ls else found_at n ls (command_in node.keys.me l) >>= λ x. commands_at (with_command node x.0) (n + 1) ls) ≡ Ok out → (commands : Lines) × AreCommandsRead node (l ∷ ls) out commands
+      → (if b then ended done (n + 1) ls else in_middle me done n ls (command_in me l)) ≡ Ok out → (commands : Lines) × AreCommandsRead me done (l ∷ ls) out commands
   go rest true said was =
-      let last = ended_was node (n + 1) ls out was in (
+      let last = ended_was done (n + 1) ls out was in (
         [],
         record {
-          value = sym last.1 ∙ ap (λ t. node_of node.keys t) (sym (append-nil node.commands));
-          form = no_commands node.keys.me;
+          value = sym last.1 ∙ sym (append-nil done);
+          form = no_commands me;
           lines = λ j. (bytes_eq-Decides l (codes "end")).0 said j ∷ last.0 j;
         },
       )
   go rest false said was =
-      let x = bound (found_at n ls (command_in node.keys.me l)) (λ (x : List ℕ × Lines). commands_at (with_command node x.0) (n + 1) ls) out was in
-      let both = found_was n ls x.0.1 (command_in node.keys.me l) x.0.0 x.1 in
+      let x = bound (found_at n ls (command_in me l)) (λ (x : List ℕ × Lines). commands_at me (done ++ x.0 ∷ []) (n + 1) ls) out was in
+      let both = found_was n ls x.0.1 (command_in me l) x.0.0 x.1 in
       let more = rest x.0 x.2 in
-      let is = command_was node.keys.me l x.0.0 more.0 both.0 more.1.form in (
+      let is = command_was me l x.0.0 more.0 both.0 more.1.form in (
         x.0.0 ∷ more.0,
         record {
-          value = more.1.value ∙ ap (λ t. node_of node.keys t) (append_assoc node.commands (x.0.0 ∷ []) more.0);
+          value = more.1.value ∙ append_assoc done (x.0.0 ∷ []) more.0;
           form = is.1;
           lines = λ j. is.0 j ∷ more.1.lines j;
         },
@@ -383,42 +384,55 @@ commands_were (l ∷ ls) node n out e = go (λ x. commands_were ls (with_command
 pub nodes_are_spelled : (ls : Lines) (n : NodeText) → node_in ls ≡ Ok n → (ls ≡ node_lines n) × IsNodeText n
 unfolding node_in
 nodes_are_spelled ls n e =
-    let x = bound (keys_at ls) (λ (k : Read PartyKeys). commands_at (node_of k.value []) k.next k.rest) n e in
+    let x = bound (keys_at ls) (λ (k : Read PartyKeys). commands_at k.value.me [] k.next k.rest >>= λ (cs : Lines). Ok (node_of k.value cs)) n e in
     let at = front_were ls x.0 x.1 in
-    let tail = commands_were x.0.rest (node_of x.0.value []) x.0.next n x.2 in
-    subst (λ (q : NodeText). (ls ≡ node_lines q) × IsNodeText q) (sym tail.1.value)
+    let y = bound (commands_at x.0.value.me [] x.0.next x.0.rest) (λ (cs : Lines). let r : Result NodeText NodeFault = Ok (node_of x.0.value cs) in r) n x.2 in
+    let tail = commands_were x.0.rest x.0.value.me [] x.0.next y.0 y.1 in
+    let same : node_of x.0.value tail.0 ≡ n = ap (node_of x.0.value) (sym tail.1.value) ∙ same_ok (node_of x.0.value y.0) n y.2 in
+    subst (λ (q : NodeText). (ls ≡ node_lines q) × IsNodeText q) same
     ((at.lines ∙ ap (λ t. key_lines x.0.value ++ t) tail.1.lines), record { keys = at.form; commands = tail.1.form })
+
+pub commands_are_spelled : (ls commands : Lines) → commands_in ls ≡ Ok commands → (ls ≡ command_lines commands) × AreCommandsOf (Client 0) commands
+unfolding commands_in
+commands_are_spelled ls commands e =
+    let read = commands_were ls (Client 0) [] 1 commands e in
+    subst (λ (cs : Lines). (ls ≡ command_lines cs) × AreCommandsOf (Client 0) cs) (sym read.1.value) (read.1.lines, read.1.form)
 
 -- ---- what is spelled is read
 
-is_end : (node : NodeText) (n : ℕ) (ls : Lines) → commands_at node n (codes "end" ∷ ls) ≡ ended node (n + 1) ls
-is_end node n ls =
-    ap (λ b. if b then ended node (n + 1) ls else found_at n ls (command_in node.keys.me (codes "end")) >>= λ x. commands_at (with_command node x.0) (n + 1) ls) ((bytes_eq-Decides (codes "end") (codes "end")).1 refl)
+is_end : (me : Party) (done : Lines) (n : ℕ) (ls : Lines) → commands_at me done n (codes "end" ∷ ls) ≡ ended done (n + 1) ls
+is_end me done n ls =
+    ap (λ b. if b then ended done (n + 1) ls else in_middle me done n ls (command_in me (codes "end"))) ((bytes_eq-Decides (codes "end") (codes "end")).1 refl)
 
 command_read : (me : Party) (c : List ℕ) (commands : Lines) → AreCommandsOf me (c ∷ commands) → (command_in me (command_line c) ≡ Some c) × AreCommandsOf me commands
 command_read (Replica r) c commands are = absurd (cc)
 command_read (Client n) c commands are =
     (ap (option_and_then checked_command) (stripped-is (codes "do ") (command_line c) c refl) ∙ ap (λ b. if b then Some c else None) are.0, are.1)
 
-commands_read : (commands : Lines) (node : NodeText) (n : ℕ) → AreCommandsOf node.keys.me commands → commands_at node n (map command_line commands ++ codes "end" ∷ []) ≡ Ok (node_of node.keys (node.commands ++ commands))
-commands_read [] node n are = is_end node n [] ∙ ap (λ t. let r : Result NodeText NodeFault = Ok (node_of node.keys t) in r) (sym (append-nil node.commands))
-commands_read (c ∷ commands) node n are =
-    let behind : Lines = map command_line commands ++ codes "end" ∷ [] in
-    let line = command_read node.keys.me c commands are in
+commands_read : (commands : Lines) (me : Party) (done : Lines) (n : ℕ) → AreCommandsOf me commands → commands_at me done n (command_lines commands) ≡ Ok (done ++ commands)
+commands_read [] me done n are = is_end me done n [] ∙ ap (λ t. let r : Result Lines NodeFault = Ok t in r) (sym (append-nil done))
+commands_read (c ∷ commands) me done n are =
+    let behind : Lines = command_lines commands in
+    let line = command_read me c commands are in
     let other : bytes_eq (command_line c) (codes "end") ≡ false = refl in
-    ap (λ b. if b then ended node (n + 1) behind else found_at n behind (command_in node.keys.me (command_line c)) >>= λ x. commands_at (with_command node x.0) (n + 1) behind) other
-    ∙ ap (λ o. found_at n behind o >>= λ x. commands_at (with_command node x.0) (n + 1) behind) line.0
-    ∙ commands_read commands (with_command node c) (n + 1) line.1
-    ∙ ap (λ t. let r : Result NodeText NodeFault = Ok (node_of node.keys t) in r) (append_assoc node.commands (c ∷ []) commands)
+    ap (λ b. if b then ended done (n + 1) behind else in_middle me done n behind (command_in me (command_line c))) other
+    ∙ ap (in_middle me done n behind) line.0
+    ∙ commands_read commands me (done ++ c ∷ []) (n + 1) line.1
+    ∙ ap (λ t. let r : Result Lines NodeFault = Ok t in r) (append_assoc done (c ∷ []) commands)
+
+pub commands_are_read : (commands : Lines) → AreCommandsOf (Client 0) commands → commands_in (command_lines commands) ≡ Ok commands
+unfolding commands_in
+commands_are_read commands are = commands_read commands (Client 0) [] 1 are
 
 pub nodes_are_read : (n : NodeText) → IsNodeText n → node_in (node_lines n) ≡ Ok n
 unfolding node_in
 nodes_are_read n good =
     let k = n.keys in
-    let tail : Lines = map command_line n.commands ++ codes "end" ∷ [] in
+    let tail : Lines = command_lines n.commands in
     let last = after_secret k.secret + 2 * length k.peers + length k.publics in
     let all : node_lines n ≡ cluster_lines k ++ (name_lines k ++ (secret_lines k.secret ++ (flat_map peer_lines k.peers ++ (public_lines 0 k.publics ++ tail)))) =
     sym (joined (cluster_lines k) (name_lines k) (secret_lines k.secret) (flat_map peer_lines k.peers) (public_lines 0 k.publics) tail) in
-    ap (λ ls. keys_at ls >>= λ x. commands_at (node_of x.value []) x.next x.rest) all
-    ∙ ap (λ (r : Result (Read PartyKeys) NodeFault). r >>= λ x. commands_at (node_of x.value []) x.next x.rest) (whole_read k tail good.keys)
-    ∙ commands_read n.commands (node_of k []) last good.commands
+    let behind : Read PartyKeys → Result NodeText NodeFault = λ x. commands_at x.value.me [] x.next x.rest >>= λ (cs : Lines). Ok (node_of x.value cs) in
+    ap (λ ls. keys_at ls >>= behind) all
+    ∙ ap (λ (r : Result (Read PartyKeys) NodeFault). r >>= behind) (whole_read k tail good.keys)
+    ∙ ap (λ (r : Result Lines NodeFault). r >>= λ (cs : Lines). let t : Result NodeText NodeFault = Ok (node_of k cs) in t) (commands_read n.commands k.me [] last good.commands)

@@ -13,7 +13,7 @@ use Rattle.ab_num.specs.declared.plan.Height.{Height}
 use Rattle.ab_key_text.specs.Derived.{keys_of, own_secret, public_of, secret_of}
 use Rattle.ab_key_text.specs.Keys.{Secret, PartyKeys, IsWhole, peers_in, replicas}
 use Rattle.ab_key_text.specs.Lines.{◌>>=◌, found_at, line_at, key_in}
-use Rattle.ab_key_text.specs.Nodes.{NodeText, command_in, commands_at, node_in, node_of, with_command}
+use Rattle.ab_key_text.specs.Nodes.{NodeText, commands_at, node_in, node_of}
 use Rattle.ab_key_text.specs.Reading.{Read, KeyLines, ended, keys_after, keys_at, peers_at, publics_at, put_together, secret_at, secret_in, setting_at}
 
 abbrev Lines : Type 0
@@ -23,21 +23,6 @@ Lines = List (List ℕ)
 pub bound : {A B : Type 0} (r : Result A NodeFault) (f : A → Result B NodeFault) (b : B) → (r >>= f) ≡ Ok b → (a : A) × (r ≡ Ok a) × (f a ≡ Ok b)
 bound (Ok a) f b e = (a, refl, e)
 bound (Err fault) f b e = let T = Unit {0} in cc
-
-ended_keeps : (node : NodeText) (n : ℕ) (ls : Lines) (out : NodeText) → ended node n ls ≡ Ok out → out.keys ≡ node.keys
-ended_keeps node n [] out e = cc
-ended_keeps node n (l ∷ ls) out e = cc
-
--- the lines of commands leave the keys
-commands_keep : (ls : Lines) (node : NodeText) (n : ℕ) (out : NodeText) → commands_at node n ls ≡ Ok out → out.keys ≡ node.keys
-commands_keep [] node n out e = cc
-commands_keep (l ∷ ls) node n out e = go (λ x. commands_keep ls (with_command node x.0) (n + 1) out) (bytes_eq l (codes "end")) e where
-  go : ((x : List ℕ × Lines) → commands_at (with_command node x.0) (n + 1) ls ≡ Ok out → out.keys ≡ node.keys)
-      → (b : Bool) → (if b then ended node (n + 1) ls else found_at n ls (command_in node.keys.me l) >>= λ x. commands_at (with_command node x.0) (n + 1) ls) ≡ Ok out → out.keys ≡ node.keys
-  go rest true was = ended_keeps node (n + 1) ls out was
-  go rest false was =
-      let x = bound (found_at n ls (command_in node.keys.me l)) (λ (x : List ℕ × Lines). commands_at (with_command node x.0) (n + 1) ls) out was in
-      rest x.0 x.2
 
 secret_there : (r : ℕ) (ls : Lines) (x : Read (Option Secret)) → secret_at (Replica r) ls ≡ Ok x → (s : Secret) × (x.value ≡ Some s)
 secret_there r ls x e =
@@ -76,9 +61,12 @@ keys_whole s ls x e =
 pub read_whole : (ls : Lines) (n : NodeText) → node_in ls ≡ Ok n → IsWhole n.keys
 unfolding node_in keys_at
 read_whole ls n e =
-    let keys = bound (setting_at ls >>= λ s. keys_after s.0 s.1) (λ (k : Read PartyKeys). commands_at (node_of k.value []) k.next k.rest) n e in
+    let keys = bound (setting_at ls >>= λ s. keys_after s.0 s.1) (λ (k : Read PartyKeys). commands_at k.value.me [] k.next k.rest >>= λ (cs : Lines). Ok (node_of k.value cs)) n e in
     let setting = bound (setting_at ls) (λ (s : KeyLines × Lines). keys_after s.0 s.1) keys.0 keys.1 in
-    subst IsWhole (sym (commands_keep keys.0.rest (node_of keys.0.value []) keys.0.next n keys.2)) (keys_whole setting.0.0 setting.0.1 keys.0 setting.2)
+    let commands = bound (commands_at keys.0.value.me [] keys.0.next keys.0.rest) (λ (cs : Lines). let r : Result NodeText NodeFault = Ok (node_of keys.0.value cs) in r) n keys.2 in
+    let is : ◌≡◌ {A = Result NodeText NodeFault} (Ok (node_of keys.0.value commands.0)) (Ok n) = commands.2 in
+    let same : node_of keys.0.value commands.0 ≡ n = cc in
+    subst (λ (t : NodeText). IsWhole t.keys) same (keys_whole setting.0.0 setting.0.1 keys.0 setting.2)
 
 pub derived_whole : (f clients : ℕ) (plan : Plan) (service : ServiceName) (lms : Height) (seed : List ℕ) (me : Party) → IsWhole (keys_of f clients plan service lms seed me)
 derived_whole f clients plan service lms seed me = record {

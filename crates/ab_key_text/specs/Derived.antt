@@ -36,3 +36,7 @@ keys_of f clients plan service lms seed me = record {
   peers = peers_of seed me (parties f clients);
   publics = map (public_of lms seed) (range_with_len 0 (3 * f + 1));
 }
+
+-- what me keeps in the cluster of which k was derived from the seed
+abbrev pub keys_for : PartyKeys → List ℕ → Party → PartyKeys
+keys_for k seed me = record k { me = me; secret = own_secret seed me; peers = peers_of seed me (parties k.f k.clients) }

@@ -1,5 +1,5 @@
 -- The text that sets up a node: the keys of its party, then a client's commands, then the end.
-use Rattle.std.specs.Prelude.{◌≡◌, ℕ, ◌+◌, List, [], ◌∷◌, ◌++◌, map, Bool, IsTrue, Option, None, Some, Result, Err, codes, length, ◌&&◌, nat_le, if◌then◌else◌}
+use Rattle.std.specs.Prelude.{◌≡◌, ℕ, ◌+◌, List, [], ◌∷◌, ◌++◌, map, Bool, IsTrue, Option, None, Some, Result, Ok, Err, codes, length, ◌&&◌, nat_le, if◌then◌else◌}
 use Rattle.std.specs.Str.{bytes_eq}
 use Rattle.std.specs.List.{AllByRecursion, list_all}
 use Rattle.std.specs.Option.{option_and_then}
@@ -36,23 +36,24 @@ abbrev pub command_in : Party → List ℕ → Option (List ℕ)
 command_in (Replica r) l = None
 command_in (Client c) l = option_and_then checked_command (stripped (codes "do ") l)
 
-abbrev pub with_command : NodeText → List ℕ → NodeText
-with_command node command = record node { commands = node.commands ++ command ∷ [] }
-
--- line n is the end or a command
-abbrev pub commands_at : NodeText → ℕ → List (List ℕ) → Result NodeText NodeFault
-commands_at node n [] = Err (NoEnd n)
-commands_at node n (l ∷ ls) =
-    if bytes_eq l (codes "end") then ended node (n + 1) ls
-    else found_at n ls (command_in node.keys.me l) >>= λ x. commands_at (with_command node x.0) (n + 1) ls
+-- line n is the end or a command of this party, after those that were read
+abbrev pub commands_at : Party → List (List ℕ) → ℕ → List (List ℕ) → Result (List (List ℕ)) NodeFault
+commands_at me done n [] = Err (NoEnd n)
+commands_at me done n (l ∷ ls) =
+    if bytes_eq l (codes "end") then ended done (n + 1) ls
+    else found_at n ls (command_in me l) >>= λ x. commands_at me (done ++ x.0 ∷ []) (n + 1) ls
 
 -- ---- spelled
 
 abbrev pub command_line : List ℕ → List ℕ
 command_line command = codes "do " ++ command
 
+-- commands, and the end
+abbrev pub command_lines : List (List ℕ) → List (List ℕ)
+command_lines commands = map command_line commands ++ codes "end" ∷ []
+
 abbrev pub node_lines : NodeText → List (List ℕ)
-node_lines node = key_lines node.keys ++ (map command_line node.commands ++ codes "end" ∷ [])
+node_lines node = key_lines node.keys ++ command_lines node.commands
 
 abbrev pub AreCommandsOf : Party → List (List ℕ) → Type 0
 AreCommandsOf (Replica r) commands = commands ≡ []
@@ -69,4 +70,9 @@ pub record IsNodeText (node : NodeText) : Type 0 where
 unfoldable pub node_in : List (List ℕ) → Result NodeText NodeFault
 node_in ls = do
   keys ← keys_at ls
-  commands_at (node_of keys.value []) keys.next keys.rest
+  commands ← commands_at keys.value.me [] keys.next keys.rest
+  Ok (node_of keys.value commands)
+
+-- what lines give that are a client's commands alone
+unfoldable pub commands_in : List (List ℕ) → Result (List (List ℕ)) NodeFault
+commands_in ls = commands_at (Client 0) [] 1 ls

@@ -4,7 +4,7 @@ ghost use Rattle.std.specs.Prelude.{◌≡◌, ◌+◌, ◌*◌, IfOk, IsTrue, m
 ghost use Rattle.std.specs.List.{range_with_len};
 ghost use Rattle.ab_keys.specs.Keys.{is_party};
 ghost use Rattle.ab_keys.specs.Rings.{parties, peers_of};
-ghost use Rattle.ab_key_text.specs.Derived.{keys_of, own_secret, public_of, secret_of};
+ghost use Rattle.ab_key_text.specs.Derived.{keys_for, keys_of, own_secret, public_of, secret_of};
 
 use crate::keys::PartyKeys;
 use crate::peers::peers_in;
@@ -92,6 +92,29 @@ impl PartyKeys {
             cluster: *c,
             service,
             lms,
+            me,
+            secret: own_secret(seed, me),
+            peers,
+            publics,
+        })
+    }
+    /// The keys that the seed of these keys gives to another party of the cluster. The public keys are the same, and no tree
+    /// is computed.
+    pub fn for_party(
+        &self,
+        alloc: Global,
+        seed: &[u8; 32],
+        me: Party,
+    ) -> Result<PartyKeys, OutOfMemory>
+        requires { IsTrue (is_party self.now.f self.now.clients me) }
+        ensures { IfOk result (λ k. k ≡ keys_for self.now seed.now me) }
+    {
+        let peers = peers_of(alloc, &self.cluster, seed, me)?;
+        let publics = Vec::from_slice(alloc, self.publics.as_slice())?;
+        Ok(PartyKeys {
+            cluster: self.cluster,
+            service: self.service,
+            lms: self.lms,
             me,
             secret: own_secret(seed, me),
             peers,

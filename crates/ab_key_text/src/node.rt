@@ -4,7 +4,7 @@ ghost use Rattle.std.specs.Prelude.{◌≡◌, ◌<◌, ◌^◌, ◌+◌, ◌↔
 ghost use Rattle.ab_num.specs.declared.party.Party.{Party as TheParty};
 ghost use Rattle.ab_text.specs.Lines.{lines_of};
 ghost use Rattle.ab_key_text.specs.Lines.{Gives};
-ghost use Rattle.ab_key_text.specs.Nodes.{command_in, commands_at, is_command, is_printable, node_in, node_of};
+ghost use Rattle.ab_key_text.specs.Nodes.{command_in, commands_at, commands_in, is_command, is_printable, node_in, node_of};
 ghost use Rattle.ab_key_text.specs.Reading.{ended};
 
 use crate::fault::NodeFault;
@@ -67,41 +67,29 @@ fn is_end(line: &[u8]) -> bool
     line == b"end".as_slice()
 }
 
-/// Keys and commands, where the text ends at line `n`.
-fn ended(
-    keys: PartyKeys,
-    commands: Commands,
-    text: &[u8],
-    n: u32,
-) -> Result<(PartyKeys, Commands), NodeFault>
-    ensures { Gives (λ p. node_of p.0 (map (λ c. c.items) p.1)) result
-        (ended (node_of keys (map (λ c. c.items) commands)) n (lines_of text.now)) }
+/// The commands, where the text ends at line `n`.
+fn ended(commands: Commands, text: &[u8], n: u32) -> Result<Commands, NodeFault>
+    ensures { Gives (λ cs. map (λ c. c.items) cs) result (ended (map (λ c. c.items) commands) n (lines_of text.now)) }
 {
     match next_line(text) {
-        None => Ok((keys, commands)),
+        None => Ok(commands),
         Some(_) => Err(NodeFault::BadLine(n)),
     }
 }
 
-/// A client's commands from line `first` on, and the end.
-fn commands_at(
-    alloc: Global,
-    keys: PartyKeys,
-    text: &[u8],
-    first: u32,
-) -> Result<(PartyKeys, Commands), NodeFault>
+/// The commands of a party from line `first` on, and the end.
+fn commands_at(alloc: Global, me: Party, text: &[u8], first: u32) -> Result<Commands, NodeFault>
     requires { first + length text.now < 2 ^ 32 }
-    ensures { Gives (λ p. node_of p.0 (map (λ c. c.items) p.1)) result
-        (commands_at (node_of keys []) first (lines_of text.now)) }
+    ensures { Gives (λ cs. map (λ c. c.items) cs) result (commands_at me [] first (lines_of text.now)) }
 {
     let mut commands = Items::new(alloc);
     let mut rest = text;
     let mut n = first;
     while let Some((line, behind)) = next_line(rest) {
         if is_end(line) {
-            return ended(keys, commands, behind, n + 1);
+            return ended(commands, behind, n + 1);
         }
-        match command_in(keys.me(), line) {
+        match command_in(me, line) {
             None => return Err(NodeFault::BadLine(n)),
             Some(command) => commands.push(command)?,
         }
@@ -109,6 +97,15 @@ fn commands_at(
         n += 1;
     }
     Err(NodeFault::NoEnd(n))
+}
+
+/// The commands that a text spells which has no keys: a client's commands, and the end. Faults are as in a node's text.
+#[tactic(auto, unfolding(crate::specs::Nodes::commands_in))]
+pub fn read_commands(alloc: Global, text: &[u8]) -> Result<Commands, NodeFault>
+    requires { length text.now < 2 ^ 31 }
+    ensures { Gives (λ cs. map (λ c. c.items) cs) result (commands_in (lines_of text.now)) }
+{
+    commands_at(alloc, Party::Client(0), text, 1)
 }
 
 /// The keys and commands that a node's text spells. A bad line is the first that isn't as stated; where
@@ -119,5 +116,6 @@ pub fn read_node(alloc: Global, text: &[u8]) -> Result<(PartyKeys, Commands), No
     ensures { Gives (λ p. node_of p.0 (map (λ c. c.items) p.1)) result (node_in (lines_of text.now)) }
 {
     let keys = keys_at(alloc, text)?;
-    commands_at(alloc, keys.value, keys.rest, keys.next)
+    let commands = commands_at(alloc, keys.value.me(), keys.rest, keys.next)?;
+    Ok((keys.value, commands))
 }
