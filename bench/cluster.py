@@ -21,6 +21,7 @@ import os
 import pathlib
 import random
 import selectors
+import signal
 import socket
 import subprocess
 import sys
@@ -147,6 +148,53 @@ class Cluster:
         lines += [*self.lines_of(b"invoke", b"inject", b"timeout"), b"end", b""]
         _, report, said = ran(["replay"], b"\n".join(lines))
         return report.decode().splitlines(), said.decode()
+
+
+class Gathered:
+    """A cluster with f 1 that the command `cluster` runs. Its nodes have few turns, so it ends by itself."""
+
+    def __init__(self, base, commands, plan="quorum", wait=50, turns=60):
+        words = ["--plan", plan, "--f", "1", "--service", "kv", "--lms", "5", "--seed", SEED]
+        self.node_words = ["node", "--base", str(base), "--wait", str(wait), "--turns", str(turns)]
+        words = [PROGRAM, "cluster", *words, *self.node_words[1:]]
+        # It has a group of its own, as a command of a shell has.
+        self.process = subprocess.Popen(
+            words, stdin=subprocess.PIPE, stdout=subprocess.PIPE, stderr=subprocess.PIPE, start_new_session=True
+        )
+        self.process.stdin.write(b"".join(b"do %s\n" % it for it in commands) + b"end\n")
+        self.process.stdin.close()
+        self.process.stdin = None
+
+    def nodes(self):
+        """The processes of its nodes, in the order in which they were started, once all are there."""
+        path = pathlib.Path(f"/proc/{self.process.pid}/task/{self.process.pid}/children")
+        end = time.monotonic() + SECONDS
+        while len(found := path.read_text().split()) <= REPLICAS:
+            if end < time.monotonic():
+                raise TimeoutError(f"{len(found)} nodes were started")
+            time.sleep(0.01)
+        return [int(pid) for pid in found]
+
+    def ended(self):
+        """Its status, that of each party as it stands in the report, what the client wrote, and what was said."""
+        written, said = self.process.communicate(timeout=SECONDS)
+        lines = written.decode().splitlines()
+        statuses = dict(line.split(" ")[1:] for line in lines if line.startswith("child "))
+        return self.process.returncode, statuses, [line for line in lines if not line.startswith("child ")], said.decode()
+
+    def stop(self):
+        """Ends it and its nodes, if they still run."""
+        with contextlib.suppress(ProcessLookupError):
+            os.killpg(self.process.pid, signal.SIGKILL)
+        self.process.wait()
+
+
+def is_there(pid):
+    """Whether a process runs."""
+    try:
+        return pathlib.Path(f"/proc/{pid}/stat").read_text().rpartition(")")[2].split()[0] != "Z"
+    except FileNotFoundError:
+        return False
 
 
 def is_open(port):

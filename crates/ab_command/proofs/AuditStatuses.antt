@@ -11,7 +11,7 @@ use Rattle.ab_replay.specs.declared.fault.ReplayFault.TheVariants as replaying
 use Rattle.ab_replay.specs.Streams.{IsInput}
 use Rattle.ab_command.specs.declared.status.Bound.TheVariants.{Bytes, Events, Packets}
 use Rattle.ab_command.specs.declared.status.Status.{Status}
-use Rattle.ab_command.specs.declared.status.Status.TheVariants.{Done, Broken, Usage, Refused, ReadFault, WriteFault, LinkFault, Limit, TurnsSpent, OutOfMemory}
+use Rattle.ab_command.specs.declared.status.Status.TheVariants.{Done, Broken, Usage, Refused, ReadFault, WriteFault, LinkFault, Limit, TurnsSpent, OutOfMemory, ChildFault}
 use Rattle.ab_command.specs.Audits.{AuditCause, IsNoAudit}
 use Rattle.ab_command.specs.Calls.{Call}
 use Rattle.ab_command.specs.Commands.{IsAudit}
@@ -66,6 +66,7 @@ module _ (c : Call) (clear : IsClearForAudit c) where
   audit_status (Limit Packets) (inr (k, asks, passes), kept, said) = absurd (audit_or_storm c.words k clear.words asks)
   audit_status (TurnsSpent n) ((k, asks, why), said) = absurd (audit_or_node c.words k clear.words asks)
   audit_status OutOfMemory cause = inr (inr refl)
+  audit_status ChildFault never = absurd never
 
 audited_whole : (c : Call) (accuses : Bool) → IsAudit c.words → HasAudit accuses c → IsKept c.met.err → StatusCause (if not accuses then Done else Broken) c
 audited_whole c true words report kept = (inl (inr (words, report)), kept)
@@ -77,7 +78,7 @@ pub audit_told : (c : Call) (r s : Status) (report : List ℕ) (accuses : Bool) 
 audit_told c r s report accuses how is words input =
     text_told c r s report how
     (λ got kept. subst (λ (x : Status). StatusCause x c) (sym is) (audited_whole c accuses words (report, input, got) kept))
-    (λ part. inr (inl (inr (report, accuses, input, part))))
+    (λ part. inr (inl (inr (report, accuses, words, input, part))))
 
 fault_said : (c : Call) (fault : ReplayFault) → IsAudit c.words → AuditCause fault c.met.input.before.left c.met.input.before.faults c.met.input.after.faults → IsKept c.met.out → Says (fault_status fault) c.met.err → StatusCause (fault_status fault) c
 fault_said c replaying.Read audit rose kept said = (inl (inr audit, rose, kept), said)

@@ -19,7 +19,7 @@ use Rattle.ab_node.specs.declared.stop.Stop.TheVariants as stop
 use Rattle.ab_node.specs.Nodes.{IsRefused, IsStopped, NodeCall, PartyStopped, StopCause}
 use Rattle.ab_command.specs.declared.status.Bound.TheVariants.{Bytes, Events, Packets}
 use Rattle.ab_command.specs.declared.status.Status.{Status}
-use Rattle.ab_command.specs.declared.status.Status.TheVariants.{Done, Broken, Usage, Refused, ReadFault, WriteFault, LinkFault, Limit, TurnsSpent, OutOfMemory}
+use Rattle.ab_command.specs.declared.status.Status.TheVariants.{Done, Broken, Usage, Refused, ReadFault, WriteFault, LinkFault, Limit, TurnsSpent, OutOfMemory, ChildFault}
 use Rattle.ab_command.specs.Texts.{code_of, stop_status}
 use Rattle.ab_command.specs.Calls.{Call, call_of}
 use Rattle.ab_command.specs.Commands.{AsksNode}
@@ -83,6 +83,7 @@ module _ (c : Call) (k : NodeCommand) (clear : IsClearForNode c k) where
   node_status (TurnsSpent n) ((j, asks, (text, input, stopped)), said) =
       inr (inl (refl, is_clients text n (call_of j c) input stopped, (n, (j, asks, (text, input, stopped)))))
   node_status OutOfMemory cause = inr (inr refl)
+  node_status ChildFault never = absurd never
 
 -- ---- a node that stopped
 

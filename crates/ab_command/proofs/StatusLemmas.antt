@@ -13,7 +13,7 @@ use Rattle.ab_text.specs.Schedules.{ReadsText}
 use Rattle.ab_replay.specs.Protocols.{Any, any}
 use Rattle.ab_command.specs.declared.status.Bound.TheVariants.{Bytes, Events, Packets}
 use Rattle.ab_command.specs.declared.status.Status.{Status}
-use Rattle.ab_command.specs.declared.status.Status.TheVariants.{Done, Broken, Usage, Refused, ReadFault, WriteFault, LinkFault, Limit, TurnsSpent, OutOfMemory}
+use Rattle.ab_command.specs.declared.status.Status.TheVariants.{Done, Broken, Usage, Refused, ReadFault, WriteFault, LinkFault, Limit, TurnsSpent, OutOfMemory, ChildFault}
 use Rattle.ab_command.specs.Texts.{code_of, fault_status}
 use Rattle.ab_replay.specs.Streams.{IsAllOf, IsInput, IsTooLong, most_bytes}
 use Rattle.ab_words.specs.declared.command.Command.{Command}
@@ -181,6 +181,7 @@ module _ (one : (text : List ℕ) (r q : Result Script TextFault) → ReadsText 
   clear_status (Limit Packets) (inr (k, asks, passes), kept, said) = absurd (replay_or_storm c.words k clear.words asks)
   clear_status (TurnsSpent n) ((k, asks, why), said) = absurd (replay_or_node c.words k clear.words asks)
   clear_status OutOfMemory cause = inr refl
+  clear_status ChildFault never = absurd never
 
 -- where keys are asked for
 module _ (c : Call) (k : KeysCommand) (clear : IsClearForKeys c k) where
@@ -211,6 +212,7 @@ module _ (c : Call) (k : KeysCommand) (clear : IsClearForKeys c k) where
   keys_status (Limit Packets) (inr (s, asks, passes), kept, said) = absurd (keys_or_storm c.words k s clear.words asks)
   keys_status (TurnsSpent m) ((n, asks, why), said) = absurd (keys_or_node c.words k n clear.words asks)
   keys_status OutOfMemory cause = inr refl
+  keys_status ChildFault never = absurd never
 
 -- where a storm is asked for
 module _ (c : Call) (k : StormCommand) (clear : IsClearForStorm c k) where
@@ -251,6 +253,7 @@ module _ (c : Call) (k : StormCommand) (clear : IsClearForStorm c k) where
   storm_status (Limit Packets) (inr (j, asks, passes), kept, said) = inr (inl (subst (λ (s : StormCommand). Passes s) (same_storm c.words j k asks clear.words) passes, refl))
   storm_status (TurnsSpent m) ((n, asks, why), said) = absurd (storm_or_node c.words k n clear.words asks)
   storm_status OutOfMemory cause = inr (inr refl)
+  storm_status ChildFault never = absurd never
 
 written_whole : (c : Call) (held : Bool) → IsReplay c.words → HasReport held c → IsKept c.met.err → StatusCause (if held then Done else Broken) c
 written_whole c true words report kept = (inl (inl (words, report)), kept)
@@ -271,7 +274,7 @@ pub report_told : (c : Call) (r s : Status) (report : List ℕ) (held : Bool) �
 report_told c r s report held how is words input =
     text_told c r s report how
     (λ got kept. subst (λ (x : Status). StatusCause x c) (sym is) (written_whole c held words (report, input, got) kept))
-    (λ part. inr (inl (inl (report, held, input, part))))
+    (λ part. inr (inl (inl (report, held, words, input, part))))
 
 -- a key text
 pub keys_told : (c : Call) (k : KeysCommand) (r : Status) (text : List ℕ) → WritesOrSays r Done text c.met.out c.met.err → text ≡ key_text k → AsksKeys c.words k → StatusCause r c

@@ -8,11 +8,11 @@ use Rattle.ab_text.specs.Heads.{spelled_in, plans}
 use Rattle.ab_text.specs.Numbers.{number_of as number_text}
 use Rattle.ab_key_text.specs.Lines.{bounded}
 use Rattle.ab_words.specs.declared.command.Command.{Command}
-use Rattle.ab_words.specs.declared.command.Command.TheVariants.{Replay, Keys, Storm, Node, Audit}
+use Rattle.ab_words.specs.declared.command.Command.TheVariants.{Replay, Keys, Storm, Node, Audit, Cluster}
 use Rattle.ab_words.specs.Commands.{StormCommand}
 use Rattle.ab_words.specs.Uses.{Use, ◌>>=◌, uses_in}
 use Rattle.ab_words.specs.Values.{value_of, number_in, number_of, plan_name}
-use Rattle.ab_words.specs.Language.{only, empty, keys_in, node_in, storm_in, command_of, command_in}
+use Rattle.ab_words.specs.Language.{only, empty, cluster_in, keys_in, node_in, storm_in, command_of, command_in}
 
 record Bound {A B : Type 0} (o : Option A) (f : A → Option B) (y : B) : Type 0 where
   value : A
@@ -98,8 +98,10 @@ named_few name ws k e =
     (λ x. let uses = bound (uses_in ws) (λ uses. keys_in uses >>= λ c. Some (Keys c)) (Storm k) x in absurd (not_storm (keys_in uses.value) Keys k (λ a e. cc (e)) uses.rest))
     (if_some (bytes_eq name (codes "node")) _ _ (Storm k) (k.events ≤ 100000)
     (λ x. let uses = bound (uses_in ws) (λ uses. node_in uses >>= λ c. Some (Node c)) (Storm k) x in absurd (not_storm (node_in uses.value) Node k (λ a e. cc (e)) uses.rest))
-    (if_some (bytes_eq name (codes "audit")) (empty Audit ws) None (Storm k) (k.events ≤ 100000) (λ x. absurd (empty_other Audit ws k (λ e. cc (e)) x))
-    (λ x. absurd (cc (x))))))) e
+    (if_some (bytes_eq name (codes "audit")) (empty Audit ws) _ (Storm k) (k.events ≤ 100000) (λ x. absurd (empty_other Audit ws k (λ e. cc (e)) x))
+    (if_some (bytes_eq name (codes "cluster")) _ None (Storm k) (k.events ≤ 100000)
+    (λ x. let uses = bound (uses_in ws) (λ uses. cluster_in uses >>= λ c. Some (Cluster c)) (Storm k) x in absurd (not_storm (cluster_in uses.value) Cluster k (λ a e. cc (e)) uses.rest))
+    (λ x. absurd (cc (x)))))))) e
 
 -- words of a storm bound its events
 pub few_events : (words : List (List ℕ)) (k : StormCommand) → command_in words ≡ Some (Storm k) → k.events ≤ 100000

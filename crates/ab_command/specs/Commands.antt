@@ -2,8 +2,8 @@
 use Rattle.std.specs.Prelude.{◌≡◌, ◌⊎◌, ℕ, List, None, Some}
 use Rattle.ab_key_text.specs.Derived.{keys_of}
 use Rattle.ab_key_text.specs.Spelling.{key_lines}
-use Rattle.ab_words.specs.declared.command.Command.TheVariants.{Replay, Storm, Keys, Node, Audit}
-use Rattle.ab_words.specs.Commands.{KeysCommand, NodeCommand, StormCommand}
+use Rattle.ab_words.specs.declared.command.Command.TheVariants.{Replay, Storm, Keys, Node, Audit, Cluster}
+use Rattle.ab_words.specs.Commands.{ClusterCommand, KeysCommand, NodeCommand, StormCommand}
 use Rattle.ab_words.specs.Language.{command_in}
 use Rattle.ab_text.specs.Texts.{text_of}
 
@@ -35,9 +35,17 @@ AsksNode words k = command_in words ≡ Some (Node k)
 abbrev pub IsNode : List (List ℕ) → Type 0
 IsNode words = (k : NodeCommand) × AsksNode words k
 
+-- the words ask for this cluster
+abbrev pub AsksCluster : List (List ℕ) → ClusterCommand → Type 0
+AsksCluster words k = command_in words ≡ Some (Cluster k)
+
+-- the words ask for a cluster
+abbrev pub IsCluster : List (List ℕ) → Type 0
+IsCluster words = (k : ClusterCommand) × AsksCluster words k
+
 -- the words ask for what reads the input
 abbrev pub TakesInput : List (List ℕ) → Type 0
-TakesInput words = IsReplay words ⊎ (IsNode words ⊎ IsAudit words)
+TakesInput words = IsReplay words ⊎ (IsNode words ⊎ (IsAudit words ⊎ IsCluster words))
 
 -- the text of the keys that are asked for
 abbrev pub key_text : KeysCommand → List ℕ

@@ -1,5 +1,6 @@
 -- What the contracts of this crate cite.
 pub mod Calls
+pub mod Clusters
 pub mod Commands
 pub mod Endings
 pub mod Audits

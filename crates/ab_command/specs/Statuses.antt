@@ -3,7 +3,7 @@ use Rattle.std.specs.Prelude.{◌≡◌, ◌≤◌, ℕ, Bool, true, false, not,
 use Rattle.ab_io.specs.Causes.{Rose}
 use Rattle.ab_command.specs.declared.status.Bound.TheVariants.{Bytes, Events, Packets}
 use Rattle.ab_command.specs.declared.status.Status.{Status}
-use Rattle.ab_command.specs.declared.status.Status.TheVariants.{Done, Broken, Usage, Refused, ReadFault, WriteFault, LinkFault, Limit, TurnsSpent, OutOfMemory}
+use Rattle.ab_command.specs.declared.status.Status.TheVariants.{Done, Broken, Usage, Refused, ReadFault, WriteFault, LinkFault, Limit, TurnsSpent, OutOfMemory, ChildFault}
 use Rattle.ab_command.specs.Texts.{code_of}
 use Rattle.ab_loop.specs.declared.fault.ServeFault.TheVariants as serving
 use Rattle.ab_loop.specs.declared.serving.Served.{Served}
@@ -51,8 +51,8 @@ TellsInput well c = (IsReplay c.words × HasReport well c) ⊎ (IsAudit c.words 
 -- out got a front of it
 abbrev pub TellsInputFront : Call → Type 0
 TellsInputFront c =
-    ((report : List ℕ) × (held : Bool) × HasInput (λ text. Replays text report held) c.met.input.before.left × GetsFront c.met.out report)
-    ⊎ ((report : List ℕ) × (accuses : Bool) × HasInput (λ text. Audits text report accuses) c.met.input.before.left × GetsFront c.met.out report)
+    ((report : List ℕ) × (held : Bool) × IsReplay c.words × HasInput (λ text. Replays text report held) c.met.input.before.left × GetsFront c.met.out report)
+    ⊎ ((report : List ℕ) × (accuses : Bool) × IsAudit c.words × HasInput (λ text. Audits text report accuses) c.met.input.before.left × GetsFront c.met.out report)
 
 -- the words ask to be told of the input
 abbrev pub AsksInput : List (List ℕ) → Type 0
@@ -101,7 +101,7 @@ ServesNode c = (k : NodeCommand) × AsksNode c.words k × HasInput (λ text. (se
 abbrev pub StopsNode : Stop → Call → Type 0
 StopsNode why c = (k : NodeCommand) × AsksNode c.words k × StopCause why c.met.input (call_of k c)
 
--- out got a front of a report, of the key text, of the summary or of a node's lines, or nothing
+-- out got nothing, or a front of what the words ask for: of a report, the key text, a summary or a node's lines
 abbrev pub HasFront : Call → Type 0
 HasFront c =
     IsKept c.met.out
@@ -127,6 +127,7 @@ StatusCause (Limit Packets) c =
 StatusCause (Limit Events) c = IsReplay c.words × HasInput HasTooManyEvents c.met.input.before.left × IsKept c.met.out × Says (Limit Events) c.met.err
 StatusCause (TurnsSpent n) c = StopsNode (stop.Serving (serving.TurnsSpent n)) c × Says (TurnsSpent n) c.met.err
 StatusCause OutOfMemory c = HasFront c × SaysNoMemory c.met.err
+StatusCause ChildFault c = ⊥
 
 -- nothing stands in the way of a call: the input tells that it is a schedule within the limits, of which no event is refused,
 -- and no object has counted a fault

@@ -10,7 +10,7 @@ use Rattle.ab_replay.specs.declared.fault.ReplayFault.TheVariants as replaying
 use Rattle.ab_replay.specs.Refusals.{refusal_text}
 use Rattle.ab_command.specs.declared.status.Bound.TheVariants.{Bytes, Events, Packets}
 use Rattle.ab_command.specs.declared.status.Status.{Status}
-use Rattle.ab_command.specs.declared.status.Status.TheVariants.{Done, Broken, Usage, Refused, ReadFault, WriteFault, LinkFault, Limit, TurnsSpent, OutOfMemory}
+use Rattle.ab_command.specs.declared.status.Status.TheVariants.{Done, Broken, Usage, Refused, ReadFault, WriteFault, LinkFault, Limit, TurnsSpent, OutOfMemory, ChildFault}
 
 -- the number that the program ends with
 abbrev pub code_of : Status → ℕ
@@ -24,6 +24,7 @@ code_of LinkFault = 6
 code_of (Limit b) = 7
 code_of (TurnsSpent n) = 8
 code_of OutOfMemory = 9
+code_of ChildFault = 12
 
 -- so many commands are unanswered
 abbrev pub turns_text : ℕ → List ℕ
@@ -43,6 +44,7 @@ text_of (Limit Events) = codes "limit events\n"
 text_of (Limit Packets) = codes "limit packets\n"
 text_of (TurnsSpent n) = turns_text n
 text_of OutOfMemory = codes "out of memory\n"
+text_of ChildFault = codes "child fault\n"
 
 -- the status of a schedule that wasn't replayed, by its fault
 abbrev pub fault_status : ReplayFault → Status

@@ -11,8 +11,8 @@ use ab_key_text::NodeFault;
 use ab_replay::{ReadFault, Refusal, RefusalCause, ReplayFault, read_all};
 use std::alloc::Global;
 
-/// Why a text that isn't that of an audit has no report.
-fn fault_of_audit(fault: NodeFault) -> ReplayFault
+/// Why a text that isn't that of an audit, or of commands, has no report.
+pub(crate) fn fault_of_audit(fault: NodeFault) -> ReplayFault
     ensures { result ≡ fault_of_audit fault }
 {
     match fault {

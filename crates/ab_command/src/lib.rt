@@ -1,7 +1,8 @@
-//! What the programs do over any objects of input, output, link and clock: the command that words ask for, and the schedule of a storm.
+//! What the programs do over any objects of input, output, link, clock and spawner: the command that words ask for, and the schedule of a storm.
 #![tactic(auto)]
 
 mod audit;
+mod cluster;
 mod keys;
 mod saying;
 mod schedule;

@@ -17,9 +17,10 @@ pub enum Bound {
 /// How a call of the program ended.
 #[derive(Clone, Copy, Debug, PartialEq, Eq)]
 pub enum Status {
-    /// A run was told, and its premises held; or keys were; or a node was served to its end.
+    /// A run was told, and its premises held; or keys were; or a node was served to its end; or each child of a cluster ended
+    /// with this status.
     Done,
-    /// A run was told, and a premise was broken.
+    /// A run was told, and a premise was broken; or a child of a cluster ended with another status than 0.
     Broken,
     Usage,
     Refused(Refusal),
@@ -30,6 +31,8 @@ pub enum Status {
     /// A client's turns were used, and so many commands are unanswered.
     TurnsSpent(u64),
     OutOfMemory,
+    /// A child of a cluster could not be started or waited for.
+    ChildFault,
 }
 
 impl Status {
@@ -48,6 +51,7 @@ impl Status {
             Status::Limit(_) => 7,
             Status::TurnsSpent(_) => 8,
             Status::OutOfMemory => 9,
+            Status::ChildFault => 12,
         }
     }
 }

@@ -5,14 +5,18 @@ ghost use Rattle.ab_io.specs.Causes.{Rose};
 ghost use Rattle.ab_io.specs.States.{Change, ClockState, LinkState, SourceState, change, outside};
 ghost use Rattle.ab_command.specs.Texts.{status_of, stop_status};
 ghost use Rattle.ab_command.specs.Calls.{call};
-ghost use Rattle.ab_command.specs.Commands.{AsksKeys, AsksNode, AsksStorm, IsAudit, IsNode, IsReplay, TakesInput};
+ghost use Rattle.ab_words.specs.Commands.{ClusterCommand as TheCluster};
+ghost use Rattle.ab_command.specs.Clusters.{ClusterCause, HasClusterCauseOf, cluster_call};
+ghost use Rattle.ab_command.specs.Commands.{AsksCluster, AsksKeys, AsksNode, AsksStorm, IsAudit, IsCluster, IsNode, IsReplay, TakesInput};
 ghost use Rattle.ab_command.specs.Endings.{SaysNoMemory, Settles};
 ghost use Rattle.ab_command.specs.Statuses.{StatusCause, HasCauseOf};
 
 use crate::audit::audit_input;
+use crate::cluster::serve_cluster;
 use crate::keys::key_text;
 use crate::saying::{say, say_no_memory, say_refusal, say_replay_fault, write_or_say};
 use crate::status::{Bound, Status, turns_line};
+use ab_cluster::{Spawner, conclusions_are_counted};
 use ab_io::{Clock, Link, Sink, Source};
 use ab_kv::Kv;
 use ab_loop::ServeFault;
@@ -162,7 +166,7 @@ fn serve_audit<I: Source, O: Sink, E: Sink>(
 }
 
 /// What the program does.
-fn serve<I: Source, O: Sink, E: Sink, L: Link, C: Clock>(
+fn serve<I: Source, O: Sink, E: Sink, L: Link, C: Clock, W: Spawner>(
     alloc: Global,
     words: &[&str],
     input: &mut I,
@@ -170,13 +174,17 @@ fn serve<I: Source, O: Sink, E: Sink, L: Link, C: Clock>(
     err: &mut E,
     link: &mut L,
     clock: &mut C,
+    spawner: &mut W,
 ) -> Status
-    ensures cause { StatusCause result (call (map (λ w. w.now) words.now) (outside (change (I.state input.old) (I.state input.new))
+    ensures cause { (IsCluster (map (λ w. w.now) words.now) → ⊥) → StatusCause result (call (map (λ w. w.now) words.now) (outside (change (I.state input.old) (I.state input.new))
         (change (O.state out.old) (O.state out.new)) (change (E.state err.old) (E.state err.new))
         (change (L.state link.old) (L.state link.new)) (change (C.state clock.old) (C.state clock.new)))) }
     ensures untouched { (TakesInput (map (λ w. w.now) words.now) → ⊥) → input.new ≡ input.old }
     ensures link { (IsNode (map (λ w. w.now) words.now) → ⊥) → link.new ≡ link.old }
     ensures clock { (IsNode (map (λ w. w.now) words.now) → ⊥) → clock.new ≡ clock.old }
+    ensures cluster { (k : TheCluster) → AsksCluster (map (λ w. w.now) words.now) k → ClusterCause result k (cluster_call (change (I.state input.old) (I.state input.new))
+        (change (O.state out.old) (O.state out.new)) (change (E.state err.old) (E.state err.new)) (change (W.state spawner.old) (W.state spawner.new))) }
+    ensures spawner { (IsCluster (map (λ w. w.now) words.now) → ⊥) → spawner.new ≡ spawner.old }
 {
     match command_in(alloc, words) {
         Ok(Some(Command::Replay)) => serve_replay(alloc, input, out, err),
@@ -186,6 +194,9 @@ fn serve<I: Source, O: Sink, E: Sink, L: Link, C: Clock>(
             serve_node(alloc, &asked, input, out, err, link, clock)
         }
         Ok(Some(Command::Audit)) => serve_audit(alloc, input, out, err),
+        Ok(Some(Command::Cluster(asked))) => {
+            serve_cluster(alloc, &asked, input, out, err, spawner)
+        }
         Ok(None) => say(err, USAGE, Status::Usage),
         Err(_) => say_no_memory(err),
     }
@@ -199,13 +210,15 @@ fn serve<I: Source, O: Sink, E: Sink, L: Link, C: Clock>(
 /// `input` to its end, and serves that party over `link` and `clock`: what it commits is written to `out`.
 /// `audit` reads public keys and messages from `input` to its end, and writes to `out` which replicas contradict
 /// themselves in them.
+/// `cluster` reads the commands of a client from `input` to its end, starts a node for each replica and for that client by `spawner`,
+/// waits for all of them, and writes to `out` how each ended and what the client wrote.
 /// The statuses are:
 ///
 /// - 0: the report or the summary was written, and its premise line says `held`; or the key text was
 ///   written; or the node was served until its client's commands were answered, or its replica's turns used; or the
-///   report of an audit was written, and nobody is accused.
+///   report of an audit was written, and nobody is accused; or each child of a cluster ended with 0.
 /// - 1: the report or the summary was written, and its premise line says `broken`; or the report of an audit was
-///   written, and someone is accused.
+///   written, and someone is accused; or a child of a cluster ended with another status than 0.
 /// - 2: the words are no command.
 /// - 3: a line is out of form or missing, or its event is refused.
 /// - 4: `input` failed.
@@ -215,9 +228,10 @@ fn serve<I: Source, O: Sink, E: Sink, L: Link, C: Clock>(
 ///   bytes.
 /// - 8: a client's turns were used, and commands are unanswered.
 /// - 9: an allocation failed.
+/// - 12: a start or a wait of `spawner` failed.
 ///
-/// Each but 0 and 1 is said on `err`, unless `err` fails. Only `node` calls `link` and `clock`.
-pub fn run<I: Source, O: Sink, E: Sink, L: Link, C: Clock>(
+/// Each but 0 and 1 is said on `err`, unless `err` fails. Only `node` calls `link` and `clock`, and only `cluster` calls `spawner`.
+pub fn run<I: Source, O: Sink, E: Sink, L: Link, C: Clock, W: Spawner>(
     alloc: Global,
     words: &[&str],
     input: &mut I,
@@ -225,16 +239,21 @@ pub fn run<I: Source, O: Sink, E: Sink, L: Link, C: Clock>(
     err: &mut E,
     link: &mut L,
     clock: &mut C,
+    spawner: &mut W,
 ) -> u8
-    ensures cause { HasCauseOf result (call (map (λ w. w.now) words.now) (outside (change (I.state input.old) (I.state input.new))
+    ensures cause { (IsCluster (map (λ w. w.now) words.now) → ⊥) → HasCauseOf result (call (map (λ w. w.now) words.now) (outside (change (I.state input.old) (I.state input.new))
         (change (O.state out.old) (O.state out.new)) (change (E.state err.old) (E.state err.new))
         (change (L.state link.old) (L.state link.new)) (change (C.state clock.old) (C.state clock.new)))) }
     ensures untouched { (TakesInput (map (λ w. w.now) words.now) → ⊥) → input.new ≡ input.old }
     ensures link { (IsNode (map (λ w. w.now) words.now) → ⊥) → link.new ≡ link.old }
     ensures clock { (IsNode (map (λ w. w.now) words.now) → ⊥) → clock.new ≡ clock.old }
+    ensures cluster { (k : TheCluster) → AsksCluster (map (λ w. w.now) words.now) k → HasClusterCauseOf result k (cluster_call (change (I.state input.old) (I.state input.new))
+        (change (O.state out.old) (O.state out.new)) (change (E.state err.old) (E.state err.new)) (change (W.state spawner.old) (W.state spawner.new))) }
+    ensures spawner { (IsCluster (map (λ w. w.now) words.now) → ⊥) → spawner.new ≡ spawner.old }
 {
-    let status = serve(alloc, words, input, out, err, link, clock);
+    let status = serve(alloc, words, input, out, err, link, clock, spawner);
     one_reading();
+    conclusions_are_counted();
     status.code()
 }
 

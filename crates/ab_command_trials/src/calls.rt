@@ -1,5 +1,6 @@
 //! A call of the command over objects in memory.
 
+use ab_cluster::{Ended, MemSpawner};
 use ab_command::run;
 use ab_io::{MemClock, MemLink, MemSink, MemSource};
 use std::alloc::{AllocError, Global};
@@ -14,6 +15,8 @@ pub(crate) struct Failing {
     pub(crate) opens: &'static [u64],
     pub(crate) recvs: &'static [u64],
     pub(crate) sends: &'static [u64],
+    pub(crate) starts: &'static [u64],
+    pub(crate) waits: &'static [u64],
 }
 
 /// No call fails.
@@ -24,6 +27,8 @@ pub(crate) const NOTHING: Failing = Failing {
     opens: &[],
     recvs: &[],
     sends: &[],
+    starts: &[],
+    waits: &[],
 };
 
 /// What the command came to.
@@ -33,6 +38,7 @@ pub(crate) struct Told {
     pub(crate) out: MemSink,
     pub(crate) err: MemSink,
     pub(crate) link: MemLink,
+    pub(crate) spawner: MemSpawner,
 }
 
 /// A sink whose calls with these numbers fail.
@@ -47,12 +53,20 @@ fn link(alloc: Global, to_come: Vec<Vec<u8>>, failing: &Failing) -> Result<MemLi
     Ok(MemLink::new(alloc, to_come, opens, recvs, sends))
 }
 
-/// Runs the command over an input, and a link to which these datagrams come, at a clock that stands at 0.
-pub(crate) fn call_over(
+/// A spawner whose children end so.
+fn spawner(alloc: Global, ends: Vec<Ended>, failing: &Failing) -> Result<MemSpawner, AllocError> {
+    let starts = Vec::from_slice(alloc, failing.starts)?;
+    let waits = Vec::from_slice(alloc, failing.waits)?;
+    Ok(MemSpawner::new(alloc, ends, starts, waits))
+}
+
+/// Runs the command over an input, a link to which these datagrams come, and children that end so, at a clock that stands at 0.
+fn call_with(
     alloc: Global,
     words: &[&str],
     content: &[u8],
     to_come: Vec<Vec<u8>>,
+    ends: Vec<Ended>,
     failing: &Failing,
 ) -> Result<Told, AllocError> {
     let takes = Vec::from_slice(alloc, failing.takes)?;
@@ -61,15 +75,46 @@ pub(crate) fn call_over(
     let mut err = sink(alloc, failing.says)?;
     let mut link = link(alloc, to_come, failing)?;
     let mut clock = MemClock::new(Vec::new(alloc));
+    let mut spawner = spawner(alloc, ends, failing)?;
     let status = run(
-        alloc, words, &mut input, &mut out, &mut err, &mut link, &mut clock,
+        alloc,
+        words,
+        &mut input,
+        &mut out,
+        &mut err,
+        &mut link,
+        &mut clock,
+        &mut spawner,
     );
     Ok(Told {
         status,
         out,
         err,
         link,
+        spawner,
     })
+}
+
+/// Runs the command over an input and a link to which these datagrams come.
+pub(crate) fn call_over(
+    alloc: Global,
+    words: &[&str],
+    content: &[u8],
+    to_come: Vec<Vec<u8>>,
+    failing: &Failing,
+) -> Result<Told, AllocError> {
+    call_with(alloc, words, content, to_come, Vec::new(alloc), failing)
+}
+
+/// Runs the command over an input, a quiet link and children that end so.
+pub(crate) fn call_children(
+    alloc: Global,
+    words: &[&str],
+    content: &[u8],
+    ends: Vec<Ended>,
+    failing: &Failing,
+) -> Result<Told, AllocError> {
+    call_with(alloc, words, content, Vec::new(alloc), ends, failing)
 }
 
 /// Runs the command over an input and a quiet link.

@@ -15,6 +15,14 @@ pub fn words(rt: &(impl Env + AllocGlobal)) -> io::Result<Vec<String>> {
     Ok(all)
 }
 
+/// The word that the program was started by, or an empty one.
+pub fn program(rt: &(impl Env + AllocGlobal)) -> io::Result<String> {
+    match env::args(rt)?.next() {
+        Some(word) => Ok(word),
+        None => Ok(String::new(rt.alloc())),
+    }
+}
+
 /// The words as texts.
 pub fn texts<'a>(alloc: Global, words: &'a [String]) -> Result<Vec<&'a str>, AllocError>
     ensures { IfOk result (λ all. map (λ text. text.now) all.items ≡ map string_bytes words.now) }

@@ -5,5 +5,5 @@
 mod arguments;
 mod standard;
 
-pub use arguments::{texts, words};
+pub use arguments::{program, texts, words};
 pub use standard::{StdSink, StdSource};

@@ -6,7 +6,7 @@ use Rattle.clap.specs.Words.{App, Rule, Text, new_app, new_rule}
 use Rattle.clap.specs.Simple.{on_top}
 use Rattle.clap.specs.declared.builder.action.ArgAction.{ArgAction}
 use Rattle.clap.specs.declared.builder.action.ArgAction.TheVariants.{Set, SetTrue}
-use Rattle.ab_words.specs.declared.options.TheConstants.{KEYS, STORM, NODE}
+use Rattle.ab_words.specs.declared.options.TheConstants.{CLUSTER, KEYS, STORM, NODE}
 
 abbrev pub is_flag : Text → Bool
 is_flag name = bytes_eq name (codes "trace")
@@ -36,6 +36,9 @@ keys_options = map (λ name. name.now) KEYS.now
 
 abbrev pub storm_options : List Text
 storm_options = map (λ name. name.now) STORM.now
+
+abbrev pub cluster_options : List Text
+cluster_options = map (λ name. name.now) CLUSTER.now
 
 abbrev pub node_options : List Text
 node_options = map (λ name. name.now) NODE.now

@@ -28,6 +28,9 @@ pub(crate) const WAIT: &str = "wait";
 /// The options of the command `keys`.
 pub(crate) const KEYS: &[&str] = &[PLAN, F, CLIENTS, SERVICE, LMS, SEED, PARTY];
 
+/// The options of the command `cluster`.
+pub(crate) const CLUSTER: &[&str] = &[PLAN, F, SERVICE, LMS, SEED, BASE, WAIT, TURNS];
+
 /// The options of the command `storm`.
 pub(crate) const STORM: &[&str] = &[PLAN, F, CLIENTS, SEED, EVENTS];
 

@@ -2,14 +2,15 @@
 
 ghost use Rattle.std.specs.Prelude.{◌≡◌, IfOk, None, Some};
 ghost use Rattle.ab_words.specs.Found.{HasOnly};
-ghost use Rattle.ab_words.specs.Language.{command_in, command_of, keys_in, keys_of, node_in, node_of, storm_in, storm_of};
-ghost use Rattle.ab_words.specs.Options.{keys_options, node_options, storm_options};
+ghost use Rattle.ab_words.specs.Language.{cluster_in, cluster_of as cluster_words, command_in, command_of, keys_in, keys_of, node_in, node_of, storm_in, storm_of};
+ghost use Rattle.ab_words.specs.Options.{cluster_options, keys_options, node_options, storm_options};
 ghost use Rattle.ab_words.specs.Uses.{texts};
 
-use crate::command::{Command, KeysCommand, NodeCommand, StormCommand};
+use crate::command::{ClusterCommand, Command, KeysCommand, NodeCommand, StormCommand};
 use crate::names::{height_named, plan_named, service_named};
 use crate::options::{
-    BASE, CLIENTS, EVENTS, F, KEYS, LMS, NODE, PARTY, PLAN, SEED, SERVICE, STORM, TURNS, WAIT,
+    BASE, CLIENTS, CLUSTER, EVENTS, F, KEYS, LMS, NODE, PARTY, PLAN, SEED, SERVICE, STORM, TURNS,
+    WAIT,
 };
 use crate::uses::{Uses, uses_in};
 use crate::values::number_of;
@@ -77,6 +78,32 @@ fn node_in(uses: &Uses<'_>) -> Option<NodeCommand>
     })
 }
 
+/// The cluster that the uses ask for.
+#[tactic(auto, unfolding(crate::specs::Language::cluster_in))]
+fn cluster_in(uses: &Uses<'_>) -> Option<ClusterCommand>
+    requires { HasOnly cluster_options uses.now }
+    ensures { result ≡ cluster_in uses.now }
+{
+    let plan = plan_named(uses.value_of(PLAN)?)?;
+    let f = number_of(uses, F, 1, 2)? as u8;
+    let service = service_named(uses.value_of(SERVICE)?)?;
+    let lms = height_named(uses.value_of(LMS)?)?;
+    let key_seed = bytes_in(uses.value_of(SEED)?)?;
+    let first_port = number_of(uses, BASE, 1, 65000)? as u16;
+    let wait = number_of(uses, WAIT, 1, 60000)? as u16;
+    let turns = number_of(uses, TURNS, 1, 1000000000)? as u32;
+    let cluster = cluster_of(f, 1, plan);
+    Some(ClusterCommand {
+        cluster,
+        service,
+        lms,
+        seed: key_seed,
+        base: first_port,
+        wait,
+        turns,
+    })
+}
+
 /// Whose keys the words ask for.
 fn keys_of<'a>(alloc: Global, words: &'a [&'a str]) -> Result<Option<Command>, OutOfMemory>
     ensures { IfOk result (λ c. c ≡ keys_of (texts words.entry.now)) }
@@ -116,6 +143,19 @@ fn node_of<'a>(alloc: Global, words: &'a [&'a str]) -> Result<Option<Command>, O
     }
 }
 
+/// The cluster that the words ask for.
+fn cluster_words<'a>(alloc: Global, words: &'a [&'a str]) -> Result<Option<Command>, OutOfMemory>
+    ensures { IfOk result (λ c. c ≡ cluster_words (texts words.entry.now)) }
+{
+    match uses_in(alloc, CLUSTER, words)? {
+        None => Ok(None),
+        Some(uses) => Ok(match cluster_in(&uses) {
+            None => None,
+            Some(cluster) => Some(Command::Cluster(cluster)),
+        }),
+    }
+}
+
 /// The command that the words are, of which the first is its name.
 #[tactic(auto, unfolding(crate::specs::Language::command_of))]
 fn command_of<'a>(
@@ -147,6 +187,9 @@ fn command_of<'a>(
         } else {
             None
         });
+    }
+    if name == b"cluster".as_slice() {
+        return cluster_words(alloc, words);
     }
     Ok(None)
 }

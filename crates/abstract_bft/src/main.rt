@@ -1,10 +1,11 @@
 //! Runs a schedule from standard input or a storm of random events and writes what correct parties saw to standard
-//! output; or writes the keys of a party; or serves a party over the loopback address.
+//! output; or writes the keys of a party; or serves a party over the loopback address; or starts itself once for each party of a
+//! cluster, and gathers what became of them.
 //!
 //! It ends with 0 where the premises of the order properties held, 1 where one was broken, 2 for
 //! words that are no command, 3 for a line that is refused, 4 for a fault of standard input, 5 for one
 //! of standard output or standard error, 6 for one of the socket, 7 past a limit, 8 where a client's turns were used and
-//! commands are unanswered, and 9 where an allocation failed.
+//! commands are unanswered, 9 where an allocation failed, and 12 where a child of a cluster could not be started or waited for.
 #![tactic(auto)]
 
 ghost use Rattle.std.specs.Prelude.{◌≡◌, IfOk};
@@ -12,7 +13,8 @@ ghost use Rattle.ab_net.specs.UdpLinks.{unopened};
 
 use ab_command::{refuse_memory, run};
 use ab_net::{StdClock, UdpLink};
-use ab_standard::{StdSink, StdSource, texts, words};
+use ab_process::ProcSpawner;
+use ab_standard::{StdSink, StdSource, program, texts, words};
 use std::alloc::AllocError;
 use std::io;
 use std::process::ExitCode;
@@ -24,6 +26,13 @@ fn network(rt: &HostRuntime) -> Result<(UdpLink<HostRuntime>, StdClock<HostRunti
     let link = UdpLink::new(rt.clone()?);
     let clock = StdClock::new(rt.clone()?);
     Ok((link, clock))
+}
+
+/// Starts this program, by the word by which it was itself started.
+fn spawner(rt: &HostRuntime) -> io::Result<ProcSpawner<HostRuntime>>
+    ensures { IfOk result (λ s. s ≡ 0) }
+{
+    Ok(ProcSpawner::new(rt.alloc(), rt.clone()?, program(rt)?))
 }
 
 fn main(rt: HostRuntime) -> ExitCode {
@@ -43,6 +52,9 @@ fn main(rt: HostRuntime) -> ExitCode {
     let Ok((mut link, mut clock)) = network(&rt) else {
         return ExitCode::from(refuse_memory(&mut err));
     };
+    let Ok(mut spawner) = spawner(&rt) else {
+        return ExitCode::from(refuse_memory(&mut err));
+    };
     let status = run(
         alloc,
         texts.as_slice(),
@@ -51,6 +63,7 @@ fn main(rt: HostRuntime) -> ExitCode {
         &mut err,
         &mut link,
         &mut clock,
+        &mut spawner,
     );
     ExitCode::from(status)
 }

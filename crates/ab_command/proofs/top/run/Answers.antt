@@ -1,7 +1,9 @@
 use Rattle.std.specs.Prelude.{map}
 use Rattle.ab_io.specs.States.{change, outside}
 use Rattle.ab_command.specs.Calls.{call}
+use Rattle.ab_command.specs.Clusters.{cluster_call}
 use Rattle.ab_command.proofs.Answering.{answers}
+use Rattle.ab_command.proofs.ClusterStatuses.{cluster_answers}
 use Rattle.ab_command.proofs.top.run.Goals as goal
 
 pub returns-clause-cause : goal.returns-clause-cause
@@ -9,4 +11,12 @@ returns-clause-cause g c =
     let met = outside (change (g.I.Source.state c.args.input.now) (g.I.Source.state c.serve-status.new.input))
     (change (g.O.Sink.state c.args.out.now) (g.O.Sink.state c.serve-status.new.out)) (change (g.E.Sink.state c.args.err.now) (g.E.Sink.state c.serve-status.new.err))
     (change (g.L.Link.state c.args.link.now) (g.L.Link.state c.serve-status.new.link)) (change (g.C.Clock.state c.args.clock.now) (g.C.Clock.state c.serve-status.new.clock)) in
-    answers c.one_reading.ensures c.code.result (call (map (λ w. w.now) c.args.words.now) met) c.serve-status.result c.code.ensures c.serve-status.ensures.cause
+    λ other. answers c.one_reading.ensures c.code.result (call (map (λ w. w.now) c.args.words.now) met) c.serve-status.result c.code.ensures (c.serve-status.ensures.cause other)
+
+pub returns-clause-cluster : goal.returns-clause-cluster
+returns-clause-cluster g c =
+    let met = cluster_call (change (g.I.Source.state c.args.input.now) (g.I.Source.state c.serve-status.new.input))
+    (change (g.O.Sink.state c.args.out.now) (g.O.Sink.state c.serve-status.new.out)) (change (g.E.Sink.state c.args.err.now) (g.E.Sink.state c.serve-status.new.err))
+    (change (g.W.Spawner.state c.args.spawner.now) (g.W.Spawner.state c.serve-status.new.spawner)) in
+    let counted = c.conclusions_are_counted.ensures in
+    λ k asks. cluster_answers counted.unknown counted.well c.code.result k met c.serve-status.result c.code.ensures (c.serve-status.ensures.cluster k asks)
