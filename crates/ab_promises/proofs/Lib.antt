@@ -10,3 +10,10 @@ pub mod SmallCalls
 pub mod SmallCommits
 pub mod SmallLocks
 pub mod SmallBackups
+pub mod StatedOnce
+pub mod ChosenActs
+pub mod PreparedOnce
+pub mod CallKinds
+pub mod ActsAlone
+pub mod AllKinds
+pub mod Audited

@@ -13,7 +13,7 @@ use Rattle.ab_msg.specs.Slots.{slot_digest}
 use Rattle.ab_abs.specs.Faults.{is_faulty}
 use Rattle.ab_abs.specs.Values.{goes}
 use Rattle.ab_abs.specs.Acts.{Setting, Act, IsHonest, WasMade}
-use Rattle.ab_abs.specs.Kinds.{kind_in, limit_in}
+use Rattle.ab_abs.specs.Kinds.{is_backup, kind_in, limit_in}
 use Rattle.ab_abs.specs.OrderRules.{WasClaimed}
 use Rattle.ab_lock.specs.Acts.{Prepare, Commit as lock_commit}
 use Rattle.ab_lock.specs.Quorums.{IsCommitted, IsCertified}
@@ -21,7 +21,7 @@ use Rattle.ab_lock.specs.Steps.{signs}
 use Rattle.ab_lock.proofs.ActLemmas.{made_prepare, commits_in}
 use Rattle.ab_lock.proofs.Executed.{lock}
 use Rattle.ab_lock.proofs.Traces.{signs_once}
-use Rattle.ab_order.specs.Protos.{OrderProto, Obeys, is_backup, backup, backup_sound, backup_stands}
+use Rattle.ab_order.specs.Protos.{OrderProto, Obeys, backup, backup_sound, backup_stands}
 use Rattle.ab_order.proofs.ProtoLaws as laws
 use Rattle.ab_pbft_rules.specs.Traces.{OrderStep, IsSource, IsPbftSound}
 use Rattle.ab_pbft_rules.specs.Rules.{Pbft, pbft}

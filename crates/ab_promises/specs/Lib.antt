@@ -7,3 +7,5 @@ pub mod SmallCalls
 pub mod SmallCommits
 pub mod SmallLocks
 pub mod SmallBackups
+pub mod ReplicaActs
+pub mod AllKinds

@@ -1,11 +1,15 @@
-//! What each protocol promises by itself, and PBFT's lock said of lists of acts: laws alone.
+//! What each protocol promises by itself, PBFT's lock said of lists of acts, what a correct replica states once, and that no
+//! audit accuses it: laws alone.
 #![tactic(auto)]
 
+mod audits;
 mod examples;
 mod kinds;
 mod locks;
+mod once;
 mod own;
 
+pub use audits::runs_accuse_no_correct_replica;
 pub use examples::{
     four_replicas_answer, four_replicas_begin, three_replicas_commit, two_replicas_lock,
     two_replicas_prepare,
@@ -13,6 +17,10 @@ pub use examples::{
 pub use kinds::replicas_begin_and_stop;
 pub use locks::{
     pbft_locks_views, pbft_signs_once, prepared_values_lock, replicas_sign_once, runs_lock_views,
+};
+pub use once::{
+    calls_state_no_aborts, correct_replicas_act_by_themselves, correct_replicas_state_once,
+    lawful_replicas_abort_once, pbft_replicas_prepare_once,
 };
 pub use own::{
     backup_calls_are_abstract, chain_calls_are_abstract, own_calls_are_abstract,

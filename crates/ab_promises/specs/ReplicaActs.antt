@@ -1,0 +1,80 @@
+-- The acts of one replica in an instance, whatever the others do and whoever is faulty.
+use Rattle.std.specs.Prelude.{◌≡◌, ◌⊎◌, ℕ, ◌≤◌, Bool, true, false, IsTrue, List, [], ◌∷◌, Contains}
+use Rattle.ab_num.specs.declared.cluster.Cluster.{Cluster}
+use Rattle.ab_num.specs.declared.party.Party.TheVariants.{Replica}
+use Rattle.ab_num.specs.declared.plan.Kind.{Kind}
+use Rattle.ab_num.specs.Places.{kind_of}
+use Rattle.ab_hist.specs.declared.request.Request.{Request}
+use Rattle.ab_msg.specs.declared.content.Content.{Content}
+use Rattle.ab_msg.specs.declared.content.Content.TheVariants.{Abort, Prepare}
+use Rattle.ab_msg.specs.declared.message.Out.{Out}
+use Rattle.ab_msg.specs.Claims.{maker_of, instance_of, fresh}
+use Rattle.ab_msg.specs.Pens.{Pen}
+use Rattle.ab_abs.specs.declared.seen.Seen.{Seen}
+use Rattle.ab_abs.specs.declared.entry.Entry.{Entry}
+use Rattle.ab_abs.specs.Acts.{Act, Setting, MayStart, WasMade, setting, abort_of}
+use Rattle.ab_abs.specs.FormLaws.{Belongs}
+use Rattle.ab_abs.specs.Messages.{Call}
+use Rattle.ab_abs.specs.Ensembles.{Proto, MayTake, begin_of, asked_of, halt_of}
+
+-- the acts of replica r, the newest first, leave it with this value. It begins with whatever base; then it takes each call, or a stop, with
+-- the value that its earlier acts left; and once it is stopped it may make its ABORT
+pub data AreActsOf {P : Type 0} (proto : Proto P) (x : Setting) (r : ℕ) : List Act → P → Type 0 where
+  begins : (e : Entry) → MayStart x [] r e.base → AreActsOf proto x r (begin_of proto x r e ∷ []) (proto.begin x.cluster x.i r e)
+  takes : {acts : List Act} {p : P} (pen : Pen) (call : Call) (seen : List Seen) → AreActsOf proto x r acts p → MayTake proto x acts r pen p call seen
+      → AreActsOf proto x r (asked_of proto x r pen p call seen ∷ acts) (proto.after pen p call)
+  stops : {acts : List Act} {p : P} → AreActsOf proto x r acts p → AreActsOf proto x r (halt_of proto r p ∷ acts) (proto.halt p)
+  aborts : {acts : List Act} {p : P} → AreActsOf proto x r acts p → (proto.state p).stopped ≡ true → AreActsOf proto x r (abort_of x r (proto.state p).log ∷ acts) p
+
+-- the same of instance i of a cluster. Who else is faulty plays no part
+abbrev pub AreActsIn : {P : Type 0} → Proto P → Cluster → ℕ → ℕ → List Act → P → Type 0
+AreActsIn proto c i r acts p = AreActsOf proto (setting c [] i) r acts p
+
+-- the acts of each replica by itself keep the promise, in each instance whose kind is served
+abbrev pub ActsKeep : {P : Type 0} → Proto P → (Kind → Bool) → (ℕ → ℕ → List Act → Type 0) → Type 0
+ActsKeep {P} proto serves Promise = (c : Cluster) (i r : ℕ) (acts : List Act) (p : P) → IsTrue (serves (kind_of c.plan i)) → 1 ≤ i → AreActsIn proto c i r acts p → Promise i r acts
+
+-- ---- what is stated once
+
+abbrev pub is_abort : Content → Bool
+is_abort (Abort maker i h) = true
+is_abort _ = false
+
+abbrev pub is_prepare : Content → Bool
+is_prepare (Prepare maker i view slot x) = true
+is_prepare _ = false
+
+-- no call states such a content in what it sends
+abbrev pub StatesNone : {P : Type 0} → Proto P → (Kind → Bool) → (Content → Bool) → Type 0
+StatesNone {P} proto serves test =
+    (c : Cluster) (i r : ℕ) (pen : Pen) (p : P) (call : Call) (o : Out) (s : Content) → Belongs proto serves c i r p → Contains (proto.sends pen p call) o
+    → Contains (fresh c.f (Replica r) o.msg) s → test s ≡ false
+
+-- the ABORTs of replica r in instance i among these acts hold one history
+abbrev pub AbortsOnce : ℕ → ℕ → List Act → Type 0
+AbortsOnce i r acts = (g h : List Request) → WasMade acts (Abort (Replica r) i g) → WasMade acts (Abort (Replica r) i h) → g ≡ h
+
+-- its PREPAREs of a view and a slot there have one digest
+abbrev pub PreparesOnce : ℕ → ℕ → List Act → Type 0
+PreparesOnce i r acts = (v n : ℕ) (d e : List ℕ) → WasMade acts (Prepare (Replica r) i v n d) → WasMade acts (Prepare (Replica r) i v n e) → d ≡ e
+
+-- ---- in runs
+
+-- what replica r made in instance i is what its acts there made
+pub record HasActsIn {P : Type 0} (proto : Proto P) (c : Cluster) (i r : ℕ) (made : List Content) : Type 0 where
+  pub one : 1 ≤ i
+  pub acts : List Act
+  pub value : P
+  pub are : AreActsIn proto c i r acts value
+  pub said : (s : Content) → Contains made s → maker_of s ≡ Replica r → instance_of s ≡ i → WasMade acts s
+
+-- it made nothing there, or that
+abbrev pub ActsByItself : {P : Type 0} → Proto P → Cluster → ℕ → ℕ → List Content → Type 0
+ActsByItself proto c i r made = ((s : Content) → Contains made s → maker_of s ≡ Replica r → instance_of s ≡ i → ⊥) ⊎ HasActsIn proto c i r made
+
+-- what replica r made has one ABORT of an instance, and one PREPARE of an instance, a view and a slot
+abbrev pub AbortsOnceIn : List Content → ℕ → Type 0
+AbortsOnceIn made r = (i : ℕ) (g h : List Request) → Contains made (Abort (Replica r) i g) → Contains made (Abort (Replica r) i h) → g ≡ h
+
+abbrev pub PreparesOnceIn : List Content → ℕ → Type 0
+PreparesOnceIn made r = (i v n : ℕ) (d e : List ℕ) → Contains made (Prepare (Replica r) i v n d) → Contains made (Prepare (Replica r) i v n e) → d ≡ e
