@@ -36,7 +36,7 @@ def main():
     need("draw")
     end_in_order()
     differ = 0
-    for picture in sorted((TOP / "examples").glob("*.svg")):
+    for picture in sorted((TOP / "examples").rglob("*.svg")):
         drawing = drawn(picture)
         if make:
             replace(picture, drawing)

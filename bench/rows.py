@@ -3,8 +3,8 @@
 
 usage: rows.py [GROUP..]
 
-The rows are the cases of rows/ (rows/README.md says how they are stored), the schedules of examples/ with their reports, the pictures
-there, a cluster of five nodes, runs in which a call to the outside fails, and the names in docs/WHERE.md. Each case is run by the built
+The rows are the cases of rows/ (rows/README.md says how they are stored), the schedules of examples/ with their reports, the audits and
+the pictures there, clusters of five nodes, runs in which a call to the outside fails, and the names in docs/WHERE.md. Each case is run by the built
 program over streams of its own, and the status and both streams have to be those that are stored, byte for byte. What a second compiler
 built is run too, but not on groups that take it long. Storms are run twice. Rows go side by side on all processors. What is wrong is
 told with the first line that differs; then each group has a line, and the last line counts all. The words are the groups that are run;
@@ -13,14 +13,18 @@ without words all are. The failing calls need a C compiler."""
 import argparse
 import collections
 import concurrent.futures
+import contextlib
 import gzip
+import itertools
 import os
 import pathlib
 import re
 import shlex
+import signal
 import subprocess
 import sys
 import tempfile
+import time
 
 import cluster
 import fail_calls
@@ -29,7 +33,7 @@ from programs import TOP
 
 ROWS, EXAMPLES = TOP / "rows", TOP / "examples"
 PROGRAMS = ("abstract_bft", "draw", "storm_schedule")
-ENDINGS = ("sched", "sched.gz", "words", "node", "out", "err", "status")
+ENDINGS = ("sched", "sched.gz", "words", "node", "node.gz", "out", "err", "status")
 # The groups that take seconds a row, for signatures: these run by one build alone.
 LONG = ("storms", "limits", "hostile")
 SECONDS = 300
@@ -52,7 +56,7 @@ class Case:
         return shlex.split(words) or ["abstract_bft", "replay"]
 
     def given(self):
-        packed = self.part("sched.gz")
+        packed = self.part("sched.gz") or self.part("node.gz")
         return gzip.decompress(packed) if packed else self.part("sched") or self.part("node")
 
     def wanted(self):
@@ -124,18 +128,34 @@ def case_runs(group, found):
 
 
 def example_runs():
-    for path in sorted(EXAMPLES.glob("*.sched")):
+    for path in sorted(EXAMPLES.rglob("*.sched")):
         report = path.with_suffix(".report").read_bytes()
         wanted = 0 if b"\npremise held\n" in report else 1, report, b""
         for program in builds("abstract_bft"):
             yield Run("examples", path.stem, program, ["replay"], path.read_bytes(), wanted)
 
 
+def audit_runs():
+    """The audits of examples/audit."""
+    for path in sorted((EXAMPLES / "audit").glob("*.audit")):
+        report = path.with_suffix(".accused")
+        for program in builds("abstract_bft"):
+            yield Run("examples", report.name, program, ["audit"], path.read_bytes(), (1, report.read_bytes(), b""))
+
+
 def picture_runs():
-    for path in sorted(EXAMPLES.glob("*.svg")):
+    for path in sorted(EXAMPLES.rglob("*.svg")):
         schedule = path.with_suffix(".sched").read_bytes()
         for program in builds("draw"):
             yield Run("pictures", path.stem, program, [], schedule, (0, path.read_bytes(), b""))
+
+
+def way_checks():
+    """Whether the input of an audit is what audit_input.py makes of the key text and of the trace that stand beside it."""
+    folder = EXAMPLES / "audit"
+    made = subprocess.run([sys.executable, TOP / "bench" / "audit_input.py", folder / "c1.keys", folder / "c1.trace"], capture_output=True)
+    same = (made.returncode, made.stdout) == (0, (folder / "twins.audit").read_bytes())
+    yield "examples/audit: the input made of the trace", None if same else "it isn't the one that is stored"
 
 
 COMMANDS = [b"put color blue", b"get color", b"cas color blue green"]
@@ -170,8 +190,58 @@ def cluster_claims():
         yield "its premises held", "premise held" in report and not fault, report[-2:] + [fault]
 
 
+@contextlib.contextmanager
+def gathered(**asked):
+    """A cluster by the command `cluster`, with the same commands."""
+    run = cluster.Gathered(asked.pop("base", None) or cluster.free_base(), COMMANDS, **asked)
+    try:
+        yield run
+    finally:
+        run.stop()
+
+
+def gathered_claims():
+    """The same of clusters that the command `cluster` runs: one that nothing disturbs, one whose replica r2 has no port, one whose r2 is
+    killed, and one that is interrupted. A client may begin before the replicas are there, so its turns may be too few."""
+    with gathered(turns=200) as run:
+        told = [pathlib.Path(f"/proc/{pid}/cmdline").read_bytes() for pid in run.nodes()]
+        status, statuses, lines, said = run.ended()
+    words = b"\0".join(word.encode() for word in [str(cluster.PROGRAM), *run.node_words]) + b"\0"
+    yield "the words of each node are those of a node", set(told) == {words}, told
+    client = statuses.pop("c0", None)
+    yield "each replica ends with status 0", statuses == {"r0": "0", "r1": "0", "r2": "0", "r3": "0"}, statuses
+    yield "the client ends with 0 or 8, and the command with 0 or 1", (client, status) in (("0", 0), ("8", 1)), (client, status)
+    replies = [" ".join(line.split(" ")[4:]) for line in lines if line.startswith("reply ")]
+    wanted = [reply for _, _, _, reply in REPLIES]
+    good = replies == wanted[: len(replies)] and (client == "8" or replies == wanted)
+    yield "the client's replies are those of the commands", good, lines
+    yield "nothing is said but by the client", said == ("" if client == "0" else f"turns spent {3 - len(replies)}\n"), said
+
+    base = cluster.free_base()
+    with cluster.bound(base + 2), gathered(base=base) as run:
+        status, statuses, lines, said = run.ended()
+    good = (status, statuses.get("r2")) == (1, "6") and "link fault\n" in said
+    yield "a replica without a port ends with 6", good, (status, statuses, said)
+
+    with gathered() as run:
+        os.kill(run.nodes()[2], signal.SIGKILL)
+        status, statuses, lines, said = run.ended()
+    good = (status, statuses.get("r2")) == (12, "none") and said.endswith("child fault\n")
+    yield "a replica that is killed has no status", good, (status, statuses, said)
+
+    with gathered() as run:
+        pids = [run.process.pid, *run.nodes()]
+        os.killpg(run.process.pid, signal.SIGINT)
+        run.process.wait(SECONDS)
+        end = time.monotonic() + 10
+        while any(map(cluster.is_there, pids)) and time.monotonic() < end:
+            time.sleep(0.01)
+        left = [pid for pid in pids if cluster.is_there(pid)]
+    yield "an interrupt ends all nodes", not left, left
+
+
 def cluster_checks():
-    for claim, good, found in cluster_claims():
+    for claim, good, found in itertools.chain(cluster_claims(), gathered_claims()):
         yield f"cluster: {claim}", None if good else f"not so: {found}"
 
 
@@ -206,6 +276,7 @@ def runs():
     for group in sorted(found, key=lambda group: (group not in LONG, group)):
         yield from case_runs(group, found[group])
     yield from example_runs()
+    yield from audit_runs()
     yield from picture_runs()
 
 
@@ -222,7 +293,7 @@ def answered(checks):
 
 def checked(names):
     """Yields group, name and difference of all that is run."""
-    checks = {"tables": table_checks(cases()), "where": where.checks(), "cluster": cluster_checks(), "calls": call_checks()}
+    checks = {"tables": table_checks(cases()), "where": where.checks(), "cluster": cluster_checks(), "calls": call_checks(), "way": way_checks()}
     with concurrent.futures.ThreadPoolExecutor(os.cpu_count() + len(checks)) as lanes:
         several = {group: lanes.submit(answered, them) for group, them in checks.items() if not names or group in names}
         chosen = [run for run in runs() if not names or run.group in names]
