@@ -32,7 +32,13 @@ fn network(rt: &HostRuntime) -> Result<(UdpLink<HostRuntime>, StdClock<HostRunti
 fn spawner(rt: &HostRuntime) -> io::Result<ProcSpawner<HostRuntime>>
     ensures { IfOk result (λ s. s ≡ 0) }
 {
-    Ok(ProcSpawner::new(rt.alloc(), rt.clone()?, program(rt)?))
+    let name = match program(rt) {
+        Ok(name) => name,
+        // Then the words are no command, and nothing is started.
+        Err(fault) if fault.kind() == io::ErrorKind::InvalidData => String::new(rt.alloc()),
+        Err(fault) => return Err(fault),
+    };
+    Ok(ProcSpawner::new(rt.alloc(), rt.clone()?, name))
 }
 
 fn main(rt: HostRuntime) -> ExitCode {
