@@ -75,19 +75,27 @@ class Cluster:
         self.lines = self.folder / "lines"
         self.lines.touch()
         self.nodes = {}
+        # The folder of the nodes' journals. Without it they have none.
+        self.journals = None
 
     def set_up(self, party, commands=()):
         """Writes the text that sets up a party, so that nothing waits for this script later."""
         text = self.keys(party) + b"".join(b"do %s\n" % it for it in commands) + b"end\n"
         (self.folder / party).write_bytes(text)
 
+    def folder_of(self, party):
+        """The folder of this party's journal."""
+        return self.journals
+
     def start(self, party, turns, wait):
         words = ["node", "--base", self.asked.base, "--wait", wait, "--turns", turns]
         if not self.asked.quiet:
             words.append("--trace")
+        if self.journals:
+            words += ["--journal", party]
         with (self.folder / party).open("rb") as given, self.lines.open("ab") as taken:
             self.nodes[party] = subprocess.Popen(
-                [PROGRAM, *map(str, words)], stdin=given, stdout=taken, stderr=subprocess.PIPE
+                [PROGRAM, *map(str, words)], stdin=given, stdout=taken, stderr=subprocess.PIPE, cwd=self.folder_of(party)
             )
 
     def keys(self, party):
@@ -166,10 +174,12 @@ class Gathered:
         self.process.stdin = None
 
     def nodes(self):
-        """The processes of its nodes, in the order in which they were started, once all are there."""
+        """The processes of its nodes, in the order in which they were started, once all are there. Until a child runs its program, its words
+        are the launcher's."""
         path = pathlib.Path(f"/proc/{self.process.pid}/task/{self.process.pid}/children")
+        launcher = words_of(self.process.pid)
         end = time.monotonic() + SECONDS
-        while len(found := path.read_text().split()) <= REPLICAS:
+        while len(found := path.read_text().split()) <= REPLICAS or launcher in map(words_of, found):
             if end < time.monotonic():
                 raise TimeoutError(f"{len(found)} nodes were started")
             time.sleep(0.01)
@@ -187,6 +197,14 @@ class Gathered:
         with contextlib.suppress(ProcessLookupError):
             os.killpg(self.process.pid, signal.SIGKILL)
         self.process.wait()
+
+
+def words_of(pid):
+    """The words of a process, each ended by a zero byte. One that has ended has none."""
+    try:
+        return pathlib.Path(f"/proc/{pid}/cmdline").read_bytes()
+    except FileNotFoundError:
+        return b""
 
 
 def is_there(pid):

@@ -1,13 +1,15 @@
 #!/usr/bin/env python3
 """Runs the built program again and again, and lets one call to the outside fail in each: the first, the second and the last read
-of the input, write of the output, write of the faults' output, opening of the port, wait for a datagram and sending of one.
+of the input, write of the output, write of the faults' output, opening of the port, wait for a datagram and sending of one; and, of a
+node with a journal, each write, each read and each sync of the journal.
 
 usage: fail_calls.py
 
 Each run has to end as the table of statuses says, with the text of its status, and with a front of what it writes without
-the fault. A datagram that couldn't be sent is a loss, and the node goes on. What is otherwise is told, and the status is then
-1. It needs a C compiler."""
+the fault. A datagram that couldn't be sent is a loss, and the node goes on. Once a call of the journal failed, nothing is sent, and
+another run goes on with the journal that is left. What is otherwise is told, and the status is then 1. It needs a C compiler."""
 
+import itertools
 import pathlib
 import sys
 import tempfile
@@ -26,8 +28,8 @@ FAILER = r"""
 #include <sys/socket.h>
 #include <sys/uio.h>
 #include <unistd.h>
-enum { IN, OUT, ERR, OPEN, RECV, SEND, KINDS };
-static const char *names[KINDS] = { "in", "out", "err", "open", "recv", "send" };
+enum { IN, OUT, ERR, OPEN, RECV, SEND, SYNC, PUT, GET, KINDS };
+static const char *names[KINDS] = { "in", "out", "err", "open", "recv", "send", "sync", "put", "get" };
 static long counts[KINDS];
 static int fails(int kind) {
     const char *which = getenv("FAIL_KIND"), *number = getenv("FAIL_NUMBER");
@@ -61,18 +63,41 @@ ssize_t sendto(int fd, const void *b, size_t n, int flags, const struct sockaddr
     if (fails(SEND)) { errno = EPERM; return -1; }
     return real(fd, b, n, flags, a, l);
 }
+int fsync(int fd) {
+    REAL(fsync);
+    if (fails(SYNC)) { errno = EIO; return -1; }
+    return real(fd);
+}
+int fdatasync(int fd) {
+    REAL(fdatasync);
+    if (fails(SYNC)) { errno = EIO; return -1; }
+    return real(fd);
+}
+ssize_t pwrite(int fd, const void *b, size_t n, off_t at) {
+    REAL(pwrite);
+    if (fails(PUT)) { errno = ENOSPC; return -1; }
+    return real(fd, b, n, at);
+}
+ssize_t pread(int fd, void *b, size_t n, off_t at) {
+    REAL(pread);
+    if (fails(GET)) { errno = EIO; return -1; }
+    return real(fd, b, n, at);
+}
 __attribute__((destructor)) static void tell(void) {
     const char *path = getenv("COUNTS");
     FILE *f;
     if (path && (f = fopen(path, "w"))) { for (int i = 0; i < KINDS; i++) fprintf(f, "%ld ", counts[i]); fclose(f); }
 }
 """
-KINDS = ("in", "out", "err", "open", "recv", "send")
+KINDS = ("in", "out", "err", "open", "recv", "send", "sync", "put", "get")
+DISK = ("sync", "put", "get")
 # What a run of each of these calls at least once.
 CALLED = {"replay": {"in", "out"}, "replay, a bad line": {"in", "err"}, "keys": {"out"}, "node": {"in", "out", "err", "open", "recv", "send"}}
+JOURNAL = "node with a journal"
 KEYS = ["keys", *"--plan quorum --f 1 --clients 1 --service kv --lms 5 --party c0 --seed".split(), SEED]
 # It waits so long that no timer runs out before the wait does, however busy the machine is.
 NODE = ["node", *"--wait 500 --turns 3 --base".split()]
+KEPT = ["node", *"--wait 500 --turns 1 --base".split()]
 
 
 def wanted(kind, good, failed):
@@ -101,15 +126,49 @@ def commands():
     yield "node", [*NODE, str(free_base())], node
 
 
+def tried_journals(folder, library, counts):
+    """The same of a node with a journal whose calls of the journal fail. Each run has a journal of its own."""
+    text, numbers, base = ran(KEYS)[1] + b"do put a 1\nend\n", itertools.count(1), str(free_base())
+
+    def run(number, **environment):
+        return ran([*KEPT, base, "--journal", f"journal{number}"], text, folder=folder, **environment)
+
+    def counted(number, **environment):
+        """How a run ends, and its calls of each kind."""
+        ended = run(number, LD_PRELOAD=library, COUNTS=str(counts), **environment)
+        return ended, dict(zip(KINDS, map(int, counts.read_text().split())))
+
+    first = next(numbers)
+    good, made = counted(first)
+    yield f"{JOURNAL}, no call fails", None if good == (8, b"end 1 4 0 0\n", b"turns spent 1\n") else f"{good}"
+    again, read = counted(first)
+    yield f"{JOURNAL}, again", None if again == (8, b"end 1 0 0 0\n", b"turns spent 1\n") else f"{again}"
+    made["get"] = read["get"]
+    yield f"{JOURNAL}, calls", None if all(made[kind] for kind in DISK) else f"it never called one of these: {made}"
+    for kind in DISK:
+        for call in range(1, made[kind] + 1):
+            # A journal that was written is read, and a new one is written.
+            number = first if kind == "get" else next(numbers)
+            failed, calls = counted(number, FAIL_KIND=kind, FAIL_NUMBER=str(call))
+            as_wanted = (*failed, calls["send"]) == (10, b"", b"disk fault\n", 0)
+            yield f"{JOURNAL}, {kind} {call} of {made[kind]}", None if as_wanted else f"{failed}, {calls['send']} datagrams were sent"
+            # The event was kept, and isn't done again; or it wasn't, and is done now.
+            after = run(number)
+            yield f"{JOURNAL}, after {kind} {call} of {made[kind]}", None if after in (good, again) else f"{after}"
+
+
 def tried(folder):
     """Yields, of each run in which a call fails, its name, and how it ended if not as it has to, else None."""
     folder = pathlib.Path(folder)
     library, counts = built(folder, FAILER), folder / "counts"
+    yield from tried_journals(folder, library, counts)
     for name, words, text in commands():
         good = ran(words, text, LD_PRELOAD=library, COUNTS=str(counts))
         made = [int(count) for count in counts.read_text().split()]
         uncalled = CALLED[name] - {kind for kind, last in zip(KINDS, made) if last}
         yield f"{name}, calls", f"it never called {', '.join(sorted(uncalled))}" if uncalled else None
+        touched = {kind for kind, last in zip(KINDS, made) if last and kind in DISK}
+        yield f"{name}, no journal", f"it called a disk: {', '.join(sorted(touched))}" if touched else None
         for kind, last in zip(KINDS, made):
             for number in sorted({1, 2, last} & set(range(1, last + 1))):
                 failed = ran(words, text, LD_PRELOAD=library, FAIL_KIND=kind, FAIL_NUMBER=str(number))

@@ -26,9 +26,10 @@ def need(*names, by="./build"):
         sys.exit(f"not built: {', '.join(missing)}; {by} builds what is missing")
 
 
-def ran(words, given=b"", program=PROGRAM, seconds=600, **environment):
-    """The status of a program, and what it writes and says."""
-    done = subprocess.run([program, *words], input=given, capture_output=True, env={**os.environ, **environment}, timeout=seconds)
+def ran(words, given=b"", program=PROGRAM, seconds=600, folder=None, **environment):
+    """The status of a program that runs in this folder, and what it writes and says."""
+    every = {**os.environ, **environment}
+    done = subprocess.run([program, *words], input=given, capture_output=True, env=every, timeout=seconds, cwd=folder)
     return done.returncode, done.stdout, done.stderr
 
 

@@ -4,11 +4,11 @@
 usage: rows.py [GROUP..]
 
 The rows are the cases of rows/ (rows/README.md says how they are stored), the schedules of examples/ with their reports, the audits and
-the pictures there, clusters of five nodes, runs in which a call to the outside fails, and the names in docs/WHERE.md. Each case is run by the built
-program over streams of its own, and the status and both streams have to be those that are stored, byte for byte. What a second compiler
-built is run too, but not on groups that take it long. Storms are run twice. Rows go side by side on all processors. What is wrong is
-told with the first line that differs; then each group has a line, and the last line counts all. The words are the groups that are run;
-without words all are. The failing calls need a C compiler."""
+the pictures there, clusters of five nodes, nodes with journals, runs in which a call to the outside fails, and the names in
+docs/WHERE.md. Each case is run by the built program over streams of its own, and the status and both streams have to be those that are
+stored, byte for byte. What a second compiler built is run too, but not on groups that take it long. Storms are run twice. Rows go side by
+side on all processors. What is wrong is told with the first line that differs; then each group has a line, and the last line counts all.
+The words are the groups that are run; without words all are. The failing calls need a C compiler."""
 
 import argparse
 import collections
@@ -28,6 +28,7 @@ import time
 
 import cluster
 import fail_calls
+import journal_rows
 import where
 from programs import TOP
 
@@ -138,9 +139,10 @@ def example_runs():
 def audit_runs():
     """The audits of examples/audit."""
     for path in sorted((EXAMPLES / "audit").glob("*.audit")):
-        report = path.with_suffix(".accused")
-        for program in builds("abstract_bft"):
-            yield Run("examples", report.name, program, ["audit"], path.read_bytes(), (1, report.read_bytes(), b""))
+        for words, ending in ((["audit"], ".accused"), (["audit", "--why"], ".why")):
+            report = path.with_suffix(ending)
+            for program in builds("abstract_bft"):
+                yield Run("examples", report.name, program, words, path.read_bytes(), (1, report.read_bytes(), b""))
 
 
 def picture_runs():
@@ -204,7 +206,7 @@ def gathered_claims():
     """The same of clusters that the command `cluster` runs: one that nothing disturbs, one whose replica r2 has no port, one whose r2 is
     killed, and one that is interrupted. A client may begin before the replicas are there, so its turns may be too few."""
     with gathered(turns=200) as run:
-        told = [pathlib.Path(f"/proc/{pid}/cmdline").read_bytes() for pid in run.nodes()]
+        told = [cluster.words_of(pid) for pid in run.nodes()]
         status, statuses, lines, said = run.ended()
     words = b"\0".join(word.encode() for word in [str(cluster.PROGRAM), *run.node_words]) + b"\0"
     # A node that has ended has no words.
@@ -295,6 +297,7 @@ def answered(checks):
 def checked(names):
     """Yields group, name and difference of all that is run."""
     checks = {"tables": table_checks(cases()), "where": where.checks(), "cluster": cluster_checks(), "calls": call_checks(), "way": way_checks()}
+    checks["journals"] = journal_rows.checks()
     with concurrent.futures.ThreadPoolExecutor(os.cpu_count() + len(checks)) as lanes:
         several = {group: lanes.submit(answered, them) for group, them in checks.items() if not names or group in names}
         chosen = [run for run in runs() if not names or run.group in names]

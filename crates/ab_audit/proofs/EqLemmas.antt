@@ -1,8 +1,7 @@
 -- Two accusations are compared part by part.
-use Rattle.std.proofs.Common.{◌≡◌, ℕ, ◌==◌, ◌&&◌, ◌||◌, Bool, true, false, List, ◌++◌, ◌∷◌, [], Option, if◌then◌else◌, nat_eq, refl, ap, ◌∙◌, inl, inr, sym, subst, arith}
+use Rattle.std.proofs.Common.{◌≡◌, ℕ, ◌==◌, ◌&&◌, Bool, true, List, ◌∷◌, [], refl, ap, ◌∙◌, inl, inr, sym, subst, arith}
 use Rattle.std.specs.List.{list_any, Contains}
-use Rattle.std.specs.Map.{lookup}
-use Rattle.std.proofs.lemmas.Bool.{cases_Bool, false≢true, eqb-true, and_parts, or_cases, or_right}
+use Rattle.std.proofs.lemmas.Bool.{false≢true, eqb-true, and_parts, or_cases, or_right}
 use Rattle.std.proofs.lemmas.Bool.Decides.{nat_tests}
 use Rattle.ab_num.proofs.Lists.{Contains-none, Contains-cons_cases, Contains-head}
 use Rattle.ab_audit.specs.declared.accusation.Accusation.{Accusation}

@@ -5,7 +5,7 @@ pub mod SubjectLemmas
 pub mod KeptLemmas
 pub mod StatementLemmas
 pub mod NewsLemmas
-pub mod ExactLemmas
+pub mod EvidenceLemmas
 pub mod OnceLemmas
 pub mod AccusedLemmas
 pub mod TellingLemmas

@@ -1,5 +1,5 @@
 -- Lists that are put together of parts.
-use Rattle.std.proofs.Common.{◌≡◌, ℕ, suc, ◌+◌, ◌<◌, Bool, true, ◌||◌, List, [], ◌∷◌, ◌++◌, length, ap, sym, ◌∙◌, refl, arith}
+use Rattle.std.proofs.Common.{◌≡◌, suc, Bool, true, ◌||◌, List, [], ◌∷◌, ◌++◌, map, ap, sym, ◌∙◌, refl, arith}
 use Rattle.std.specs.List.{Contains, filter, flat_map}
 use Rattle.std.proofs.lemmas.Grind.{flat_map-append}
 use Rattle.std.proofs.lemmas.List.Elements.{filter-append}
@@ -18,6 +18,10 @@ filter-flat_map p f (x ∷ xs) = ap (λ l. filter p (f x) ++ l) (filter-flat_map
 pub flat_map-twice : {A B C : Type 0} (g : B → List C) (f : A → List B) (xs : List A) → flat_map (λ x. flat_map g (f x)) xs ≡ flat_map g (flat_map f xs)
 flat_map-twice g f [] = refl
 flat_map-twice g f (x ∷ xs) = ap (λ l. flat_map g (f x) ++ l) (flat_map-twice g f xs) ∙ sym (flat_map-append g (f x) (flat_map f xs))
+
+pub flat_map-map : {A B C : Type 0} (g : B → List C) (f : A → B) (xs : List A) → flat_map g (map f xs) ≡ flat_map (λ x. g (f x)) xs
+flat_map-map g f [] = refl
+flat_map-map g f (x ∷ xs) = ap (λ l. g (f x) ++ l) (flat_map-map g f xs)
 
 -- ---- tests
 

@@ -12,7 +12,7 @@ use Rattle.ab_msg.specs.declared.message.Offer.{Offer}
 use Rattle.ab_msg.specs.declared.message.Offer.TheVariants as offer
 use Rattle.ab_msg.specs.Claims.{maker_of, instance_of, ordered, chain_claims}
 use Rattle.ab_msg.specs.Certs.{entries_of}
-use Rattle.ab_check.specs.Checks.{Check, tagged, tag_between, aborts_checks, slot_checks, slots_checks, proof_checks, all_checks, offer_checks, checks_of}
+use Rattle.ab_check.specs.Checks.{tagged, tag_between, aborts_checks, slot_checks, slots_checks, proof_checks, all_checks, offer_checks, checks_of}
 use Rattle.ab_audit.specs.Statements.{Statement, change_statements, offer_statements, prepare_by, prepares_behind, signed_at, statement_of, statements_in}
 
 tagged-none : (t : Content → Option (List ℕ)) (cs : List Content) → flat_map signed_at (map (λ c. tagged c (t c)) cs) ≡ []

@@ -1,5 +1,5 @@
 -- What is told of the text of an audit.
-use Rattle.std.specs.Prelude.{◌≡◌, ◌↔◌, ℕ, List, Bool, true, false, IsTrue, Result, Ok, Err, Contains, count_by, length, map}
+use Rattle.std.specs.Prelude.{◌≡◌, ◌↔◌, ℕ, List, [], Bool, true, false, IsTrue, Result, Ok, Err, Contains, count_by, length, map}
 use Rattle.std.specs.List.{IsDistinct}
 use Rattle.std.specs.List.Sorted.{IsNonDecreasingBy}
 use Rattle.ab_form.specs.declared.bad.Bad.{Bad}
@@ -11,6 +11,8 @@ use Rattle.ab_text.specs.Lines.{lines_of}
 use Rattle.ab_audit_text.specs.Texts.{AuditText, audit_in}
 use Rattle.ab_audit.specs.declared.accusation.Accusation.{Accusation}
 use Rattle.ab_audit.specs.Accusations.{IsAccused, accusation_eq, rank}
+use Rattle.ab_audit.specs.Exhibits.{evidence}
+use Rattle.ab_audit.specs.Kept.{Finding, finding_of}
 use Rattle.ab_audit.specs.Reports.{report_text}
 
 abbrev pub is_none : Result Msg Bad → Bool
@@ -38,11 +40,16 @@ pub record AreAllOf (t : AuditText) (listed : List Accusation) : Type 0 where
 abbrev pub Accuses : AuditText → Type 0
 Accuses t = (a : Accusation) × IsAccusedIn t a
 
--- the text is that of an audit, this is its report, and it says whether someone is accused
-pub record Audits (text report : List ℕ) (accuses : Bool) : Type 0 where
+-- what stands behind an accusation: what shows it, if the report tells why
+abbrev pub told_why : Bool → AuditText → Accusation → List Finding
+told_why false t a = []
+told_why true t a = map finding_of (evidence (keys_in t) t.messages a)
+
+-- the text is that of an audit, this is its report, which may tell why, and it says whether someone is accused
+pub record Audits (why : Bool) (text report : List ℕ) (accuses : Bool) : Type 0 where
   pub audit : AuditText
   pub reads : audit_in (lines_of text) ≡ Ok audit
   pub listed : List Accusation
   pub accused : AreAllOf audit listed
-  pub reports : report ≡ report_text listed (length audit.messages) (count_by is_bad audit.messages)
+  pub reports : report ≡ report_text (told_why why audit) listed (length audit.messages) (count_by is_bad audit.messages)
   pub says : IsTrue accuses ↔ Accuses audit

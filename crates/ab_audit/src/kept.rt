@@ -1,71 +1,72 @@
-//! What is kept of statements: the first bytes of each subject, and the subjects of which there are others.
+//! What is kept of statements: the first content that is found about each subject, and the first other one.
 
-ghost use Rattle.std.specs.Prelude.{◌≡◌, ◌+◌, ◌<◌, ◌≤◌, length, IfOk};
+ghost use Rattle.std.specs.Prelude.{◌≡◌, ◌+◌, ◌<◌, ◌≤◌, length, map, IfOk};
 ghost use Rattle.std.specs.Str.{bytes_eq};
-ghost use Rattle.ab_audit.specs.Kept.{is_known, keep, keep_all, kept_in, notes_in};
+ghost use Rattle.ab_audit.specs.Kept.{accused_in, is_known, keep, keep_all, kept_in, note_in, notes_in};
 ghost use Rattle.indexmap.specs.IndexMap.{spare};
-ghost use Rattle.indexmap.specs.IndexSet.{spare as set_spare};
 
 use crate::accusation::Accusation;
 use ab_num::OutOfMemory;
-use indexmap::{IndexMap, IndexSet};
+use indexmap::IndexMap;
 use std::alloc::Global;
 
-/// The bytes of a content.
+/// A content that is found: the number of its message, its bytes, and what it says in words.
 #[derive(Drop)]
-pub(crate) struct Text {
-    pub(crate) bytes: Vec<u8>,
+pub(crate) struct Found {
+    pub(crate) number: u64,
+    pub(crate) text: Vec<u8>,
+    pub(crate) words: Vec<u8>,
 }
 
-impl Text {
-    fn is(&self, bytes: &[u8]) -> bool
-        ensures { result ≡ bytes_eq self.now.bytes.items bytes.now }
+impl Found {
+    fn is(&self, text: &[u8]) -> bool
+        ensures { result ≡ bytes_eq self.now.text.items text.now }
     {
-        self.bytes.as_slice() == bytes
+        self.text.as_slice() == text
     }
 }
 
 /// Whether there is nothing to learn from these bytes: they came before, or their maker is accused by others.
 pub(crate) fn is_known(
-    first: &IndexMap<Accusation, Text>,
-    accused: &IndexSet<Accusation>,
+    first: &IndexMap<Accusation, Found>,
+    others: &IndexMap<Accusation, Found>,
     about: &Accusation,
-    bytes: &[u8],
+    text: &[u8],
 ) -> bool
-    ensures { result ≡ is_known (kept_in first.now.entries accused.now.keys) (about.now, bytes.now) }
+    ensures { result ≡ is_known (kept_in first.now.entries others.now.entries) about.now text.now }
 {
-    if accused.contains(about) {
+    if others.contains_key(about) {
         return true;
     }
     match first.get(about) {
-        Some(known) => known.is(bytes),
+        Some(known) => known.is(text),
         None => false,
     }
 }
 
-/// Keeps the bytes of a content, for which there is room.
+/// Keeps what was found, for which there is room.
 pub(crate) fn keep(
-    first: &mut IndexMap<Accusation, Text>,
-    accused: &mut IndexSet<Accusation>,
+    first: &mut IndexMap<Accusation, Found>,
+    others: &mut IndexMap<Accusation, Found>,
     about: Accusation,
-    text: Text,
+    found: Found,
 )
     requires room { 0 < spare first.old }
-    requires accused_room { 0 < set_spare accused.old }
-    ensures kept { kept_in first.new.entries accused.new.keys ≡ keep (kept_in first.old.entries accused.old.keys) (about, text.bytes.items) }
+    requires others_room { 0 < spare others.old }
+    ensures kept { kept_in first.new.entries others.new.entries ≡ keep (kept_in first.old.entries others.old.entries) (note_in (about, found)) }
     ensures room { spare first.old ≤ spare first.new + 1 }
-    ensures accused_room { set_spare accused.old ≤ set_spare accused.new + 1 }
+    ensures others_room { spare others.old ≤ spare others.new + 1 }
 {
-    if is_known(first, accused, &about, text.bytes.as_slice()) {
+    if is_known(first, others, &about, found.text.as_slice()) {
         return;
     }
     if first.contains_key(&about) {
-        match accused.insert(about) {
+        match others.insert(about, found) {
             Ok(_) => {}
             Err(_) => unreachable!(),
         }
     } else {
-        match first.insert(about, text) {
+        match first.insert(about, found) {
             Ok(_) => {}
             Err(_) => unreachable!(),
         }
@@ -74,29 +75,29 @@ pub(crate) fn keep(
 
 /// Keeps these, for which there is room.
 pub(crate) fn keep_all(
-    first: &mut IndexMap<Accusation, Text>,
-    accused: &mut IndexSet<Accusation>,
-    news: Vec<(Accusation, Text)>,
+    first: &mut IndexMap<Accusation, Found>,
+    others: &mut IndexMap<Accusation, Found>,
+    news: Vec<(Accusation, Found)>,
 )
     requires room { length news.items ≤ spare first.old }
-    requires accused_room { length news.items ≤ set_spare accused.old }
-    ensures { kept_in first.new.entries accused.new.keys ≡ keep_all (kept_in first.old.entries accused.old.keys) (notes_in news.items) }
+    requires others_room { length news.items ≤ spare others.old }
+    ensures { kept_in first.new.entries others.new.entries ≡ keep_all (kept_in first.old.entries others.old.entries) (notes_in news.items) }
 {
     'news: for note in news {
-        keep(first, accused, note.0, note.1);
+        keep(first, others, note.0, note.1);
     }
 }
 
-/// All of these, in their order.
-pub(crate) fn all_of(
+/// The subjects about which there are others, in their order.
+pub(crate) fn subjects_of(
     alloc: Global,
-    accused: &IndexSet<Accusation>,
+    others: &IndexMap<Accusation, Found>,
 ) -> Result<Vec<Accusation>, OutOfMemory>
-    ensures { IfOk result (λ v. v.items ≡ accused.now.keys) }
+    ensures { IfOk result (λ v. v.items ≡ map (λ e. e.0) others.now.entries) }
 {
-    let mut all = Vec::with_capacity(alloc, accused.len())?;
-    'accused: for accusation in accused.iter() {
-        all.push(*accusation)?;
+    let mut subjects = Vec::with_capacity(alloc, others.len())?;
+    'others: for subject in others.keys() {
+        subjects.push(*subject)?;
     }
-    Ok(all)
+    Ok(subjects)
 }

@@ -9,11 +9,15 @@ mod laws;
 mod report;
 mod subject;
 mod telling;
+mod tried;
+mod verdict;
+mod words;
 
 pub use accusation::Accusation;
 pub use added::Added;
 pub use audit::Audit;
 pub use laws::{
-    audits_accuse_contradictions, correct_replicas_are_not_accused, signed_statements_are_checked,
+    audits_accuse_contradictions, correct_replicas_are_not_accused, evidence_contradicts,
+    signed_statements_are_checked,
 };
 pub use telling::{Audited, audit_text};

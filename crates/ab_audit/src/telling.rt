@@ -30,8 +30,8 @@ fn add_all(alloc: Global, audit: &mut Audit, messages: &[Items<u8>]) -> Result<u
     ensures bad { IfOk result (λ n. n ≡ count_by is_bad messages.now) }
 {
     let mut bad = 0;
-    'messages: for message in messages {
-        match audit.add(alloc, message.as_slice())? {
+    'messages: for (index, message) in messages.iter().enumerate() {
+        match audit.add(alloc, index as u64 + 1, message.as_slice())? {
             Added::Taken => {}
             Added::Bad(_) => bad += 1,
         }
@@ -39,11 +39,11 @@ fn add_all(alloc: Global, audit: &mut Audit, messages: &[Items<u8>]) -> Result<u
     Ok(bad)
 }
 
-/// Audits the messages of a text. A bad line is the first that isn't as stated; if the text ends before its end,
-/// that line is missing.
-pub fn audit_text(alloc: Global, text: &[u8]) -> Result<Audited, NodeFault>
+/// Audits the messages of a text. If asked `why`, the report tells which messages show each accusation. A bad line is
+/// the first that isn't as stated; if the text ends before its end, that line is missing.
+pub fn audit_text(alloc: Global, text: &[u8], why: bool) -> Result<Audited, NodeFault>
     requires { length text.now < 2 ^ 31 }
-    ensures ok { IfOk result (λ a. Audits text.now a.report.items a.accuses) }
+    ensures ok { IfOk result (λ a. Audits why text.now a.report.items a.accuses) }
     ensures cause { IfErr result (λ e. Fails e (audit_in (lines_of text.now))) }
 {
     let input = read_audit(alloc, text)?;
@@ -54,7 +54,7 @@ pub fn audit_text(alloc: Global, text: &[u8]) -> Result<Audited, NodeFault>
     let bad = add_all(alloc, &mut audit, messages)?;
     let accused = audit.accusations(alloc)?;
     let listed = accused.as_slice();
-    let report = report_of(alloc, listed, messages.len() as u64, bad)?;
+    let report = report_of(alloc, &audit, why, listed, messages.len() as u64, bad)?;
     Ok(Audited {
         report,
         accuses: !listed.is_empty(),

@@ -8,6 +8,8 @@ mod digests;
 #[cfg(test)]
 mod echo;
 #[cfg(test)]
+mod files;
+#[cfg(test)]
 mod histories;
 #[cfg(test)]
 mod numbers;

@@ -1,7 +1,9 @@
 //! Certificates, as a client keeps and finds them.
 
-ghost use Rattle.std.specs.Prelude.{◌≡◌, ◌<◌, ◌≤◌, All, length, nat_lt, ◌==◌, ◌↔◌, ◌⊎◌, IsTrue, IsNone, IfSome, IfOk, OnOk, OnErr};
+ghost use Rattle.std.specs.Prelude.{◌≡◌, ◌<◌, ◌≤◌, All, length, nat_lt, ◌==◌, ◌↔◌, ◌⊎◌, IsTrue, IsNone, IfSome, IfOk, OnOk, OnErr, slice_get};
 ghost use Rattle.std.specs.List.{filter, insert, list_all, list_any};
+ghost use Rattle.std.specs.Option.{option_map};
+ghost use Rattle.ab_form.specs.Readers.{listed};
 ghost use Rattle.ab_msg.specs.declared.signed.Signed.{Signed as SignedContent};
 ghost use Rattle.ab_msg.specs.Contents.{IsAbort};
 ghost use Rattle.ab_msg.specs.Certs.{IsSigned};
@@ -12,36 +14,42 @@ ghost use Rattle.ab_run.specs.Clients.{keep, own_cert, same_list};
 
 use ab_abs::needs_equal;
 use ab_extract::{CertFault, certificates_with_histories_are_sound, check, is_same};
-use ab_form::{ListRef, Part, own_list};
+use ab_form::{ListRef, Part};
 use ab_hist::History;
 use ab_msg::{AbortCert, Content, Copied, Signed};
 use ab_num::{Cluster, Kind, OutOfMemory};
 use ab_wire::SignedRef;
 use std::alloc::Global;
 
-/// The instance of a certificate, which its first ABORT names, and a copy of it. None exactly where it
-/// is of an instance before `at` or of the last one; then nothing is copied.
-pub(crate) fn timely<'a>(
-    alloc: Global,
-    at: u32,
-    cert: ListRef<'a, SignedRef<'a>>,
-) -> Result<Option<(u32, AbortCert)>, OutOfMemory>
-    requires { 1 ≤ at }
-    ensures some { IfOk result (λ o. IfSome o (λ x. (x.0 ≡ cert_instance (aborts cert.entry)) × (x.1 ≡ aborts cert.entry) × (at ≤ x.0) × (x.0 < 4294967295))) }
-    ensures none { IfOk result (λ o. IsNone o → (cert_instance (aborts cert.entry) < at) ⊎ (4294967295 ≤ cert_instance (aborts cert.entry))) }
+/// The first part of a list.
+fn first_of<'a, P: Part<'a>>(list: &ListRef<'a, P>) -> Option<P>
+    ensures { option_map P.seen result ≡ slice_get (listed P.reader list.now.count list.now.bytes.now) 0 }
 {
-    let mut rest = cert;
-    let Some(first) = rest.next() else {
-        return Ok(None);
-    };
-    let j = first.content.instance();
-    if j < at || j == u32::MAX {
-        return Ok(None);
+    let mut front = *list;
+    front.next()
+}
+
+/// The instance that the first ABORT of a certificate names, 0 where there is none.
+fn cert_instance<'a>(cert: &ListRef<'a, SignedRef<'a>>) -> u32
+    ensures { result ≡ cert_instance (aborts cert.now) }
+{
+    match first_of(cert) {
+        Some(abort) => abort.content.instance(),
+        None => 0,
     }
-    let first = first.owned(alloc)?;
-    let mut all = own_list(alloc, rest)?;
-    all.insert(0, first)?;
-    Ok(Some((j, AbortCert::of(all))))
+}
+
+/// The instance of a certificate. None exactly where it is one before `at` or the last one.
+pub(crate) fn timely<'a>(at: u32, cert: &ListRef<'a, SignedRef<'a>>) -> Option<u32>
+    requires { 1 ≤ at }
+    ensures some { IfSome result (λ j. (j ≡ cert_instance (aborts cert.now)) × (at ≤ j) × (j < 4294967295)) }
+    ensures none { IsNone result → (cert_instance (aborts cert.now) < at) ⊎ (4294967295 ≤ cert_instance (aborts cert.now)) }
+{
+    let j = cert_instance(cert);
+    if j < at || j == u32::MAX {
+        return None;
+    }
+    Some(j)
 }
 
 /// Whether one of these is of replica `maker`.

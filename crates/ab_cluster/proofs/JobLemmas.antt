@@ -20,7 +20,7 @@ use Rattle.ab_words.specs.declared.command.Command.{Command}
 use Rattle.ab_words.specs.declared.command.Command.TheVariants.{Node}
 use Rattle.ab_words.specs.Language.{command_in, command_of, node_in as asked_in}
 use Rattle.ab_words.specs.Uses.{◌>>=◌, opened, uses_in}
-use Rattle.ab_words.specs.Values.{number_in, value_of}
+use Rattle.ab_words.specs.Values.{number_in, optional_of, value_of}
 use Rattle.ab_cluster.specs.Children.{Job}
 use Rattle.ab_cluster.specs.Jobs.{cluster_jobs, commands_of, job_for, node_for, node_words}
 
@@ -33,11 +33,11 @@ number_read low high k above below small =
 
 abbrev node_by : Option ℕ → Option ℕ → Option ℕ → Option Command
 node_by base wait turns =
-    (base >>= λ b. wait >>= λ w. turns >>= λ t. let n : Option NodeCommand = Some (record { base = b; wait = w; turns = t; trace = false }) in n) >>= λ c. Some (Node c)
+    (base >>= λ b. wait >>= λ w. turns >>= λ t. let n : Option NodeCommand = Some (record { base = b; wait = w; turns = t; trace = false; journal = None }) in n) >>= λ c. Some (Node c)
 
 pub words_ask : (k : ClusterCommand) → 1 ≤ k.base → k.base ≤ 65000 → 1 ≤ k.wait → k.wait ≤ 60000 → 1 ≤ k.turns → k.turns ≤ 1000000000
-    → command_in (node_words k) ≡ Some (Node (record { base = k.base; wait = k.wait; turns = k.turns; trace = false }))
-unfolding command_of uses_in opened asked_in value_of
+    → command_in (node_words k) ≡ Some (Node (record { base = k.base; wait = k.wait; turns = k.turns; trace = false; journal = None }))
+unfolding command_of uses_in opened asked_in value_of optional_of
 words_ask k b1 b2 w1 w2 t1 t2 =
     let base = number_read 1 65000 k.base b1 b2 (omega (arith, b2)) in
     let wait = number_read 1 60000 k.wait w1 w2 (omega (arith, w2)) in

@@ -1,6 +1,6 @@
 //! What holds of the jobs of a cluster, and of their conclusion.
 
-ghost use Rattle.std.specs.Prelude.{◌≡◌, ◌≤◌, ℕ, List, Ok, Some, IsTrue, false};
+ghost use Rattle.std.specs.Prelude.{◌≡◌, ◌≤◌, ℕ, List, None, Ok, Some, IsTrue, false};
 ghost use Rattle.ab_io.specs.Causes.{Rose};
 ghost use Rattle.ab_num.specs.declared.party.Party.{Party as TheParty};
 ghost use Rattle.ab_num.specs.Bounds.{IsInBounds};
@@ -20,7 +20,7 @@ ghost use Rattle.ab_cluster.specs.Reports.{conclusion_of};
 /// keys that the seed gives it, and with its commands.
 pub fn jobs_are_nodes()
     ensures words { (k : TheCluster) → 1 ≤ k.base → k.base ≤ 65000 → 1 ≤ k.wait → k.wait ≤ 60000 → 1 ≤ k.turns → k.turns ≤ 1000000000
-        → command_in (node_words k) ≡ Some (TheCommand.Node (record { base = k.base; wait = k.wait; turns = k.turns; trace = false })) }
+        → command_in (node_words k) ≡ Some (TheCommand.Node (record { base = k.base; wait = k.wait; turns = k.turns; trace = false; journal = None })) }
     ensures input { (k : TheCluster) (commands : List (List ℕ)) (p : TheParty) → IsInBounds k.f 1 → IsTrue (is_party k.f 1 p) → AreCommandsOf (TheParty.Client 0) commands
         → node_in (lines_of (job_for k commands p).input) ≡ Ok (node_for k commands p) }
 {}

@@ -1,5 +1,5 @@
 -- What was to be said or written of a cluster has its cause, and what follows from the causes of a cluster's statuses.
-use Rattle.std.proofs.Common.{◌≡◌, ◌⊎◌, ℕ, ◌≤◌, List, Option, Result, Some, Ok, Err, length, refl, sym, ap, ◌∙◌, subst, inl, inr, arith, take}
+use Rattle.std.proofs.Common.{◌≡◌, ◌⊎◌, ℕ, List, Result, Some, Ok, Err, length, refl, sym, ap, ◌∙◌, subst, inl, inr, arith}
 use Rattle.std.proofs.lemmas.List.{take_all}
 use Rattle.std.specs.Io.KnownBytes.{Appends}
 use Rattle.ab_io.specs.Causes.{Rose}
@@ -21,10 +21,10 @@ use Rattle.ab_cluster.specs.Jobs.{cluster_jobs}
 use Rattle.ab_cluster.specs.Reports.{conclusion_of, report_text}
 use Rattle.ab_command.specs.declared.status.Bound.TheVariants.{Bytes, Events, Packets}
 use Rattle.ab_command.specs.declared.status.Status.{Status}
-use Rattle.ab_command.specs.declared.status.Status.TheVariants.{Done, Broken, Usage, Refused, ReadFault, WriteFault, LinkFault, Limit, TurnsSpent, OutOfMemory, ChildFault}
+use Rattle.ab_command.specs.declared.status.Status.TheVariants.{Done, Broken, Usage, Refused, ReadFault, WriteFault, LinkFault, Limit, TurnsSpent, OutOfMemory, DiskFault, JournalRefused, ChildFault}
 use Rattle.ab_command.specs.Clusters.{ClusterCall, ClusterCause, AreUntouched, CommandsCause, Concludes, ConcludesOn, HasClusterCauseOf, HasClusterFront, IsClearForCluster, IsGathered, IsGatheredFront, IsNoCommands, WritesConclusion}
-use Rattle.ab_command.specs.Endings.{HasInput, Says, SaysNoMemory, Settles}
-use Rattle.ab_command.specs.Outputs.{Gets, GetsFront, HasFailed, IsKept}
+use Rattle.ab_command.specs.Endings.{Says, Settles}
+use Rattle.ab_command.specs.Outputs.{Gets, GetsFront, IsKept}
 use Rattle.ab_command.specs.Texts.{code_of, fault_status}
 use Rattle.ab_command.proofs.Settled.{settled_as}
 use Rattle.ab_command.proofs.StatusLemmas.{not_too_long, same_input}
@@ -108,6 +108,8 @@ not_twelve LinkFault k c cause e = absurd (cc)
 not_twelve (Limit b) k c cause e = absurd (cc)
 not_twelve (TurnsSpent n) k c cause e = absurd (cc)
 not_twelve OutOfMemory k c cause e = absurd (cc)
+not_twelve DiskFault k c never e = absurd never
+not_twelve (JournalRefused n) k c never e = absurd never
 not_twelve ChildFault k c (told, said) e = told
 
 well_alone : (x : Conclusion) → x ≡ Well → (x ≡ Ill → ⊥) × (x ≡ Unknown → ⊥)
@@ -140,6 +142,8 @@ module _ (unknown : UnknownRose) (well : AllWell) (k : ClusterCommand) (c : Clus
   clear_status (Limit Packets) never = absurd never
   clear_status (TurnsSpent n) never = absurd never
   clear_status OutOfMemory cause = inr refl
+  clear_status DiskFault never = absurd never
+  clear_status (JournalRefused n) never = absurd never
   clear_status ChildFault (told, said) = absurd (clear.started (concluded_rose unknown k c told))
 
 -- the number of a status that has its cause

@@ -13,7 +13,7 @@ use Rattle.ab_text.specs.Schedules.{ReadsText}
 use Rattle.ab_replay.specs.Protocols.{Any, any}
 use Rattle.ab_command.specs.declared.status.Bound.TheVariants.{Bytes, Events, Packets}
 use Rattle.ab_command.specs.declared.status.Status.{Status}
-use Rattle.ab_command.specs.declared.status.Status.TheVariants.{Done, Broken, Usage, Refused, ReadFault, WriteFault, LinkFault, Limit, TurnsSpent, OutOfMemory, ChildFault}
+use Rattle.ab_command.specs.declared.status.Status.TheVariants.{Done, Broken, Usage, Refused, ReadFault, WriteFault, LinkFault, Limit, TurnsSpent, OutOfMemory, DiskFault, JournalRefused, ChildFault}
 use Rattle.ab_command.specs.Texts.{code_of, fault_status}
 use Rattle.ab_replay.specs.Streams.{IsAllOf, IsInput, IsTooLong, most_bytes}
 use Rattle.ab_words.specs.declared.command.Command.{Command}
@@ -64,16 +64,16 @@ pub not_none : (words : List (List ℕ)) (a : Command) → command_in words ≡ 
 not_none words a asks none = let e : ◌≡◌ {A = Option Command} (Some a) None = sym asks ∙ none in cc
 
 pub replay_or_audit : (words : List (List ℕ)) → IsReplay words → IsAudit words → ⊥
-replay_or_audit words replay audit = let e : ◌≡◌ {A = Option Command} (Some Replay) (Some Audit) = sym replay ∙ audit in cc
+replay_or_audit words replay (why, audit) = let e : ◌≡◌ {A = Option Command} (Some Replay) (Some (Audit why)) = sym replay ∙ audit in cc
 
 pub audit_or_keys : (words : List (List ℕ)) (k : KeysCommand) → IsAudit words → AsksKeys words k → ⊥
-audit_or_keys words k audit asks = let e : ◌≡◌ {A = Option Command} (Some Audit) (Some (Keys k)) = sym audit ∙ asks in cc
+audit_or_keys words k (why, audit) asks = let e : ◌≡◌ {A = Option Command} (Some (Audit why)) (Some (Keys k)) = sym audit ∙ asks in cc
 
 pub audit_or_storm : (words : List (List ℕ)) (k : StormCommand) → IsAudit words → AsksStorm words k → ⊥
-audit_or_storm words k audit asks = let e : ◌≡◌ {A = Option Command} (Some Audit) (Some (Storm k)) = sym audit ∙ asks in cc
+audit_or_storm words k (why, audit) asks = let e : ◌≡◌ {A = Option Command} (Some (Audit why)) (Some (Storm k)) = sym audit ∙ asks in cc
 
 pub audit_or_node : (words : List (List ℕ)) (k : NodeCommand) → IsAudit words → AsksNode words k → ⊥
-audit_or_node words k audit asks = let e : ◌≡◌ {A = Option Command} (Some Audit) (Some (Node k)) = sym audit ∙ asks in cc
+audit_or_node words k (why, audit) asks = let e : ◌≡◌ {A = Option Command} (Some (Audit why)) (Some (Node k)) = sym audit ∙ asks in cc
 
 pub replay_or_keys : (words : List (List ℕ)) (k : KeysCommand) → IsReplay words → AsksKeys words k → ⊥
 replay_or_keys words k replay asks = let e : ◌≡◌ {A = Option Command} (Some Replay) (Some (Keys k)) = sym replay ∙ asks in cc
@@ -108,7 +108,7 @@ input_or_node words k (inr audit) asks = audit_or_node words k audit asks
 
 pub tells_words : (c : Call) (well : Bool) → TellsInput well c → AsksInput c.words
 tells_words c well (inl (words, report)) = inl words
-tells_words c well (inr (words, report)) = inr words
+tells_words c well (inr (why, report, asks, input, got)) = inr (why, asks)
 
 pub bad_words : (c : Call) (r : Refusal) → IsBadInput r c → AsksInput c.words
 bad_words c r (inl (words, input)) = inl words
@@ -151,12 +151,12 @@ module _ (one : (text : List ℕ) (r q : Result Script TextFault) → ReadsText 
       said_of s.service s report held clear.end replays.performs (subst (λ (q : Script). Runs q (Ok clear.end)) (sym is) clear.runs)
 
   pub clear_status : (s : Status) → StatusCause s c → (code_of s ≡ premise_code (premise_of clear.end)) ⊎ (code_of s ≡ 9)
-  clear_status Done (inl (inr (words, report)), kept) = absurd (replay_or_audit c.words clear.words words)
+  clear_status Done (inl (inr (why, report, asks, input, got)), kept) = absurd (replay_or_audit c.words clear.words (why, asks))
   clear_status Done (inl (inl (words, report)), kept) = inl (ap premise_code (sym ((says_clear true report).0 refl)))
   clear_status Done (inr (inl (k, asks, written)), kept) = absurd (replay_or_keys c.words k clear.words asks)
   clear_status Done (inr (inr (inl (k, summary, asks, storms, written))), kept) = absurd (replay_or_storm c.words k clear.words asks)
   clear_status Done (inr (inr (inr (k, asks, served))), kept) = absurd (replay_or_node c.words k clear.words asks)
-  clear_status Broken (inl (inr (words, report)), kept) = absurd (replay_or_audit c.words clear.words words)
+  clear_status Broken (inl (inr (why, report, asks, input, got)), kept) = absurd (replay_or_audit c.words clear.words (why, asks))
   clear_status Broken (inl (inl (words, report)), kept) = inl (code_of_broken (premise_of clear.end) ((says_clear false report).1))
   clear_status Broken (inr (k, summary, asks, storms, written), kept) = absurd (replay_or_storm c.words k clear.words asks)
   clear_status Usage (none, kept, said) = absurd (not_none c.words Replay clear.words none)
@@ -181,6 +181,8 @@ module _ (one : (text : List ℕ) (r q : Result Script TextFault) → ReadsText 
   clear_status (Limit Packets) (inr (k, asks, passes), kept, said) = absurd (replay_or_storm c.words k clear.words asks)
   clear_status (TurnsSpent n) ((k, asks, why), said) = absurd (replay_or_node c.words k clear.words asks)
   clear_status OutOfMemory cause = inr refl
+  clear_status DiskFault never = absurd never
+  clear_status (JournalRefused n) never = absurd never
   clear_status ChildFault never = absurd never
 
 -- where keys are asked for
@@ -212,6 +214,8 @@ module _ (c : Call) (k : KeysCommand) (clear : IsClearForKeys c k) where
   keys_status (Limit Packets) (inr (s, asks, passes), kept, said) = absurd (keys_or_storm c.words k s clear.words asks)
   keys_status (TurnsSpent m) ((n, asks, why), said) = absurd (keys_or_node c.words k n clear.words asks)
   keys_status OutOfMemory cause = inr refl
+  keys_status DiskFault never = absurd never
+  keys_status (JournalRefused n) never = absurd never
   keys_status ChildFault never = absurd never
 
 -- where a storm is asked for
@@ -253,6 +257,8 @@ module _ (c : Call) (k : StormCommand) (clear : IsClearForStorm c k) where
   storm_status (Limit Packets) (inr (j, asks, passes), kept, said) = inr (inl (subst (λ (s : StormCommand). Passes s) (same_storm c.words j k asks clear.words) passes, refl))
   storm_status (TurnsSpent m) ((n, asks, why), said) = absurd (storm_or_node c.words k n clear.words asks)
   storm_status OutOfMemory cause = inr (inr refl)
+  storm_status DiskFault never = absurd never
+  storm_status (JournalRefused n) never = absurd never
   storm_status ChildFault never = absurd never
 
 written_whole : (c : Call) (held : Bool) → IsReplay c.words → HasReport held c → IsKept c.met.err → StatusCause (if held then Done else Broken) c

@@ -12,7 +12,7 @@ use Rattle.ab_words.specs.declared.command.Command.TheVariants.{Replay, Keys, St
 use Rattle.ab_words.specs.Commands.{StormCommand}
 use Rattle.ab_words.specs.Uses.{Use, ◌>>=◌, uses_in}
 use Rattle.ab_words.specs.Values.{value_of, number_in, number_of, plan_name}
-use Rattle.ab_words.specs.Language.{only, empty, cluster_in, keys_in, node_in, storm_in, command_of, command_in}
+use Rattle.ab_words.specs.Language.{only, empty, audit_of, cluster_in, keys_in, node_in, storm_in, command_of, command_in}
 
 record Bound {A B : Type 0} (o : Option A) (f : A → Option B) (y : B) : Type 0 where
   value : A
@@ -85,6 +85,11 @@ empty_other : (c : Command) (ws : List (List ℕ)) (k : StormCommand) → (c ≡
 empty_other c [] k other e = let same : c ≡ Storm k = cc (e) in other same
 empty_other c (w ∷ ws) k other e = cc (e)
 
+audit_other : (ws : List (List ℕ)) (k : StormCommand) → audit_of ws ≡ Some (Storm k) → ⊥
+audit_other [] k e = cc (e)
+audit_other (w ∷ []) k e = if_some (bytes_eq w (codes "--why")) (Some (Audit true)) None (Storm k) ⊥ (λ x. cc (x)) (λ x. cc (x)) e
+audit_other (v ∷ w ∷ ws) k e = cc (e)
+
 named_few : (name : List ℕ) (ws : List (List ℕ)) (k : StormCommand) → command_of name ws ≡ Some (Storm k) → k.events ≤ 100000
 unfolding command_of
 named_few name ws k e =
@@ -98,7 +103,7 @@ named_few name ws k e =
     (λ x. let uses = bound (uses_in ws) (λ uses. keys_in uses >>= λ c. Some (Keys c)) (Storm k) x in absurd (not_storm (keys_in uses.value) Keys k (λ a e. cc (e)) uses.rest))
     (if_some (bytes_eq name (codes "node")) _ _ (Storm k) (k.events ≤ 100000)
     (λ x. let uses = bound (uses_in ws) (λ uses. node_in uses >>= λ c. Some (Node c)) (Storm k) x in absurd (not_storm (node_in uses.value) Node k (λ a e. cc (e)) uses.rest))
-    (if_some (bytes_eq name (codes "audit")) (empty Audit ws) _ (Storm k) (k.events ≤ 100000) (λ x. absurd (empty_other Audit ws k (λ e. cc (e)) x))
+    (if_some (bytes_eq name (codes "audit")) (audit_of ws) _ (Storm k) (k.events ≤ 100000) (λ x. absurd (audit_other ws k x))
     (if_some (bytes_eq name (codes "cluster")) _ None (Storm k) (k.events ≤ 100000)
     (λ x. let uses = bound (uses_in ws) (λ uses. cluster_in uses >>= λ c. Some (Cluster c)) (Storm k) x in absurd (not_storm (cluster_in uses.value) Cluster k (λ a e. cc (e)) uses.rest))
     (λ x. absurd (cc (x)))))))) e

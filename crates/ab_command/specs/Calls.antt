@@ -2,8 +2,7 @@
 use Rattle.std.specs.Prelude.{ℕ, List}
 use Rattle.ab_io.specs.States.{Outside}
 use Rattle.ab_words.specs.Commands.{NodeCommand}
-use Rattle.ab_loop.specs.Edges.{edge}
-use Rattle.ab_node.specs.Nodes.{NodeCall, node_call}
+use Rattle.ab_node.specs.Nodes.{NodeCall, plain_call}
 
 -- what a call of the program met: its words, and what became of each object of the outside
 pub record Call : Type 0 where
@@ -13,6 +12,6 @@ pub record Call : Type 0 where
 abbrev pub call : List (List ℕ) → Outside → Call
 call words met = record { words = words; met = met }
 
--- what a node met that was asked for
+-- what a node without a journal met that was asked for
 abbrev pub call_of : NodeCommand → Call → NodeCall
-call_of k c = node_call k c.met.clock (edge c.met.out.before c.met.link.before) (edge c.met.out.after c.met.link.after)
+call_of k c = plain_call k c.met.clock c.met.out c.met.link

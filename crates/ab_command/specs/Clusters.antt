@@ -18,7 +18,7 @@ use Rattle.ab_cluster.specs.Jobs.{cluster_jobs}
 use Rattle.ab_cluster.specs.Reports.{conclusion_of, report_text}
 use Rattle.ab_command.specs.declared.status.Bound.TheVariants.{Bytes, Events, Packets}
 use Rattle.ab_command.specs.declared.status.Status.{Status}
-use Rattle.ab_command.specs.declared.status.Status.TheVariants.{Done, Broken, Usage, Refused, ReadFault, WriteFault, LinkFault, Limit, TurnsSpent, OutOfMemory, ChildFault}
+use Rattle.ab_command.specs.declared.status.Status.TheVariants.{Done, Broken, Usage, Refused, ReadFault, WriteFault, LinkFault, Limit, TurnsSpent, OutOfMemory, DiskFault, JournalRefused, ChildFault}
 use Rattle.ab_command.specs.Audits.{fault_of_audit}
 use Rattle.ab_command.specs.Endings.{HasInput, FailsToWrite, Says, SaysNoMemory, Settles}
 use Rattle.ab_command.specs.Outputs.{Gets, GetsFront, HasFailed, IsKept}
@@ -116,6 +116,8 @@ ClusterCause (Limit Events) k c = ⊥
 ClusterCause (Limit Packets) k c = ⊥
 ClusterCause (TurnsSpent n) k c = ⊥
 ClusterCause OutOfMemory k c = HasClusterFront k c × SaysNoMemory c.err
+ClusterCause DiskFault k c = ⊥
+ClusterCause (JournalRefused n) k c = ⊥
 ClusterCause ChildFault k c = Concludes k c Unknown × Says ChildFault c.err
 
 -- the report was written: what is given and said of each conclusion

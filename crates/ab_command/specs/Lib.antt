@@ -3,6 +3,7 @@ pub mod Calls
 pub mod Clusters
 pub mod Commands
 pub mod Endings
+pub mod Journals
 pub mod Audits
 pub mod Outputs
 pub mod Statuses

@@ -4,7 +4,7 @@ use Rattle.ab_io.specs.States.{Change, SinkState}
 use Rattle.ab_words.specs.Commands.{StormCommand}
 use Rattle.ab_command.specs.declared.status.Bound.TheVariants.{Bytes, Events, Packets}
 use Rattle.ab_command.specs.declared.status.Status.{Status}
-use Rattle.ab_command.specs.declared.status.Status.TheVariants.{Done, Broken, Usage, Refused, ReadFault, WriteFault, LinkFault, Limit, TurnsSpent, OutOfMemory, ChildFault}
+use Rattle.ab_command.specs.declared.status.Status.TheVariants.{Done, Broken, Usage, Refused, ReadFault, WriteFault, LinkFault, Limit, TurnsSpent, OutOfMemory, DiskFault, JournalRefused, ChildFault}
 use Rattle.ab_command.specs.Commands.{AsksStorm}
 use Rattle.ab_command.specs.Endings.{FailsToWrite, OnlySays, SaysNoMemoryOrUsage}
 use Rattle.ab_command.specs.Outputs.{Gets, GetsFront, IsKept}
@@ -49,4 +49,6 @@ ScheduleCause (Limit Events) options out err = ⊥
 ScheduleCause (Limit Packets) options out err = IsPast options × OnlySays (Limit Packets) out err
 ScheduleCause (TurnsSpent n) options out err = ⊥
 ScheduleCause OutOfMemory options out err = HasFront options out × SaysNoMemoryOrUsage (AsksNothing options) usage_text err
+ScheduleCause DiskFault options out err = ⊥
+ScheduleCause (JournalRefused n) options out err = ⊥
 ScheduleCause ChildFault options out err = ⊥

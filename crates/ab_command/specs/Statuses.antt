@@ -3,14 +3,14 @@ use Rattle.std.specs.Prelude.{◌≡◌, ◌≤◌, ℕ, Bool, true, false, not,
 use Rattle.ab_io.specs.Causes.{Rose}
 use Rattle.ab_command.specs.declared.status.Bound.TheVariants.{Bytes, Events, Packets}
 use Rattle.ab_command.specs.declared.status.Status.{Status}
-use Rattle.ab_command.specs.declared.status.Status.TheVariants.{Done, Broken, Usage, Refused, ReadFault, WriteFault, LinkFault, Limit, TurnsSpent, OutOfMemory, ChildFault}
+use Rattle.ab_command.specs.declared.status.Status.TheVariants.{Done, Broken, Usage, Refused, ReadFault, WriteFault, LinkFault, Limit, TurnsSpent, OutOfMemory, DiskFault, JournalRefused, ChildFault}
 use Rattle.ab_command.specs.Texts.{code_of}
 use Rattle.ab_loop.specs.declared.fault.ServeFault.TheVariants as serving
 use Rattle.ab_loop.specs.declared.serving.Served.{Served}
 use Rattle.ab_loop.specs.Nodes.{is_client}
 use Rattle.ab_node.specs.declared.stop.Stop.{Stop}
 use Rattle.ab_node.specs.declared.stop.Stop.TheVariants as stop
-use Rattle.ab_node.specs.Nodes.{IsServed, StopCause}
+use Rattle.ab_node.specs.Nodes.{IsServed, StopCause, no_crash}
 use Rattle.ab_replay.specs.declared.refusal.Refusal.{Refusal}
 use Rattle.ab_replay.specs.Streams.{IsTooLong, most_bytes}
 use Rattle.ab_text.specs.Heads.{Script}
@@ -29,7 +29,7 @@ use Rattle.ab_command.specs.Calls.{Call, call_of}
 use Rattle.ab_audit_text.specs.Texts.{AuditText, audit_in}
 use Rattle.ab_audit.specs.Tellings.{Accuses, Audits}
 use Rattle.ab_command.specs.Audits.{IsNoAudit}
-use Rattle.ab_command.specs.Commands.{AsksKeys, AsksNode, AsksStorm, IsAudit, IsNoCommand, IsReplay, key_text}
+use Rattle.ab_command.specs.Commands.{AsksAudit, AsksKeys, AsksNode, AsksStorm, IsAudit, IsNoCommand, IsReplay, key_text}
 use Rattle.ab_command.specs.Endings.{HasInput, FailsToWrite, Says, SaysNoMemory}
 use Rattle.ab_command.specs.Outputs.{Gets, GetsFront, HasFailed, IsKept}
 use Rattle.ab_replay.specs.Replays.{Replays, IsRefused, HasTooManyEvents, HasTooManyBytes, Runs}
@@ -40,19 +40,20 @@ use Rattle.ab_storm.specs.Summaries.{summary_of}
 abbrev pub HasReport : Bool → Call → Type 0
 HasReport held c = (report : List ℕ) × HasInput (λ text. Replays text report held) c.met.input.before.left × Gets c.met.out report
 
--- out got the report of the audit that the input spells, and nothing else. It says whether someone is accused
+-- the words ask for an audit, and out got the report of the one that the input spells, and nothing else. It says whether someone is accused
 abbrev pub HasAudit : Bool → Call → Type 0
-HasAudit accuses c = (report : List ℕ) × HasInput (λ text. Audits text report accuses) c.met.input.before.left × Gets c.met.out report
+HasAudit accuses c =
+    (why : Bool) × (report : List ℕ) × AsksAudit c.words why × HasInput (λ text. Audits why text report accuses) c.met.input.before.left × Gets c.met.out report
 
 -- what the words ask to be told of the input was told: a run whose premises held or not, or an audit that accuses no one or someone
 abbrev pub TellsInput : Bool → Call → Type 0
-TellsInput well c = (IsReplay c.words × HasReport well c) ⊎ (IsAudit c.words × HasAudit (not well) c)
+TellsInput well c = (IsReplay c.words × HasReport well c) ⊎ HasAudit (not well) c
 
 -- out got a front of it
 abbrev pub TellsInputFront : Call → Type 0
 TellsInputFront c =
     ((report : List ℕ) × (held : Bool) × IsReplay c.words × HasInput (λ text. Replays text report held) c.met.input.before.left × GetsFront c.met.out report)
-    ⊎ ((report : List ℕ) × (accuses : Bool) × IsAudit c.words × HasInput (λ text. Audits text report accuses) c.met.input.before.left × GetsFront c.met.out report)
+    ⊎ ((why : Bool) × (report : List ℕ) × (accuses : Bool) × AsksAudit c.words why × HasInput (λ text. Audits why text report accuses) c.met.input.before.left × GetsFront c.met.out report)
 
 -- the words ask to be told of the input
 abbrev pub AsksInput : List (List ℕ) → Type 0
@@ -95,7 +96,7 @@ StormPasses c = (k : StormCommand) × AsksStorm c.words k × Passes k
 -- the words ask for a node, the input sets up a party, and it was served to the end: its turns, its text and its datagrams are
 -- those of its core
 abbrev pub ServesNode : Call → Type 0
-ServesNode c = (k : NodeCommand) × AsksNode c.words k × HasInput (λ text. (served : Served) × IsServed text (call_of k c) served) c.met.input.before.left
+ServesNode c = (k : NodeCommand) × AsksNode c.words k × HasInput (λ text. (served : Served) × IsServed text (call_of k c) no_crash served) c.met.input.before.left
 
 -- the words ask for a node, and it stopped for this: what was written and sent until then is a front of what its core says
 abbrev pub StopsNode : Stop → Call → Type 0
@@ -127,6 +128,8 @@ StatusCause (Limit Packets) c =
 StatusCause (Limit Events) c = IsReplay c.words × HasInput HasTooManyEvents c.met.input.before.left × IsKept c.met.out × Says (Limit Events) c.met.err
 StatusCause (TurnsSpent n) c = StopsNode (stop.Serving (serving.TurnsSpent n)) c × Says (TurnsSpent n) c.met.err
 StatusCause OutOfMemory c = HasFront c × SaysNoMemory c.met.err
+StatusCause DiskFault c = ⊥
+StatusCause (JournalRefused n) c = ⊥
 StatusCause ChildFault c = ⊥
 
 -- nothing stands in the way of a call: the input tells that it is a schedule within the limits, of which no event is refused,

@@ -10,7 +10,7 @@ use Rattle.ab_replay.specs.declared.fault.ReplayFault.TheVariants as replaying
 use Rattle.ab_replay.specs.Refusals.{refusal_text}
 use Rattle.ab_command.specs.declared.status.Bound.TheVariants.{Bytes, Events, Packets}
 use Rattle.ab_command.specs.declared.status.Status.{Status}
-use Rattle.ab_command.specs.declared.status.Status.TheVariants.{Done, Broken, Usage, Refused, ReadFault, WriteFault, LinkFault, Limit, TurnsSpent, OutOfMemory, ChildFault}
+use Rattle.ab_command.specs.declared.status.Status.TheVariants.{Done, Broken, Usage, Refused, ReadFault, WriteFault, LinkFault, Limit, TurnsSpent, OutOfMemory, DiskFault, JournalRefused, ChildFault}
 
 -- the number that the program ends with
 abbrev pub code_of : Status → ℕ
@@ -24,11 +24,17 @@ code_of LinkFault = 6
 code_of (Limit b) = 7
 code_of (TurnsSpent n) = 8
 code_of OutOfMemory = 9
+code_of DiskFault = 10
+code_of (JournalRefused n) = 11
 code_of ChildFault = 12
 
 -- so many commands are unanswered
 abbrev pub turns_text : ℕ → List ℕ
 turns_text n = codes "turns spent " then decimal n then codes "\n"
+
+-- this entry of a journal is refused, the first of them has the number 1
+abbrev pub journal_text : ℕ → List ℕ
+journal_text n = codes "journal refused " then decimal n then codes "\n"
 
 -- what the program says of a status
 abbrev pub text_of : Status → List ℕ
@@ -44,6 +50,8 @@ text_of (Limit Events) = codes "limit events\n"
 text_of (Limit Packets) = codes "limit packets\n"
 text_of (TurnsSpent n) = turns_text n
 text_of OutOfMemory = codes "out of memory\n"
+text_of DiskFault = codes "disk fault\n"
+text_of (JournalRefused n) = journal_text n
 text_of ChildFault = codes "child fault\n"
 
 -- the status of a schedule that wasn't replayed, by its fault
@@ -59,6 +67,7 @@ fault_status replaying.OutOfMemory = OutOfMemory
 abbrev pub status_of : ServeFault → Status
 status_of serving.LinkFailed = LinkFault
 status_of serving.WriteFailed = WriteFault
+status_of serving.KeepFailed = DiskFault
 status_of serving.OutOfMemory = OutOfMemory
 status_of (serving.TurnsSpent n) = TurnsSpent n
 
@@ -68,4 +77,6 @@ stop_status stop.Read = ReadFault
 stop_status stop.TooLong = Limit Bytes
 stop_status (stop.Refused r) = Refused r
 stop_status (stop.Serving why) = status_of why
+stop_status stop.Disk = DiskFault
+stop_status (stop.Journal n) = JournalRefused n
 stop_status stop.OutOfMemory = OutOfMemory

@@ -29,26 +29,30 @@ pub(crate) fn fault_of_audit(fault: NodeFault) -> ReplayFault
 }
 
 /// The report of the audit that a text spells.
-fn tell(alloc: Global, text: &[u8]) -> Result<Audited, ReplayFault>
+fn tell(alloc: Global, text: &[u8], why: bool) -> Result<Audited, ReplayFault>
     requires { length text.now < 2 ^ 31 }
-    ensures ok { IfOk result (λ a. Audits text.now a.report.items a.accuses) }
+    ensures ok { IfOk result (λ a. Audits why text.now a.report.items a.accuses) }
     ensures cause { IfErr result (λ e. TextCause e text.now) }
 {
-    match audit_text(alloc, text) {
+    match audit_text(alloc, text, why) {
         Ok(audited) => Ok(audited),
         Err(fault) => Err(fault_of_audit(fault)),
     }
 }
 
 /// The report of the audit that an input spells.
-pub(crate) fn audit_input<I: Source>(alloc: Global, input: &mut I) -> Result<Audited, ReplayFault>
-    ensures ok { IfOk result (λ a. HasInput (λ text. Audits text a.report.items a.accuses) (I.state input.old).left) }
+pub(crate) fn audit_input<I: Source>(
+    alloc: Global,
+    input: &mut I,
+    why: bool,
+) -> Result<Audited, ReplayFault>
+    ensures ok { IfOk result (λ a. HasInput (λ text. Audits why text a.report.items a.accuses) (I.state input.old).left) }
     ensures cause { IfErr result (λ e. AuditCause e (I.state input.old).left (I.state input.old).faults (I.state input.new).faults) }
 {
     match read_all(alloc, input) {
         Err(ReadFault::Failed) => Err(ReplayFault::Read),
         Err(ReadFault::TooLong) => Err(ReplayFault::TooLong),
         Err(ReadFault::OutOfMemory) => Err(ReplayFault::OutOfMemory),
-        Ok(text) => tell(alloc, text.as_slice()),
+        Ok(text) => tell(alloc, text.as_slice(), why),
     }
 }

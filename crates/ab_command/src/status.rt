@@ -1,7 +1,7 @@
 //! How a call of the program ends.
 
 ghost use Rattle.std.specs.Prelude.{◌≡◌, IfOk, string_bytes};
-ghost use Rattle.ab_command.specs.Texts.{code_of, turns_text};
+ghost use Rattle.ab_command.specs.Texts.{code_of, journal_text, turns_text};
 
 use ab_replay::Refusal;
 use std::alloc::{AllocError, Global};
@@ -31,6 +31,10 @@ pub enum Status {
     /// A client's turns were used, and so many commands are unanswered.
     TurnsSpent(u64),
     OutOfMemory,
+    /// The disk of a journal failed.
+    DiskFault,
+    /// This entry of a journal is of no stated form, or names another party's text. The first has the number 1.
+    JournalRefused(u64),
     /// A child of a cluster could not be started or waited for.
     ChildFault,
 }
@@ -51,6 +55,8 @@ impl Status {
             Status::Limit(_) => 7,
             Status::TurnsSpent(_) => 8,
             Status::OutOfMemory => 9,
+            Status::DiskFault => 10,
+            Status::JournalRefused(_) => 11,
             Status::ChildFault => 12,
         }
     }
@@ -61,4 +67,11 @@ pub(crate) fn turns_line(alloc: Global, unanswered: u64) -> Result<String, Alloc
     ensures { IfOk result (λ s. string_bytes s ≡ turns_text unanswered) }
 {
     format!(in alloc; "turns spent {unanswered}\n")
+}
+
+/// What is said of a journal of which this entry is refused.
+pub(crate) fn journal_line(alloc: Global, entry: u64) -> Result<String, AllocError>
+    ensures { IfOk result (λ s. string_bytes s ≡ journal_text entry) }
+{
+    format!(in alloc; "journal refused {entry}\n")
 }

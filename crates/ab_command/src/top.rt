@@ -6,21 +6,25 @@ ghost use Rattle.ab_io.specs.States.{Change, ClockState, LinkState, SourceState,
 ghost use Rattle.ab_command.specs.Texts.{status_of, stop_status};
 ghost use Rattle.ab_command.specs.Calls.{call};
 ghost use Rattle.ab_words.specs.Commands.{ClusterCommand as TheCluster};
+ghost use Rattle.ab_words.specs.Commands.{NodeCommand as TheNode};
+ghost use Rattle.ab_node.specs.Journals.{crash_between, disk_state};
 ghost use Rattle.ab_command.specs.Clusters.{ClusterCause, HasClusterCauseOf, cluster_call};
-ghost use Rattle.ab_command.specs.Commands.{AsksCluster, AsksKeys, AsksNode, AsksStorm, IsAudit, IsCluster, IsNode, IsReplay, TakesInput};
+ghost use Rattle.ab_command.specs.Commands.{AsksAudit, AsksCluster, AsksJournal, AsksKeys, AsksNode, AsksStorm, IsApart, IsCluster, IsNode, IsReplay, KeepsJournal, TakesInput};
 ghost use Rattle.ab_command.specs.Endings.{SaysNoMemory, Settles};
+ghost use Rattle.ab_command.specs.Journals.{HasJournalCauseOf, JournalStatusCause, disk_call};
 ghost use Rattle.ab_command.specs.Statuses.{StatusCause, HasCauseOf};
 
 use crate::audit::audit_input;
 use crate::cluster::serve_cluster;
 use crate::keys::key_text;
 use crate::saying::{say, say_no_memory, say_refusal, say_replay_fault, write_or_say};
-use crate::status::{Bound, Status, turns_line};
+use crate::status::{Bound, Status, journal_line, turns_line};
 use ab_cluster::{Spawner, conclusions_are_counted};
+use ab_disk::Disk;
 use ab_io::{Clock, Link, Sink, Source};
 use ab_kv::Kv;
 use ab_loop::ServeFault;
-use ab_node::{Stop, serve_text};
+use ab_node::{Stop, serve_journaled, serve_text};
 use ab_replay::{AnyProtocol, replay};
 use ab_storm::{StormFault, sum_up};
 use ab_text::one_reading;
@@ -103,11 +107,23 @@ fn say_fault<E: Sink>(alloc: Global, err: &mut E, fault: ServeFault) -> Status
     match fault {
         ServeFault::LinkFailed => say(err, "link fault\n", Status::LinkFault),
         ServeFault::WriteFailed => say(err, "write fault\n", Status::WriteFault),
+        ServeFault::KeepFailed => say(err, "disk fault\n", Status::DiskFault),
         ServeFault::OutOfMemory => say_no_memory(err),
         ServeFault::TurnsSpent(unanswered) => match turns_line(alloc, unanswered) {
             Ok(line) => say(err, line.as_str(), Status::TurnsSpent(unanswered)),
             Err(_) => say_no_memory(err),
         },
+    }
+}
+
+/// Says which entry of a journal is refused.
+fn say_journal<E: Sink>(alloc: Global, err: &mut E, entry: u64) -> Status
+    ensures status { Settles result (Status.JournalRefused entry) (change (E.state err.old) (E.state err.new)) }
+    ensures later { (E.state err.old).faults ≤ (E.state err.new).faults }
+{
+    match journal_line(alloc, entry) {
+        Ok(line) => say(err, line.as_str(), Status::JournalRefused(entry)),
+        Err(_) => say_no_memory(err),
     }
 }
 
@@ -121,6 +137,8 @@ fn say_stop<E: Sink>(alloc: Global, err: &mut E, stop: Stop) -> Status
         Stop::TooLong => say(err, "limit bytes\n", Status::Limit(Bound::Bytes)),
         Stop::Refused(refusal) => say_refusal(alloc, err, refusal),
         Stop::Serving(fault) => say_fault(alloc, err, fault),
+        Stop::Disk => say(err, "disk fault\n", Status::DiskFault),
+        Stop::Journal(entry) => say_journal(alloc, err, entry),
         Stop::OutOfMemory => say_no_memory(err),
     }
 }
@@ -146,18 +164,42 @@ fn serve_node<I: Source, O: Sink, E: Sink, L: Link, C: Clock>(
     }
 }
 
+/// Serves the party that the input sets up, with the journal of this name.
+fn serve_on_disk<I: Source, O: Sink, E: Sink, L: Link, C: Clock, D: Disk>(
+    alloc: Global,
+    asked: &NodeCommand,
+    name: &str,
+    input: &mut I,
+    out: &mut O,
+    err: &mut E,
+    link: &mut L,
+    clock: &mut C,
+    disk: &mut D,
+) -> Status
+    ensures cause { (words : List (List ℕ)) → JournalStatusCause result asked.now (disk_call (call words (outside (change (I.state input.old) (I.state input.new))
+        (change (O.state out.old) (O.state out.new)) (change (E.state err.old) (E.state err.new))
+        (change (L.state link.old) (L.state link.new)) (change (C.state clock.old) (C.state clock.new))))
+        (change (disk_state D.model disk.old) (disk_state D.model disk.new))) (crash_between D.model disk.old disk.new) }
+{
+    match serve_journaled(alloc, asked, name, input, link, clock, out, disk) {
+        Ok(_) => Status::Done,
+        Err(stop) => say_stop(alloc, err, stop),
+    }
+}
+
 /// Audits the messages of the input.
 fn serve_audit<I: Source, O: Sink, E: Sink>(
     alloc: Global,
+    why: bool,
     input: &mut I,
     out: &mut O,
     err: &mut E,
 ) -> Status
-    ensures cause { (words : List (List ℕ)) (link : Change LinkState) (clock : Change ClockState) → IsAudit words
+    ensures cause { (words : List (List ℕ)) (link : Change LinkState) (clock : Change ClockState) → AsksAudit words why
         → StatusCause result (call words (outside (change (I.state input.old) (I.state input.new))
         (change (O.state out.old) (O.state out.new)) (change (E.state err.old) (E.state err.new)) link clock)) }
 {
-    let audited = match audit_input(alloc, input) {
+    let audited = match audit_input(alloc, input, why) {
         Ok(audited) => audited,
         Err(fault) => return say_replay_fault(alloc, err, fault),
     };
@@ -166,7 +208,7 @@ fn serve_audit<I: Source, O: Sink, E: Sink>(
 }
 
 /// What the program does.
-fn serve<I: Source, O: Sink, E: Sink, L: Link, C: Clock, W: Spawner>(
+fn serve<I: Source, O: Sink, E: Sink, L: Link, C: Clock, D: Disk, W: Spawner>(
     alloc: Global,
     words: &[&str],
     input: &mut I,
@@ -174,9 +216,10 @@ fn serve<I: Source, O: Sink, E: Sink, L: Link, C: Clock, W: Spawner>(
     err: &mut E,
     link: &mut L,
     clock: &mut C,
+    disk: &mut D,
     spawner: &mut W,
 ) -> Status
-    ensures cause { (IsCluster (map (λ w. w.now) words.now) → ⊥) → StatusCause result (call (map (λ w. w.now) words.now) (outside (change (I.state input.old) (I.state input.new))
+    ensures cause { (IsApart (map (λ w. w.now) words.now) → ⊥) → StatusCause result (call (map (λ w. w.now) words.now) (outside (change (I.state input.old) (I.state input.new))
         (change (O.state out.old) (O.state out.new)) (change (E.state err.old) (E.state err.new))
         (change (L.state link.old) (L.state link.new)) (change (C.state clock.old) (C.state clock.new)))) }
     ensures untouched { (TakesInput (map (λ w. w.now) words.now) → ⊥) → input.new ≡ input.old }
@@ -185,15 +228,21 @@ fn serve<I: Source, O: Sink, E: Sink, L: Link, C: Clock, W: Spawner>(
     ensures cluster { (k : TheCluster) → AsksCluster (map (λ w. w.now) words.now) k → ClusterCause result k (cluster_call (change (I.state input.old) (I.state input.new))
         (change (O.state out.old) (O.state out.new)) (change (E.state err.old) (E.state err.new)) (change (W.state spawner.old) (W.state spawner.new))) }
     ensures spawner { (IsCluster (map (λ w. w.now) words.now) → ⊥) → spawner.new ≡ spawner.old }
+    ensures journal { (k : TheNode) → AsksJournal (map (λ w. w.now) words.now) k → JournalStatusCause result k (disk_call (call (map (λ w. w.now) words.now) (outside (change (I.state input.old) (I.state input.new))
+        (change (O.state out.old) (O.state out.new)) (change (E.state err.old) (E.state err.new))
+        (change (L.state link.old) (L.state link.new)) (change (C.state clock.old) (C.state clock.new))))
+        (change (disk_state D.model disk.old) (disk_state D.model disk.new))) (crash_between D.model disk.old disk.new) }
+    ensures disk { (KeepsJournal (map (λ w. w.now) words.now) → ⊥) → disk.new ≡ disk.old }
 {
     match command_in(alloc, words) {
         Ok(Some(Command::Replay)) => serve_replay(alloc, input, out, err),
         Ok(Some(Command::Keys(asked))) => serve_keys(alloc, &asked, out, err),
         Ok(Some(Command::Storm(asked))) => serve_storm(alloc, &asked, out, err),
-        Ok(Some(Command::Node(asked))) => {
-            serve_node(alloc, &asked, input, out, err, link, clock)
-        }
-        Ok(Some(Command::Audit)) => serve_audit(alloc, input, out, err),
+        Ok(Some(Command::Node(asked))) => match asked.journal() {
+            None => serve_node(alloc, &asked, input, out, err, link, clock),
+            Some(name) => { serve_on_disk(alloc, &asked, name, input, out, err, link, clock, disk) }
+        },
+        Ok(Some(Command::Audit { why })) => serve_audit(alloc, why, input, out, err),
         Ok(Some(Command::Cluster(asked))) => {
             serve_cluster(alloc, &asked, input, out, err, spawner)
         }
@@ -207,9 +256,10 @@ fn serve<I: Source, O: Sink, E: Sink, L: Link, C: Clock, W: Spawner>(
 /// `replay` reads a schedule from `input` to its end, runs it, and writes the report of the run to
 /// `out`. `storm` runs random events that a seed gives, and writes the summary of the run to `out`.
 /// `keys` writes the key text of a party to `out`. `node` reads the keys of a party and its commands from
-/// `input` to its end, and serves that party over `link` and `clock`: what it commits is written to `out`.
+/// `input` to its end, and serves that party over `link` and `clock`: what it commits is written to `out`. With `--journal` it keeps
+/// each event on `disk` before anything of it leaves, and goes on after the events that it finds there.
 /// `audit` reads public keys and messages from `input` to its end, and writes to `out` which replicas contradict
-/// themselves in them.
+/// themselves in them, and if asked why, by which messages.
 /// `cluster` reads the commands of a client from `input` to its end, starts a node for each replica and for that client by `spawner`,
 /// waits for all of them, and writes to `out` how each ended and what the client wrote.
 /// The statuses are:
@@ -228,10 +278,13 @@ fn serve<I: Source, O: Sink, E: Sink, L: Link, C: Clock, W: Spawner>(
 ///   bytes.
 /// - 8: a client's turns were used, and commands are unanswered.
 /// - 9: an allocation failed.
+/// - 10: `disk` failed.
+/// - 11: an entry of the journal is of no stated form, or names another party's text.
 /// - 12: a start or a wait of `spawner` failed.
 ///
-/// Each but 0 and 1 is said on `err`, unless `err` fails. Only `node` calls `link` and `clock`, and only `cluster` calls `spawner`.
-pub fn run<I: Source, O: Sink, E: Sink, L: Link, C: Clock, W: Spawner>(
+/// Each but 0 and 1 is said on `err`, unless `err` fails. Only `node` calls `link` and `clock`, only
+/// `node --journal` calls `disk`, and only `cluster` calls `spawner`.
+pub fn run<I: Source, O: Sink, E: Sink, L: Link, C: Clock, D: Disk, W: Spawner>(
     alloc: Global,
     words: &[&str],
     input: &mut I,
@@ -239,9 +292,10 @@ pub fn run<I: Source, O: Sink, E: Sink, L: Link, C: Clock, W: Spawner>(
     err: &mut E,
     link: &mut L,
     clock: &mut C,
+    disk: &mut D,
     spawner: &mut W,
 ) -> u8
-    ensures cause { (IsCluster (map (λ w. w.now) words.now) → ⊥) → HasCauseOf result (call (map (λ w. w.now) words.now) (outside (change (I.state input.old) (I.state input.new))
+    ensures cause { (IsApart (map (λ w. w.now) words.now) → ⊥) → HasCauseOf result (call (map (λ w. w.now) words.now) (outside (change (I.state input.old) (I.state input.new))
         (change (O.state out.old) (O.state out.new)) (change (E.state err.old) (E.state err.new))
         (change (L.state link.old) (L.state link.new)) (change (C.state clock.old) (C.state clock.new)))) }
     ensures untouched { (TakesInput (map (λ w. w.now) words.now) → ⊥) → input.new ≡ input.old }
@@ -250,8 +304,13 @@ pub fn run<I: Source, O: Sink, E: Sink, L: Link, C: Clock, W: Spawner>(
     ensures cluster { (k : TheCluster) → AsksCluster (map (λ w. w.now) words.now) k → HasClusterCauseOf result k (cluster_call (change (I.state input.old) (I.state input.new))
         (change (O.state out.old) (O.state out.new)) (change (E.state err.old) (E.state err.new)) (change (W.state spawner.old) (W.state spawner.new))) }
     ensures spawner { (IsCluster (map (λ w. w.now) words.now) → ⊥) → spawner.new ≡ spawner.old }
+    ensures journal { (k : TheNode) → AsksJournal (map (λ w. w.now) words.now) k → HasJournalCauseOf result k (disk_call (call (map (λ w. w.now) words.now) (outside (change (I.state input.old) (I.state input.new))
+        (change (O.state out.old) (O.state out.new)) (change (E.state err.old) (E.state err.new))
+        (change (L.state link.old) (L.state link.new)) (change (C.state clock.old) (C.state clock.new))))
+        (change (disk_state D.model disk.old) (disk_state D.model disk.new))) (crash_between D.model disk.old disk.new) }
+    ensures disk { (KeepsJournal (map (λ w. w.now) words.now) → ⊥) → disk.new ≡ disk.old }
 {
-    let status = serve(alloc, words, input, out, err, link, clock, spawner);
+    let status = serve(alloc, words, input, out, err, link, clock, disk, spawner);
     one_reading();
     conclusions_are_counted();
     status.code()

@@ -1,7 +1,10 @@
 //! A call of the command over objects in memory.
 
+ghost use Rattle.std.specs.Prelude.{◌<◌, ◌^◌, length};
+
 use ab_cluster::{Ended, MemSpawner};
 use ab_command::run;
+use ab_disk::{DiskFails, MemDisk};
 use ab_io::{MemClock, MemLink, MemSink, MemSource};
 use std::alloc::{AllocError, Global};
 use std::process::Abort;
@@ -60,13 +63,29 @@ fn spawner(alloc: Global, ends: Vec<Ended>, failing: &Failing) -> Result<MemSpaw
     Ok(MemSpawner::new(alloc, ends, starts, waits))
 }
 
-/// Runs the command over an input, a link to which these datagrams come, and children that end so, at a clock that stands at 0.
+/// A disk with this content, of which the syncs with these numbers fail.
+pub(crate) fn disk(alloc: Global, content: &[u8], syncs: &[u64]) -> Result<MemDisk, AllocError>
+    requires { length content.now < 2 ^ 62 }
+{
+    let fails = DiskFails {
+        fail_open: Vec::new(alloc),
+        fail_len: Vec::new(alloc),
+        fail_read: Vec::new(alloc),
+        fail_write: Vec::new(alloc),
+        fail_sync: Vec::from_slice(alloc, syncs)?,
+    };
+    Ok(MemDisk::new(alloc, Vec::from_slice(alloc, content)?, fails))
+}
+
+/// Runs the command over an input, a link to which these datagrams come, a disk, and children that end so, at a clock that stands
+/// at 0.
 fn call_with(
     alloc: Global,
     words: &[&str],
     content: &[u8],
     to_come: Vec<Vec<u8>>,
     ends: Vec<Ended>,
+    disk: &mut MemDisk,
     failing: &Failing,
 ) -> Result<Told, AllocError> {
     let takes = Vec::from_slice(alloc, failing.takes)?;
@@ -84,6 +103,7 @@ fn call_with(
         &mut err,
         &mut link,
         &mut clock,
+        disk,
         &mut spawner,
     );
     Ok(Told {
@@ -103,7 +123,21 @@ pub(crate) fn call_over(
     to_come: Vec<Vec<u8>>,
     failing: &Failing,
 ) -> Result<Told, AllocError> {
-    call_with(alloc, words, content, to_come, Vec::new(alloc), failing)
+    let mut disk = disk(alloc, b"", &[])?;
+    call_on(alloc, words, content, to_come, &mut disk, failing)
+}
+
+/// Runs the command over an input, a link to which these datagrams come, and a disk.
+pub(crate) fn call_on(
+    alloc: Global,
+    words: &[&str],
+    content: &[u8],
+    to_come: Vec<Vec<u8>>,
+    disk: &mut MemDisk,
+    failing: &Failing,
+) -> Result<Told, AllocError> {
+    let ends = Vec::new(alloc);
+    call_with(alloc, words, content, to_come, ends, disk, failing)
 }
 
 /// Runs the command over an input, a quiet link and children that end so.
@@ -114,7 +148,9 @@ pub(crate) fn call_children(
     ends: Vec<Ended>,
     failing: &Failing,
 ) -> Result<Told, AllocError> {
-    call_with(alloc, words, content, Vec::new(alloc), ends, failing)
+    let mut disk = disk(alloc, b"", &[])?;
+    let to_come = Vec::new(alloc);
+    call_with(alloc, words, content, to_come, ends, &mut disk, failing)
 }
 
 /// Runs the command over an input and a quiet link.

@@ -8,6 +8,8 @@ mod clusters;
 #[cfg(test)]
 mod faults;
 #[cfg(test)]
+mod journals;
+#[cfg(test)]
 mod nodes;
 #[cfg(test)]
 mod replays;

@@ -18,10 +18,14 @@ struct Case {
     sent: usize,
 }
 
-const CLIENT: &str = "--party=c0";
+pub(crate) const CLIENT: &str = "--party=c0";
 
 /// The text of the keys of a party, and these lines.
-fn node_text(alloc: Global, party: &'static str, lines: &str) -> Result<Vec<u8>, AllocError> {
+pub(crate) fn node_text(
+    alloc: Global,
+    party: &'static str,
+    lines: &str,
+) -> Result<Vec<u8>, AllocError> {
     let words = [
         "keys",
         "--plan=quorum",
@@ -205,7 +209,7 @@ fn all_answers(rt: &impl Abort, alloc: Global, asked: &MemLink) -> Result<Vec<Ve
 }
 
 /// What they answer to the node that this text sets up.
-fn replies(rt: &impl Abort, alloc: Global, text: &[u8]) -> Result<Vec<Vec<u8>>, Fail> {
+pub(crate) fn replies(rt: &impl Abort, alloc: Global, text: &[u8]) -> Result<Vec<Vec<u8>>, Fail> {
     let asked = call(alloc, NODE, text, &NOTHING)?;
     all_answers(rt, alloc, &asked.link)
 }

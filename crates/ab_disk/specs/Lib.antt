@@ -3,4 +3,5 @@ pub mod Causes
 pub mod Disks
 pub mod Keeping
 pub mod Laws
+pub mod Nothing
 pub mod Told

@@ -6,7 +6,7 @@ use Rattle.ab_replay.specs.Replays.{IsRefused, HasTooManyEvents, HasTooManyBytes
 use Rattle.ab_replay.specs.Streams.{IsTooLong}
 use Rattle.ab_command.specs.declared.status.Bound.TheVariants.{Bytes, Events, Packets}
 use Rattle.ab_command.specs.declared.status.Status.{Status}
-use Rattle.ab_command.specs.declared.status.Status.TheVariants.{Done, Broken, Usage, Refused, ReadFault, WriteFault, LinkFault, Limit, TurnsSpent, OutOfMemory, ChildFault}
+use Rattle.ab_command.specs.declared.status.Status.TheVariants.{Done, Broken, Usage, Refused, ReadFault, WriteFault, LinkFault, Limit, TurnsSpent, OutOfMemory, DiskFault, JournalRefused, ChildFault}
 use Rattle.ab_command.specs.Endings.{HasInput, FailsToWrite, OnlySays, SaysNoMemoryOrUsage}
 use Rattle.ab_command.specs.Outputs.{Gets, GetsFront, IsKept}
 use Rattle.ab_draw.specs.Draws.{Draws}
@@ -44,4 +44,6 @@ DrawCause (Limit Packets) words input out err =
     (words ≡ false) × HasInput HasTooManyBytes input.before.left × OnlySays (Limit Packets) out err
 DrawCause (TurnsSpent n) words input out err = ⊥
 DrawCause OutOfMemory words input out err = HasFront words input out × SaysNoMemoryOrUsage (IsTrue words) usage_text err
+DrawCause DiskFault words input out err = ⊥
+DrawCause (JournalRefused n) words input out err = ⊥
 DrawCause ChildFault words input out err = ⊥

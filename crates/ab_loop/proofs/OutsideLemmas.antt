@@ -1,5 +1,5 @@
 -- What is done outside, one after the other.
-use Rattle.std.proofs.Common.{◌≡◌, ℕ, suc, ◌+◌, ◌-◌, ◌<◌, ◌≤◌, min, List, [], ◌∷◌, ◌++◌, length, take, drop, get_or, Option, None, Some, Bool, true, false, not, is_some, if◌then◌else◌, refl, ap, sym, subst, ◌∙◌, append_assoc, append-nil, length-append, drop-cons, arith}
+use Rattle.std.proofs.Common.{◌≡◌, ℕ, suc, ◌+◌, ◌<◌, ◌≤◌, min, List, [], ◌∷◌, ◌++◌, length, take, drop, get_or, Option, None, Some, Bool, true, false, not, is_some, if◌then◌else◌, refl, ap, sym, subst, ◌∙◌, append_assoc, append-nil, length-append, drop-cons, arith}
 use Rattle.std.specs.List.{count_by}
 use Rattle.std.specs.Io.KnownBytes.{Appends, Keeps}
 use Rattle.std.proofs.Math.Seq.{take-add}
@@ -10,7 +10,9 @@ use Rattle.ab_io.specs.Causes.{RefusalCause, Rose}
 use Rattle.ab_io.specs.Datagrams.{Datagram, with_sent}
 use Rattle.ab_io.specs.declared.fault.Refused.{Refused}
 use Rattle.ab_io.specs.declared.fault.Refused.TheVariants as refused
-use Rattle.ab_loop.specs.Edges.{capped, grown, those_gone, SaysPart, SentAll, SentPart}
+use Rattle.ab_loop.specs.declared.fault.ServeFault.{ServeFault}
+use Rattle.ab_loop.specs.declared.fault.ServeFault.TheVariants as fault
+use Rattle.ab_loop.specs.Edges.{capped, grown, those_gone, SayFault, SaysPart, SentAll, SentPart}
 use Rattle.ab_loop.specs.Nodes.{datagrams_in}
 
 -- ---- what is known and grows
@@ -53,6 +55,19 @@ says_part a b c bs i first same keeps = (take i bs, drop i bs, sym (take-append-
 pub say_rose : (why : Refused) (a b c : ℕ) → why ≡ refused.Failed → a ≤ b → RefusalCause why b c → Rose a c
 say_rose refused.Failed a b c e earlier cause = omega (arith, earlier, cause)
 say_rose refused.OutOfMemory a b c e earlier cause = cc
+
+-- a text was written, and then a part of another
+pub says_second : (a b c : Option (List ℕ)) (first second whole : List ℕ) → b ≡ grown a first → second ≡ whole → SaysPart b c second → SaysPart a c (first ++ whole)
+says_second a b c first second whole wrote same p =
+    (first ++ p.0, p.1, ap (λ (l : List ℕ). first ++ l) (sym same ∙ p.2) ∙ sym (append_assoc first p.0 p.1), p.3 ∙ ap (λ k. grown k p.0) wrote ∙ grown_then a first p.0)
+
+-- a fault after an earlier text
+pub say_later : (why : ServeFault) (a b c : ℕ) → a ≤ b → SayFault why b c → SayFault why a c
+say_later fault.LinkFailed a b c le cause = absurd cause
+say_later fault.WriteFailed a b c le cause = omega (arith, le, cause)
+say_later fault.KeepFailed a b c le cause = absurd cause
+say_later fault.OutOfMemory a b c le cause = tt
+say_later (fault.TurnsSpent n) a b c le cause = absurd cause
 
 -- ---- datagrams
 

@@ -16,12 +16,14 @@ event_of (input.Invoke command) = invoke command.now
 event_of (input.Message bytes) = message bytes.now
 event_of input.Timeout = timeout
 
--- what an event leaves and sends, what was committed in it, and whether it was spent
+-- what an event leaves and sends, what was committed in it, whether it was spent, and whether it opened: false exactly for a message that
+-- the core couldn't open
 pub record Reaction (C : Type 0) : Type 0 where
   pub after : C
   pub sends : List Packet
   pub commit : Option Commit
   pub spent : Bool
+  pub opened : Bool
 
 -- the rules of a core with the states C: what each event does, and whether the timer is on, and with which number
 pub record Rules (C : Type 0) : Type 0 where

@@ -1,10 +1,12 @@
--- What is done outside: text that is written, and datagrams that are handed over.
-use Rattle.std.specs.Prelude.{◌≡◌, ℕ, ◌+◌, ◌-◌, ◌^◌, ◌≤◌, min, List, [], ◌∷◌, ◌++◌, length, map, Option, Result, Ok, Err, Bool, not, ⊤, if◌then◌else◌}
+-- What is done outside: text that is written, bodies that are kept, and datagrams that are handed over.
+use Rattle.std.specs.Prelude.{◌≡◌, ℕ, ◌+◌, ◌-◌, ◌^◌, ◌≤◌, min, List, [], ◌∷◌, ◌++◌, length, map, Option, Result, Ok, Err, Bool, not, ⊤, IfSome, if◌then◌else◌}
 use Rattle.std.specs.Option.{option_map}
 use Rattle.std.specs.List.{count_by}
 use Rattle.ab_io.specs.Causes.{Rose}
 use Rattle.ab_io.specs.Datagrams.{Datagram}
 use Rattle.ab_io.specs.States.{LinkState, SinkState}
+use Rattle.ab_disk.specs.Disks.{DiskModel, LeavesOnly}
+use Rattle.ab_loop.specs.declared.party_core.Commit.{Commit}
 use Rattle.ab_loop.specs.declared.fault.ServeFault.{ServeFault}
 use Rattle.ab_loop.specs.declared.fault.ServeFault.TheVariants as fault
 
@@ -12,14 +14,21 @@ use Rattle.ab_loop.specs.declared.fault.ServeFault.TheVariants as fault
 abbrev pub capped : ℕ → ℕ
 capped n = min n (2 ^ 64 - 1)
 
--- what a node does outside: it writes a byte, or hands a datagram over. Effects stand in the order in which they are done
+-- what a node does outside: it writes a byte, begins the line of a commit, keeps a body, or hands a datagram over. Effects stand in the
+-- order in which they are done: whatever stops a node, what it did is a front of them
 pub data Effect : Type 0 where
   writes : ℕ → Effect
+  replies : Commit → Effect
+  keeps : List ℕ → Effect
   sends : Datagram → Effect
 
 -- a text is written
 abbrev pub writing : List ℕ → List Effect
 writing text = map writes text
+
+-- bodies are kept
+abbrev pub keeping : List (List ℕ) → List Effect
+keeping bodies = map keeps bodies
 
 -- datagrams are handed over
 abbrev pub sending : List Datagram → List Effect
@@ -29,21 +38,50 @@ sending datagrams = map sends datagrams
 abbrev pub text_in : List Effect → List ℕ
 text_in [] = []
 text_in (writes byte ∷ es) = byte ∷ text_in es
+text_in (replies c ∷ es) = text_in es
+text_in (keeps body ∷ es) = text_in es
 text_in (sends d ∷ es) = text_in es
+
+-- the commits of which a line was begun
+abbrev pub replies_in : List Effect → List Commit
+replies_in [] = []
+replies_in (writes byte ∷ es) = replies_in es
+replies_in (replies c ∷ es) = c ∷ replies_in es
+replies_in (keeps body ∷ es) = replies_in es
+replies_in (sends d ∷ es) = replies_in es
+
+-- the bodies that are kept in all
+abbrev pub bodies_in : List Effect → List (List ℕ)
+bodies_in [] = []
+bodies_in (writes byte ∷ es) = bodies_in es
+bodies_in (replies c ∷ es) = bodies_in es
+bodies_in (keeps body ∷ es) = body ∷ bodies_in es
+bodies_in (sends d ∷ es) = bodies_in es
 
 -- the datagrams that are handed over in all
 abbrev pub handed_in : List Effect → List Datagram
 handed_in [] = []
 handed_in (writes byte ∷ es) = handed_in es
+handed_in (replies c ∷ es) = handed_in es
+handed_in (keeps body ∷ es) = handed_in es
 handed_in (sends d ∷ es) = d ∷ handed_in es
 
--- what a node touches: the states of out and of the link
+-- what keeper and disk have together, where they tell, and how often the disk has failed
+pub record KeepState : Type 0 where
+  pub kept : Option (List (List ℕ))
+  pub faults : ℕ
+
+abbrev pub keep_state : {D K : Type 0} → DiskModel D → (K → D → Option (List (List ℕ))) → K → D → KeepState
+keep_state model kept keeper disk = record { kept = kept keeper disk; faults = model.faults disk }
+
+-- what a node touches: the states of out and of the link, and what is kept
 pub record Edge : Type 0 where
   pub out : SinkState
   pub link : LinkState
+  pub keep : KeepState
 
-abbrev pub edge : SinkState → LinkState → Edge
-edge out link = record { out = out; link = link }
+abbrev pub edge : SinkState → LinkState → KeepState → Edge
+edge out link keep = record { out = out; link = link; keep = keep }
 
 -- what is known, and more behind it
 abbrev pub grown : {X : Type 0} → Option (List X) → List X → Option (List X)
@@ -55,10 +93,11 @@ those_gone [] ds = []
 those_gone (w ∷ went) [] = []
 those_gone (w ∷ went) (d ∷ ds) = if w then d ∷ those_gone went ds else those_gone went ds
 
--- the text was written, and each datagram was handed over once: it went, or it was lost
+-- the text was written, the bodies were kept, and each datagram was handed over once: it went, or it was lost
 pub record Did (old new : Edge) (es : List Effect) (went : List Bool) : Type 0 where
   pub each : length went ≡ length (handed_in es)
   pub wrote : new.out.held ≡ grown old.out.held (text_in es)
+  pub kept : new.keep.kept ≡ grown old.keep.kept (bodies_in es)
   pub sent : new.link.sent ≡ grown old.link.sent (those_gone went (handed_in es))
 
 -- all of it was done, and so many datagrams were lost
@@ -90,6 +129,7 @@ Does old new es (Err why) = DidPart old new es
 abbrev pub FaultCause : ServeFault → Edge → Edge → Type 0
 FaultCause fault.LinkFailed old new = Rose old.link.faults new.link.faults
 FaultCause fault.WriteFailed old new = Rose old.out.faults new.out.faults
+FaultCause fault.KeepFailed old new = Rose old.keep.faults new.keep.faults
 FaultCause fault.OutOfMemory old new = ⊤
 FaultCause (fault.TurnsSpent n) old new = ⊥
 
@@ -97,6 +137,7 @@ FaultCause (fault.TurnsSpent n) old new = ⊥
 pub record Rises (old new : Edge) (lost : ℕ) : Type 0 where
   pub link : old.link.faults ≤ new.link.faults
   pub out : old.out.faults ≤ new.out.faults
+  pub keep : old.keep.faults ≤ new.keep.faults
   pub later : old.link.losses ≤ new.link.losses
   pub losses : min (old.link.losses + lost) (2 ^ 64 - 1) ≤ new.link.losses
 
@@ -117,6 +158,7 @@ Says old new text (Err why) = SaysPart old new text
 abbrev pub SayFault : ServeFault → ℕ → ℕ → Type 0
 SayFault fault.LinkFailed old new = ⊥
 SayFault fault.WriteFailed old new = Rose old new
+SayFault fault.KeepFailed old new = ⊥
 SayFault fault.OutOfMemory old new = ⊤
 SayFault (fault.TurnsSpent n) old new = ⊥
 
@@ -152,6 +194,7 @@ Sends old new ds (Err why) = SentPart old new ds
 abbrev pub SendFault : ServeFault → Type 0
 SendFault fault.LinkFailed = ⊥
 SendFault fault.WriteFailed = ⊥
+SendFault fault.KeepFailed = ⊥
 SendFault fault.OutOfMemory = ⊤
 SendFault (fault.TurnsSpent n) = ⊥
 
@@ -165,3 +208,41 @@ pub record Hands (old new : LinkState) (ds : List Datagram) (result : Result ℕ
   pub losses : SendCause old.losses new.losses result
   pub faults : new.faults ≡ old.faults
   pub to_come : new.to_come ≡ old.to_come
+
+-- the bodies were kept, or after a fault those at the front
+abbrev pub Keeps : {T E : Type 0} → Option (List (List ℕ)) → Option (List (List ℕ)) → List (List ℕ) → Result T E → Type 0
+Keeps old new bodies (Ok t) = new ≡ grown old bodies
+Keeps old new bodies (Err why) = (front : List (List ℕ)) × (back : List (List ℕ)) × (bodies ≡ front ++ back) × (new ≡ grown old front)
+
+abbrev pub KeepFailure : ServeFault → ℕ → ℕ → Type 0
+KeepFailure fault.LinkFailed old new = ⊥
+KeepFailure fault.WriteFailed old new = ⊥
+KeepFailure fault.KeepFailed old new = Rose old new
+KeepFailure fault.OutOfMemory old new = ⊤
+KeepFailure (fault.TurnsSpent n) old new = ⊥
+
+abbrev pub KeepCause : {T : Type 0} → ℕ → ℕ → Result T ServeFault → Type 0
+KeepCause old new (Ok t) = old ≤ new
+KeepCause old new (Err why) = (old ≤ new) × KeepFailure why old new
+
+-- bodies were kept
+pub record Retains {T : Type 0} (old new : KeepState) (bodies : List (List ℕ)) (result : Result T ServeFault) : Type 0 where
+  pub keeps : Keeps old.kept new.kept bodies result
+  pub counted : KeepCause old.faults new.faults result
+
+-- ---- a crash
+
+-- what is known of a crash in a time in which these bodies were to be kept
+abbrev pub Crash : Type 1
+Crash = List (List ℕ) → Type 0
+
+-- the bodies from before, and a front of more
+pub record HasFront (before more all : List (List ℕ)) : Type 0 where
+  pub front : List (List ℕ)
+  pub back : List (List ℕ)
+  pub parts : more ≡ front ++ back
+  pub all_is : all ≡ before ++ front
+
+-- A crash at any moment of what took a disk from old to new leaves the bodies from before, where they are told, and a front of more.
+abbrev pub LeavesFront : {D : Type 0} → DiskModel D → (List ℕ → List (List ℕ)) → Option (List (List ℕ)) → D → D → Crash
+LeavesFront model list_of kept old new more = IfSome kept (λ before. LeavesOnly model old new (λ c. HasFront before more (list_of c)))

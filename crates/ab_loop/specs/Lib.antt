@@ -2,7 +2,9 @@
 pub mod Cores
 pub mod Edges
 pub mod Folds
+pub mod Lives
 pub mod Nodes
+pub mod Past
 pub mod Runs
 pub mod Settings
 pub mod Texts

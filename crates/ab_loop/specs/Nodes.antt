@@ -1,5 +1,5 @@
 -- A node: one core, driven by the turn rule.
-use Rattle.std.specs.Prelude.{◌≡◌, ◌⊎◌, ℕ, ◌+◌, List, [], ◌∷◌, ◌++◌, map, drop, length, Option, None, Some, Bool, true, false, is_some, slice_get, nat_le, Result, Ok, Err, OnOk, IfSome, IsSomeAnd, ◌==◌, ◌&&◌, if◌then◌else◌}
+use Rattle.std.specs.Prelude.{◌≡◌, ◌⊎◌, ℕ, ◌+◌, List, [], ◌∷◌, ◌++◌, map, drop, length, Option, None, Some, Bool, true, false, is_some, slice_get, nat_le, Result, Ok, Err, OnOk, IfSome, IsSomeAnd, ◌==◌, ◌&&◌, ◌≤◌, ⊤, if◌then◌else◌}
 use Rattle.std.specs.List.{flat_map}
 use Rattle.std.specs.Option.{option_map}
 use Rattle.arrayvec.specs.ArrayVec.{ArrayVec}
@@ -8,15 +8,27 @@ use Rattle.ab_loop.specs.declared.fault.ServeFault.{ServeFault}
 use Rattle.ab_num.specs.declared.party.Party.{Party}
 use Rattle.ab_num.specs.declared.party.Party.TheVariants.{Replica, Client}
 use Rattle.ab_piece.specs.Pieces.{cut_of}
-use Rattle.ab_piece.specs.Joining.{OpenMessage, Answer, whole, more, dropped, step_of}
+use Rattle.ab_piece.specs.Joining.{OpenMessage, Answer, whole, more, dropped, open_after, step_of}
 use Rattle.ab_loop.specs.declared.party_core.Commit.{Commit}
 use Rattle.ab_loop.specs.Cores.{NodeEvent, invoke, message, timeout, Reaction, Rules}
 use Rattle.ab_msg.specs.Packets.{Packet}
-use Rattle.ab_loop.specs.Edges.{capped, Effect, writing, sending, Edge, Does, Counted}
+use Rattle.ab_loop.specs.Edges.{capped, Effect, replies, writing, keeping, sending, bodies_in, Edge, Does, Counted, Crash}
+use Rattle.ab_loop.specs.Past.{body_of}
 use Rattle.ab_loop.specs.Texts.{event_text, reply_text}
 use Rattle.ab_loop.specs.Settings.{NodeSetting}
 
 -- ---- a node's state
+
+-- these are open after some datagrams
+pub record AreOpened (messages : List OpenMessage) : Type 0 where
+  pub datagrams : List (List ℕ)
+  pub after : messages ≡ open_after datagrams
+
+-- a whole message has at most 4 MiB
+abbrev pub IsShortAnswer : Answer → Type 0
+IsShortAnswer (whole m) = length m ≤ 4194304
+IsShortAnswer more = ⊤
+IsShortAnswer (dropped c) = ⊤
 
 pub record Node (C : Type 0) : Type 0 where
   pub core : C
@@ -43,9 +55,9 @@ pub record Out (C : Type 0) : Type 0 where
 abbrev pub no_step : {C : Type 0} → Node C → Out C
 no_step node = record { node = node; effects = []; events = [] }
 
--- a text is written
-abbrev pub text_step : {C : Type 0} → Node C → List ℕ → Out C
-text_step node text = record { node = node; effects = writing text; events = [] }
+-- the line of a commit is written
+abbrev pub told_step : {C : Type 0} → Node C → Commit → Out C
+told_step node c = record { node = node; effects = replies c ∷ writing (reply_text c); events = [] }
 
 abbrev pub and_then : {C : Type 0} → Out C → (Node C → Out C) → Out C
 and_then a f = record { node = (f a.node).node; effects = a.effects ++ (f a.node).effects; events = a.events ++ (f a.node).events }
@@ -106,13 +118,17 @@ node_after rules s t node done = record {
 abbrev pub trace_text : NodeSetting → NodeEvent → List ℕ
 trace_text s e = if s.trace then event_text s.me e else []
 
--- an event at time t: its line is written before anything of it is sent
+-- what is kept of an event: its body, but for a message that didn't open
+abbrev pub kept_of : Bool → NodeEvent → List (List ℕ)
+kept_of opened e = if opened then body_of e ∷ [] else []
+
+-- an event at time t: its line is written, and it is kept, before anything of it is sent
 unfoldable pub event_step : {C : Type 0} → Rules C → NodeSetting → ℕ → NodeEvent → Node C → Out C
 event_step rules s t e node =
     let done = rules.step node.core e in
     record {
       node = node_after rules s t node done;
-      effects = writing (trace_text s e) ++ sending (datagrams_in (parcels_of s node.number done.sends));
+      effects = writing (trace_text s e) ++ (keeping (kept_of done.opened e) ++ sending (datagrams_in (parcels_of s node.number done.sends)));
       events = e ∷ [];
     }
 
@@ -158,13 +174,68 @@ after_reply node = record node { commands = drop 1 node.commands; commit = None 
 unfoldable pub reply_step : {C : Type 0} → Rules C → NodeSetting → ℕ → Node C → Out C
 reply_step rules s t node = elim node.commit [
   | None ↦ no_step node
-  | Some c ↦ and_then (text_step (after_reply node) (reply_text c)) (command_step rules s t)
+  | Some c ↦ and_then (told_step (after_reply node) c) (command_step rules s t)
 ]
 
 -- one turn: the clock, the timer, the link, the message, the reply
 unfoldable pub turn_step : {C : Type 0} → Rules C → NodeSetting → Turn → Node C → Out C
 turn_step rules s turn node =
     and_then (and_then (timer_step rules s turn.reading node) (datagram_step rules s turn.reading turn.got)) (reply_step rules s turn.reading)
+
+-- ---- events of earlier runs
+
+-- with a commit the open command goes
+abbrev pub without_answered : Option Commit → List (ArrayVec ℕ) → List (ArrayVec ℕ)
+without_answered None commands = commands
+without_answered (Some c) commands = drop 1 commands
+
+-- the node after what the core did once more at time t: none of it is sent
+abbrev pub node_again : {C : Type 0} → Rules C → NodeSetting → ℕ → Node C → Reaction C → Node C
+node_again rules s t node done = record {
+  core = done.after;
+  joiner = node.joiner;
+  deadline = deadline_after s t node.deadline (rules.timer node.core) (rules.timer done.after);
+  number = capped (node.number + length done.sends);
+  commands = without_answered done.commit node.commands;
+  commit = node.commit;
+  events = capped (node.events + 1);
+  sent = node.sent;
+  spent = if done.spent then capped (node.spent + 1) else node.spent;
+}
+
+-- the node after all of them
+abbrev pub past_node : {C : Type 0} → Rules C → NodeSetting → ℕ → List NodeEvent → Node C → Node C
+past_node rules s t [] node = node
+past_node rules s t (e ∷ es) node = past_node rules s t es (node_again rules s t node (rules.step node.core e))
+
+abbrev pub line_again : Option Commit → List ℕ
+line_again None = []
+line_again (Some c) = reply_text c
+
+-- their lines once more, and with each commit its line
+abbrev pub past_text : {C : Type 0} → Rules C → NodeSetting → C → List NodeEvent → List ℕ
+past_text rules s core [] = []
+past_text rules s core (e ∷ es) = (trace_text s e ++ line_again (rules.step core e).commit) ++ past_text rules s (rules.step core e).after es
+
+-- whether a command that was invoked is unanswered after this event
+abbrev pub waits_after : Bool → NodeEvent → Option Commit → Bool
+waits_after waits e (Some c) = false
+waits_after waits (invoke command) None = true
+waits_after waits (message bytes) None = waits
+waits_after waits timeout None = waits
+
+-- and after all of them
+abbrev pub waits_in : {C : Type 0} → Rules C → C → Bool → List NodeEvent → Bool
+waits_in rules core waits [] = waits
+waits_in rules core waits (e ∷ es) = waits_in rules (rules.step core e).after (waits_after waits e (rules.step core e).commit) es
+
+-- the events of earlier runs, at time t: nothing of them is kept or sent again
+abbrev pub past_step : {C : Type 0} → Rules C → NodeSetting → ℕ → List NodeEvent → Node C → Out C
+past_step rules s t past node = record { node = past_node rules s t past node; effects = writing (past_text rules s node.core past); events = past }
+
+-- and then the next command, but for one that was invoked and is unanswered
+unfoldable pub begin_step : {C : Type 0} → Rules C → NodeSetting → ℕ → List NodeEvent → Node C → Out C
+begin_step rules s t past node = and_then (past_step rules s t past node) (if waits_in rules node.core false past then no_step else command_step rules s t)
 
 -- ---- the whole run
 
@@ -190,9 +261,9 @@ new_node s t core commands = record {
   spent = 0;
 }
 
--- after the first command, if there is one, at the reading before the first turn
-unfoldable pub first_step : {C : Type 0} → Rules C → NodeSetting → ℕ → C → List (ArrayVec ℕ) → Out C
-first_step rules s t core commands = command_step rules s t (new_node s t core commands)
+-- after the events of earlier runs and the first command, if there is one, at the reading before the first turn
+unfoldable pub first_step : {C : Type 0} → Rules C → NodeSetting → ℕ → C → List NodeEvent → List (ArrayVec ℕ) → Out C
+first_step rules s t core past commands = begin_step rules s t past (new_node s t core commands)
 
 -- after these turns, the newest first
 abbrev pub run_after : {C : Type 0} → Rules C → NodeSetting → Out C → List Turn → Out C
@@ -201,11 +272,13 @@ run_after rules s start (turn ∷ before) = and_then (run_after rules s start be
 
 -- ---- how code goes along a definition
 
--- the node and what was done outside are those of the definition, or after a fault a front of what is done outside
-pub record Follows {C : Type 0} (new : Node C) (e1 e2 : Edge) (out : Out C) (result : Result ℕ ServeFault) : Type 0 where
+-- The node and what was done outside are those of the definition, or after a fault a front of what is done outside. At any moment a
+-- crash leaves a front of what is kept.
+pub record Follows {C : Type 0} (new : Node C) (e1 e2 : Edge) (crash : Crash) (out : Out C) (result : Result ℕ ServeFault) : Type 0 where
   pub node : OnOk result (new ≡ out.node)
   pub did : Does e1 e2 out.effects result
   pub counted : Counted e1 e2 result
+  pub any_moment : crash (bodies_in out.effects)
 
 -- what the link gave is what was next, and nothing only where nothing is to come
 abbrev pub IsNext : List (List ℕ) → Option (List ℕ) → Type 0
@@ -222,8 +295,8 @@ Leaves got old new (Ok lost) = new ≡ left_by got old
 Leaves got old new (Err why) = (new ≡ left_by got old) ⊎ (new ≡ old)
 
 -- a step that takes what the link gives
-pub record Takes {C : Type 0} (f : Option (List ℕ) → Out C) (new : Node C) (e1 e2 : Edge) (result : Result ℕ ServeFault) : Type 0 where
+pub record Takes {C : Type 0} (f : Option (List ℕ) → Out C) (new : Node C) (e1 e2 : Edge) (crash : Crash) (result : Result ℕ ServeFault) : Type 0 where
   pub got : Option (List ℕ)
   pub next : IfSome e1.link.to_come (λ datagrams. IsNext datagrams got)
   pub left : Leaves got e1.link.to_come e2.link.to_come result
-  pub follows : Follows new e1 e2 (f got) result
+  pub follows : Follows new e1 e2 crash (f got) result

@@ -25,12 +25,13 @@ pub struct Commit {
     pub reply: ArrayVec<u8, 72>,
 }
 
-/// What a core sends and shows in one event.
+/// What a core sends and shows in one event. `opened` is false exactly for a message that it couldn't open.
 #[derive(Drop)]
 pub struct Reaction {
     pub sends: Vec<Packet>,
     pub commit: Option<Commit>,
     pub spent: bool,
+    pub opened: bool,
 }
 
 /// One party's state, as functions of what comes to it.
@@ -49,6 +50,7 @@ pub trait PartyCore: Sized + Drop {
         ensures sends { IfOk result (λ e. e.sends.items ≡ (rules.step self.old (event_of input.now)).sends) }
         ensures commit { IfOk result (λ e. e.commit ≡ (rules.step self.old (event_of input.now)).commit) }
         ensures spent { IfOk result (λ e. e.spent ≡ (rules.step self.old (event_of input.now)).spent) }
+        ensures opened { IfOk result (λ e. e.opened ≡ (rules.step self.old (event_of input.now)).opened) }
         ensures sendable { IfOk result (λ e. All IsSendable e.sends.items) }
         ensures err { OnErr result ((self.new ≡ self.old) ⊎ (self.new ≡ (rules.step self.old (event_of input.now)).after)) };
 

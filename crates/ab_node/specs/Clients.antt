@@ -1,5 +1,5 @@
 -- One client of a cluster, with its keys: what it does with what comes to it.
-use Rattle.std.specs.Prelude.{◌≡◌, ℕ, ◌+◌, ◌^◌, ◌&&◌, nat_le, nat_lt, if◌then◌else◌, Bool, false, List, [], ◌∷◌, length, All, Option, None, Some}
+use Rattle.std.specs.Prelude.{◌≡◌, ℕ, ◌+◌, ◌^◌, ◌&&◌, nat_le, nat_lt, if◌then◌else◌, Bool, true, false, List, [], ◌∷◌, length, All, Option, None, Some}
 use Rattle.std.specs.Option.{option_map}
 use Rattle.ab_num.specs.declared.cluster.Cluster.{Cluster}
 use Rattle.ab_key_text.specs.Keys.{PartyKeys}
@@ -18,7 +18,7 @@ use Rattle.ab_loop.specs.declared.party_core.Commit.{Commit}
 use Rattle.ab_loop.specs.Cores.{NodeEvent, invoke, message, timeout, Reaction, Rules}
 use Rattle.ab_party.specs.Credentials.{Credentials, IsPartyRing, sealed_all}
 use Rattle.ab_node.specs.Keys.{credentials_in, opened}
-use Rattle.ab_node.specs.Replicas.{still}
+use Rattle.ab_node.specs.Replicas.{opens, still, with_opened}
 
 -- where it is, and what it opens and seals by
 pub record ClientMember : Type 0 where
@@ -63,6 +63,7 @@ client_takes m cue = record {
   sends = sealed_all m.credentials.ring (sends m.seat cue);
   commit = commit_in (marks m.seat cue);
   spent = false;
+  opened = true;
 }
 
 abbrev pub client_may_take : ClientMember → Option Cue → Reaction ClientMember
@@ -70,7 +71,7 @@ client_may_take m None = still m
 client_may_take m (Some cue) = client_takes m cue
 
 abbrev pub client_step : ClientMember → NodeEvent → Reaction ClientMember
-client_step m e = client_may_take m (cue_of m e)
+client_step m e = with_opened (opens m.credentials e) (client_may_take m (cue_of m e))
 
 -- its timer is on while a request is open
 abbrev pub seat_timer : Phase → ℕ → Option ℕ

@@ -10,4 +10,5 @@ pub record Reacts {C : Type 0} (r : Reaction C) (now : C) (answer : Answer) : Ty
   pub sends : answer.sends.items ≡ r.sends
   pub commit : answer.commit ≡ r.commit
   pub spent : answer.spent ≡ r.spent
+  pub opened : answer.opened ≡ r.opened
   pub sendable : All IsSendable answer.sends.items

@@ -1,5 +1,5 @@
 -- One replica of a cluster, with its keys: what it does with what comes to it.
-use Rattle.std.specs.Prelude.{◌≡◌, ℕ, ◌+◌, false, [], Option, None, Some}
+use Rattle.std.specs.Prelude.{◌≡◌, ℕ, ◌+◌, Bool, true, false, [], Option, None, Some, is_some}
 use Rattle.std.specs.Option.{option_map}
 use Rattle.ab_num.specs.declared.cluster.Cluster.{Cluster}
 use Rattle.ab_sign.specs.Signers.{leaves_of, pen_of}
@@ -33,7 +33,16 @@ call_of c timeout = Some timed
 
 -- what is not taken changes nothing
 abbrev pub still : {C : Type 0} → C → Reaction C
-still c = record { after = c; sends = []; commit = None; spent = false }
+still c = record { after = c; sends = []; commit = None; spent = false; opened = true }
+
+-- false exactly for a message that doesn't open
+abbrev pub opens : Credentials → NodeEvent → Bool
+opens c (invoke command) = true
+opens c (message bytes) = is_some (opened c bytes)
+opens c timeout = true
+
+abbrev pub with_opened : {C : Type 0} → Bool → Reaction C → Reaction C
+with_opened is r = record { after = r.after; sends = r.sends; commit = r.commit; spent = r.spent; opened = is }
 
 module _ {P : Type 0} (proto : Proto P) where
   abbrev pub replica_after : ReplicaMember P → Call → ReplicaMember P
@@ -49,6 +58,7 @@ module _ {P : Type 0} (proto : Proto P) where
     sends = sealed_all m.credentials.ring (rep_sends (own_setup m) proto m.site.me m.site.rep call);
     commit = None;
     spent = is_spent (own_setup m) proto m.site.me m.site.rep call;
+    opened = true;
   }
 
   abbrev pub replica_may_take : ReplicaMember P → Option Call → Reaction (ReplicaMember P)
@@ -56,7 +66,7 @@ module _ {P : Type 0} (proto : Proto P) where
   replica_may_take m (Some call) = replica_takes m call
 
   abbrev pub replica_step : ReplicaMember P → NodeEvent → Reaction (ReplicaMember P)
-  replica_step m e = replica_may_take m (call_of m.credentials e)
+  replica_step m e = with_opened (opens m.credentials e) (replica_may_take m (call_of m.credentials e))
 
 -- its rules, where `counted` is what the timer of its protocol counts
 abbrev pub replica_rules : {P : Type 0} → Proto P → (P → Option ℕ) → Rules (ReplicaMember P)

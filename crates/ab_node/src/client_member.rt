@@ -1,6 +1,6 @@
 //! One client with its keys.
 
-ghost use Rattle.std.specs.Prelude.{◌≡◌, ◌⊎◌, All, IsTrue, IfOk, OnOk, OnErr, false};
+ghost use Rattle.std.specs.Prelude.{◌≡◌, ◌⊎◌, All, IsTrue, IfOk, OnOk, OnErr, false, true};
 ghost use Rattle.ab_num.specs.declared.party.Party.TheVariants.{Client as ClientParty};
 ghost use Rattle.ab_keys.specs.Keys.{is_party};
 ghost use Rattle.ab_key_text.specs.Keys.{IsWhole};
@@ -118,6 +118,7 @@ impl ClientMember {
         ensures sends { IfOk result (λ e. e.sends.items ≡ sealed_all self.now.credentials.ring effects.outs) }
         ensures commit { IfOk result (λ e. e.commit ≡ commit_in effects.marks.items) }
         ensures spent { IfOk result (λ e. e.spent ≡ false) }
+        ensures opened { IfOk result (λ e. e.opened ≡ true) }
         ensures sendable { IfOk result (λ e. All IsSendable e.sends.items) }
     {
         let sends = self.keys.lend().seal_all(alloc, effects.outs.as_slice())?;
@@ -125,6 +126,7 @@ impl ClientMember {
             sends,
             commit: commit_in(effects.marks.as_slice()),
             spent: false,
+            opened: true,
         })
     }
 
@@ -160,12 +162,12 @@ impl PartyCore for ClientMember {
                 if self.takes(command) {
                     self.ask(alloc, command)
                 } else {
-                    Ok(nothing(alloc))
+                    Ok(nothing(alloc, true))
                 }
             }
             NodeEventRef::Message(bytes) => match self.keys.open(alloc, bytes) {
                 Some(m) => self.react(alloc, Cue::Message(m)),
-                None => Ok(nothing(alloc)),
+                None => Ok(nothing(alloc, false)),
             },
             NodeEventRef::Timeout => self.react(alloc, Cue::Time),
         }

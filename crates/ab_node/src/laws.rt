@@ -1,6 +1,6 @@
 //! What ties members and runs.
 
-ghost use Rattle.std.specs.Prelude.{◌≡◌, ℕ, List, Option};
+ghost use Rattle.std.specs.Prelude.{◌≡◌, ℕ, List, [], Option};
 ghost use Rattle.ab_num.specs.declared.cluster.Cluster.{Cluster as TheCluster};
 ghost use Rattle.ab_num.specs.declared.party.Party.{Party};
 ghost use Rattle.ab_abs.specs.Ensembles.{Proto};
@@ -11,9 +11,14 @@ ghost use Rattle.ab_run.specs.Premises.{RunPremises};
 ghost use Rattle.ab_run.specs.Runs.{first_cli, named_by, run};
 ghost use Rattle.ab_run.specs.Setups.{RunSetup};
 ghost use Rattle.ab_loop.specs.Cores.{NodeEvent};
-ghost use Rattle.ab_node.specs.Replicas.{ReplicaMember as Member};
-ghost use Rattle.ab_node.specs.Clients.{ClientMember as Customer};
-ghost use Rattle.ab_node.specs.Locality.{AllStartIn, AreFirst, AreRun, IsLocalClient, IsLocalReplica, Members, StartsIn, all_happens, setup_among};
+ghost use Rattle.ab_loop.specs.Folds.{commits_in, sends_in};
+ghost use Rattle.ab_loop.specs.Lives.{Among, IsLife, StoppedRun, handed_by, kept_by, replied_by};
+ghost use Rattle.ab_loop.specs.Nodes.{datagrams_in, parcels_of};
+ghost use Rattle.ab_loop.specs.Settings.{NodeSetting as TheSetting};
+ghost use Rattle.ab_party.specs.Credentials.{sealed_all};
+ghost use Rattle.ab_node.specs.Replicas.{ReplicaMember as Member, replica_rules};
+ghost use Rattle.ab_node.specs.Clients.{ClientMember as Customer, client_rules};
+ghost use Rattle.ab_node.specs.Locality.{AllStartIn, AreFirst, AreRun, IsLocalClient, IsLocalReplica, Members, StartsIn, all_happens, calls_in, sent_locally, setup_among};
 
 use ab_abs::Protocol;
 use ab_open::opened_messages_are_of_the_grammar;
@@ -29,6 +34,22 @@ pub fn replicas_are_local<P>()
 /// The same of a client.
 pub fn clients_are_local()
     ensures { (k : RunSetup) (m : Customer) (events : List NodeEvent) → k.cluster ≡ m.seat.cluster → m.seat.cli ≡ first_cli → IsLocalClient k m events }
+{}
+
+/// However often a replica or a client is stopped, at any moment, and started again over what it kept:
+/// all datagrams that ever left are, in their order and each at most once, among those of what one core
+/// sends in the events that it kept, and a client's replies are among what that core commits. What a
+/// replica sent is, sealed, what the run says of one replica to which these events come, and which signs
+/// with one index after the other.
+pub fn stopped_members_are_one<P>()
+    ensures replica { (proto : Proto P) (counted : P → Option ℕ) (s : TheSetting) (m : Member P) (runs : List StoppedRun) → IsLife (replica_rules proto counted) s m [] runs
+        → Among (handed_by runs) (datagrams_in (parcels_of s 0 (sends_in (replica_rules proto counted) m (kept_by runs)))) }
+    ensures run { (k : RunSetup) (proto : Proto P) (counted : P → Option ℕ) (s : TheSetting) (m : Member P) (runs : List StoppedRun) → StartsIn k proto m → IsLife (replica_rules proto counted) s m [] runs
+        → Among (handed_by runs) (datagrams_in (parcels_of s 0 (sealed_all m.credentials.ring (sent_locally k proto m.site.me m.site.rep (calls_in m.credentials (kept_by runs)))))) }
+    ensures client { (s : TheSetting) (m : Customer) (runs : List StoppedRun) → IsLife client_rules s m [] runs
+        → Among (handed_by runs) (datagrams_in (parcels_of s 0 (sends_in client_rules m (kept_by runs)))) }
+    ensures replies { (s : TheSetting) (m : Customer) (runs : List StoppedRun) → IsLife client_rules s m [] runs
+        → Among (replied_by runs) (commits_in client_rules m (kept_by runs)) }
 {}
 
 /// The parties of a cluster, each before its first event, stand where a run begins, whoever of them is

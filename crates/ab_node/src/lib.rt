@@ -3,6 +3,7 @@
 
 mod client_member;
 mod commits;
+mod journaled;
 mod keys;
 mod laws;
 mod node;
@@ -11,9 +12,10 @@ mod replica_member;
 mod stop;
 
 pub use client_member::ClientMember;
+pub use journaled::serve_journaled;
 pub use laws::{
     clients_are_local, first_members_start_a_run, members_are_ordered, members_make_a_run,
-    replicas_are_local,
+    replicas_are_local, stopped_members_are_one,
 };
 pub use node::serve_text;
 pub use replica_member::ReplicaMember;

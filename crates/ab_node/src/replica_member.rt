@@ -85,6 +85,7 @@ impl<S: Service, P: Protocol<S>> ReplicaMember<S, P> {
             sends,
             commit: None,
             spent: effects.spent,
+            opened: true,
         })
     }
 }
@@ -96,10 +97,10 @@ impl<S: Service, P: Protocol<S>> PartyCore for ReplicaMember<S, P> {
 
     fn step(&mut self, alloc: Global, input: &NodeEventRef<'_>) -> Result<Reaction, OutOfMemory> {
         match input {
-            NodeEventRef::Invoke(_) => Ok(nothing(alloc)),
+            NodeEventRef::Invoke(_) => Ok(nothing(alloc, true)),
             NodeEventRef::Message(bytes) => match self.keys.open(alloc, bytes) {
                 Some(m) => self.react(alloc, Cue::Message(m)),
-                None => Ok(nothing(alloc)),
+                None => Ok(nothing(alloc, false)),
             },
             NodeEventRef::Timeout => self.react(alloc, Cue::Time),
         }

@@ -14,6 +14,10 @@ pub enum Stop {
     Refused(Refusal),
     /// The party was served, and this came.
     Serving(ServeFault),
+    /// The disk of its journal failed before it was served.
+    Disk,
+    /// This entry of its journal is of no stated form, or names another text. The first has the number 1.
+    Journal(u64),
     /// Memory was refused before it was served.
     OutOfMemory,
 }

@@ -7,12 +7,13 @@ ghost use Rattle.ab_num.specs.declared.plan.Height.TheVariants.{Five};
 ghost use Rattle.ab_keys.specs.Keys.{is_party};
 ghost use Rattle.ab_key_text.specs.Derived.{keys_of};
 
+use ab_disk::{DiskFails, MemDisk, NoKeeper};
 use ab_hist::array_of;
 use ab_io::{MemClock, MemLink, SureSink};
 use ab_key_text::{PartyKeys, keys_are_whole};
 use ab_kv::Kv;
 use ab_loop::{
-    Commands, Job, NodeEventRef, NodeSetting, PartyCore, Reaction, ServeFault, Served, serve,
+    Commands, Job, NodeEventRef, NodeSetting, PartyCore, Past, Reaction, ServeFault, Served, serve,
 };
 use ab_msg::Packet;
 use ab_node::{ClientMember, ReplicaMember};
@@ -164,7 +165,23 @@ fn job(alloc: Global, turns: u64) -> Option<Job<ClientMember>> {
         setting,
         commands,
         turns,
+        past: Past::none(alloc),
     })
+}
+
+/// A disk that is empty.
+fn disk(alloc: Global) -> MemDisk {
+    MemDisk::new(
+        alloc,
+        Vec::new(alloc),
+        DiskFails {
+            fail_open: Vec::new(alloc),
+            fail_len: Vec::new(alloc),
+            fail_read: Vec::new(alloc),
+            fail_write: Vec::new(alloc),
+            fail_sync: Vec::new(alloc),
+        },
+    )
 }
 
 /// How a client's node ends where these datagrams come, and whether it wrote what is given.
@@ -182,7 +199,15 @@ fn served(
     let mut link = MemLink::new(alloc, to_come, none, Vec::new(alloc), Vec::new(alloc));
     let mut clock = MemClock::new(Vec::new(alloc));
     let mut out = SureSink::new(alloc);
-    let served = serve(alloc, job, &mut link, &mut clock, &mut out);
+    let served = serve(
+        alloc,
+        job,
+        &mut link,
+        &mut clock,
+        &mut out,
+        &mut NoKeeper,
+        &mut disk(alloc),
+    );
     let is_written = out.bytes() == written;
     drop(link);
     drop(clock);

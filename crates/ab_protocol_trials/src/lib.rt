@@ -21,3 +21,5 @@ mod routes;
 mod solos;
 #[cfg(test)]
 mod trees;
+#[cfg(test)]
+mod views;

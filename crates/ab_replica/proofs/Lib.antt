@@ -2,4 +2,3 @@
 pub mod TurnLemmas
 pub mod PurposeLemmas
 pub mod CrossingLemmas
-pub mod CertLemmas

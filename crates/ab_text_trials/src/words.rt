@@ -55,6 +55,35 @@ fn commands(rt: HostRuntime) {
         ("node --base 1 --wait 1 --turns 1 --", false),
         ("node --base 1 --wait 1 --turns 1 --other 1", false),
         ("node base 1 --wait 1 --turns 1", false),
+        ("audit", true),
+        ("audit --why", true),
+        ("audit --why --why", false),
+        ("audit --why=", false),
+        ("audit why", false),
+        ("node --base 1 --wait 1 --turns 1 --journal r0", true),
+        (
+            "node --trace --journal=c0.2026-11_30 --base 1 --wait 1 --turns 1",
+            true,
+        ),
+        (
+            "node --base 1 --wait 1 --turns 1 --journal aaaaaaaaaaaaaaaaaaaaaaaaaaaaaaaaaaaaaaaaaaaaaaaaaaaaaaaaaaaaaaaa",
+            true,
+        ),
+        (
+            "node --base 1 --wait 1 --turns 1 --journal aaaaaaaaaaaaaaaaaaaaaaaaaaaaaaaaaaaaaaaaaaaaaaaaaaaaaaaaaaaaaaaaa",
+            false,
+        ),
+        ("node --base 1 --wait 1 --turns 1 --journal .r0", false),
+        ("node --base 1 --wait 1 --turns 1 --journal=-r0", false),
+        ("node --base 1 --wait 1 --turns 1 --journal R0", false),
+        ("node --base 1 --wait 1 --turns 1 --journal a/b", false),
+        ("node --base 1 --wait 1 --turns 1 --journal=", false),
+        ("node --base 1 --wait 1 --turns 1 --journal", false),
+        (
+            "node --base 1 --wait 1 --turns 1 --journal a --journal a",
+            false,
+        ),
+        ("node --journal a --wait 1 --turns 1", false),
     ];
     for (text, taken) in cases {
         assert!(rt;
@@ -107,4 +136,27 @@ fn keys(rt: HostRuntime) {
             .is_some();
         assert!(rt; taken == (word == "5"));
     }
+}
+
+/// Whether the words are a node with this journal.
+fn has_journal(rt: &HostRuntime, words: &[&str], journal: Option<&str>) -> Option<bool> {
+    match command_in(rt.alloc(), words).ok()? {
+        Some(Command::Node(asked)) => Some(asked.journal() == journal),
+        _ => None,
+    }
+}
+
+#[test]
+fn a_node_may_have_a_journal(rt: HostRuntime) {
+    let with = [
+        "node",
+        "--base=1",
+        "--wait=1",
+        "--turns=1",
+        "--journal",
+        "r0",
+    ];
+    let without = ["node", "--base=1", "--wait=1", "--turns=1"];
+    assert!(rt; has_journal(&rt, &with, Some("r0")) == Some(true));
+    assert!(rt; has_journal(&rt, &without, None) == Some(true));
 }

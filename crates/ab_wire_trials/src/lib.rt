@@ -1,8 +1,10 @@
-//! Tests of messages that are copied, of opening, of pieces and of a node's loop: apart from their crates, so that none is proved once more.
+//! Tests of messages that are copied, of opening, of pieces, of a node's loop and of the journal that it goes on with: apart from their crates, so that none is proved once more.
 #![tactic(auto)]
 
 #[cfg(test)]
 mod copies;
+#[cfg(test)]
+mod journals;
 #[cfg(test)]
 mod nodes;
 #[cfg(test)]

@@ -1,5 +1,5 @@
 -- Uses of which each option has one, and no other has any.
-use Rattle.std.proofs.Common.{◌≡◌, ℕ, ◌+◌, List, [], ◌∷◌, ◌++◌, Option, None, Some, Bool, true, false, refl, ap, sym, ◌∙◌, inl, inr, map, subst, cond, not, ◌||◌, append_assoc, length, arith}
+use Rattle.std.proofs.Common.{◌≡◌, ℕ, ◌+◌, List, [], ◌∷◌, ◌++◌, Option, None, Some, Bool, true, false, refl, ap, sym, ◌∙◌, inl, inr, map, subst, cond, not, ◌||◌, ◌⊎◌, append_assoc, length, arith}
 use Rattle.std.specs.Str.{bytes_eq}
 use Rattle.std.proofs.lemmas.Bool.{and_parts, cases_Bool, not-true}
 use Rattle.std.proofs.lemmas.Slice.Eq.{bytes_eq-Decides}
@@ -10,11 +10,11 @@ use Rattle.clap.specs.Words.{Text, Row}
 use Rattle.clap.specs.Walk.{has_row}
 use Rattle.clap.specs.Takes.{is_given}
 use Rattle.ab_words.specs.Uses.{Use}
-use Rattle.ab_words.specs.Options.{is_flag, has}
+use Rattle.ab_words.specs.Options.{is_flag, is_optional, has}
 use Rattle.ab_words.specs.Values.{of_name, value_of, sole}
 use Rattle.ab_words.specs.Language.{flag}
 use Rattle.ab_words.proofs.Taken.{row_of_use, IsTaken, AreTaken, unvalued, IsPlain, ArePlain}
-use Rattle.ab_words.specs.Found.{count_of_names, HasOnly, IsOnce, EachOnce, are_different}
+use Rattle.ab_words.specs.Found.{count_of_names, HasOnly, HasValue, IsLeftOut, IsOnce, EachOnce, are_different}
 use Rattle.ab_words.proofs.Ends.{AllGiven, flip}
 
 -- ---- counts
@@ -129,6 +129,15 @@ plain-as : (v : Option Text) (w : Text) → v ≡ Some w → strip_byte 45 w ≡
 plain-as None w e p = absurd cc (e)
 plain-as (Some v) w e p = let s : v ≡ w = cc (e) in subst (λ x. strip_byte 45 x ≡ None) (sym s) p
 
+not-empty : (xs : List Use) (u : Use) (ys : List Use) → xs ++ u ∷ ys ≡ [] → ⊥
+not-empty [] u ys e = absurd cc (e)
+not-empty (x ∷ xs) u ys e = absurd cc (e)
+
+-- an option that is used isn't left out
+value-there : (n : Text) (uses xs : List Use) (u : Use) (ys : List Use) → of_name n uses ≡ xs ++ u ∷ ys → HasValue n uses ⊎ IsLeftOut n uses → HasValue n uses
+value-there n uses xs u ys split (inl given) = given
+value-there n uses xs u ys split (inr left) = absurd (not-empty xs u ys (sym split ∙ left.1))
+
 head-is : (names : List Text) (a us : List Use) (u : Use) → has u.name names ≡ true → IsOnce u.name (a ++ u ∷ us) → Head names a u
 unfolding value_of
 head-is names a us u known once = elim (cases_Bool (is_flag u.name)) [
@@ -137,7 +146,7 @@ head-is names a us u known once = elim (cases_Bool (is_flag u.name)) [
       let s = flag-split (of_name u.name a) u (of_name u.name us) said.0 (sym (ap flag (split-at a us u)) ∙ said.1) in
       record { taken = record { known = known; kind = t ∙ sym (ap unvalued s.1); fresh = no-row u.name a s.0 }; plain = subst IsPlain (sym s.1) tt }
   | inr f ↦
-      let given = once.0 f in
+      let given = value-there u.name (a ++ u ∷ us) (of_name u.name a) u (of_name u.name us) (split-at a us u) (once.0 f) in
       let s = sole-split (of_name u.name a) u (of_name u.name us) given.0 (sym (ap sole (split-at a us u)) ∙ given.1) in
       record { taken = record { known = known; kind = f ∙ is-value u.value given.0 s.1; fresh = no-row u.name a s.0 }; plain = plain-as u.value given.0 s.1 given.2 }
 ]
@@ -160,7 +169,11 @@ given-is n v (u ∷ us) e = elim (cases_Bool (bytes_eq u.name n)) [
 all-given : (names : List Text) (us : List Use) → EachOnce names us → AllGiven names (map row_of_use us)
 unfolding value_of
 all-given [] us e = tt
-all-given (n ∷ ns) us e = ((λ f. let g = e.0.0 f in given-is n g.0 us g.1), all-given ns us e.1)
+all-given (n ∷ ns) us e = ((λ f needed. here (e.0.0 f) needed), all-given ns us e.1)
+  where
+    here : HasValue n us ⊎ IsLeftOut n us → is_optional n ≡ false → is_given n (map row_of_use us) ≡ true
+    here (inl g) needed = given-is n g.0 us g.1
+    here (inr left) needed = absurd cc (left.0, needed)
 
 pub each-taken : (names : List Text) (us : List Use) → are_different names ≡ true → EachOnce names us → HasOnly names us → AreTaken names [] us × ArePlain us × AllGiven names (map row_of_use us)
 each-taken names us d each only =

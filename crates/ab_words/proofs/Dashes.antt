@@ -17,7 +17,7 @@ use Rattle.ab_text.specs.Numbers.{is_number, number_of as number_text}
 use Rattle.ab_text.proofs.PartLemmas.{Lacks-decimal}
 use Rattle.ab_key_text.specs.Hex.{bytes_in, in_lower_case}
 use Rattle.ab_key_text.specs.Lines.{bounded, party_in}
-use Rattle.ab_words.specs.Values.{plan_name, service_name, height_name, number_in}
+use Rattle.ab_words.specs.Values.{plan_name, service_name, height_name, named, number_in}
 
 -- what takes no text with a dash in front takes plain texts alone
 plain-by : {B : Type 0} (read : List ℕ → Option B) → ((cs : List ℕ) → read (45 ∷ cs) ≡ None) → (v : List ℕ) (y : B) → read v ≡ Some y → strip_byte 45 v ≡ None
@@ -83,3 +83,9 @@ no-number cs = elim (cases_Bool (is_number (45 ∷ cs))) [
 
 pub number-plain : (low high : ℕ) (v : List ℕ) (y : ℕ) → number_in low high v ≡ Some y → strip_byte 45 v ≡ None
 number-plain low high = plain-by (number_in low high) (λ cs. ap (bounded low high) (no-number cs))
+
+no-name : (cs : List ℕ) → named (Some (45 ∷ cs)) ≡ None
+no-name cs = refl
+
+pub name-plain : (v : List ℕ) (y : Option (List ℕ)) → named (Some v) ≡ Some y → strip_byte 45 v ≡ None
+name-plain = plain-by (λ v. named (Some v)) no-name

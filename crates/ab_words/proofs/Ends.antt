@@ -13,7 +13,7 @@ use Rattle.clap.specs.Faults.{defaults_fault, default_fault, check_fault}
 use Rattle.clap.specs.Kinds.{or_else, check_kinds}
 use Rattle.clap.specs.declared.builder.value_parser.Reading.TheVariants.{AsWritten}
 use Rattle.clap.specs.declared.parser.matches.ValueSource.TheVariants.{DefaultValue}
-use Rattle.ab_words.specs.Options.{is_flag}
+use Rattle.ab_words.specs.Options.{is_flag, is_optional}
 use Rattle.ab_words.proofs.Rules.{full_as, full, rules, top, held, ending}
 use Rattle.ab_words.proofs.Turns.{settling, at_row-new}
 
@@ -105,10 +105,10 @@ unfolding defaults_fault
 defaults-free [] rows = refl
 defaults-free (n ∷ ns) rows = ap (λ k. or_else k (defaults_fault (with_default rows (full n)) (rules ns))) (default-free rows n (is_flag n)) ∙ defaults-free ns (with_default rows (full n))
 
--- each of these options is there
+-- each of these options is there that may not be left out
 abbrev pub AllGiven : List Text → List Row → Type 0
 AllGiven [] rows = Unit {0}
-AllGiven (n ∷ ns) rows = (is_flag n ≡ false → is_given n rows ≡ true) × AllGiven ns rows
+AllGiven (n ∷ ns) rows = (is_flag n ≡ false → is_optional n ≡ false → is_given n rows ≡ true) × AllGiven ns rows
 
 abbrev misses : List Row → Rule → Bool
 misses rows a = a.required && not (is_given a.id rows)
@@ -117,9 +117,14 @@ none-missing : (ns : List Text) (rows all : List Row) → Defaulted rows all →
 none-missing [] rows all d g = refl
 none-missing (n ∷ ns) rows all d g = elim (cases_Bool (is_flag n)) [
   | inl e ↦ ap (λ b. misses all (full_as b n) || list_any (misses all) (rules ns)) e ∙ none-missing ns rows all d g.1
-  | inr e ↦
-      let here : is_given n all ≡ true = ap (λ o. option_map_or (λ (r : Row). explicit_source r.source) o false) (found-past n rows all e d) ∙ g.0 e in
-      ap (λ b. misses all (full_as b n) || list_any (misses all) (rules ns)) e ∙ ap (λ b. not b || list_any (misses all) (rules ns)) here ∙ none-missing ns rows all d g.1
+  | inr e ↦ elim (cases_Bool (is_optional n)) [
+    | inl o ↦
+        ap (λ b. misses all (full_as b n) || list_any (misses all) (rules ns)) e ∙ ap (λ b. (not b && not (is_given n all)) || list_any (misses all) (rules ns)) o ∙ none-missing ns rows all d g.1
+    | inr o ↦
+        let here : is_given n all ≡ true = ap (λ o. option_map_or (λ (r : Row). explicit_source r.source) o false) (found-past n rows all e d) ∙ g.0 e o in
+        ap (λ b. misses all (full_as b n) || list_any (misses all) (rules ns)) e ∙ ap (λ b. (not b && not (is_given n all)) || list_any (misses all) (rules ns)) o
+        ∙ ap (λ b. not b || list_any (misses all) (rules ns)) here ∙ none-missing ns rows all d g.1
+  ]
 ]
 
 pub ends-free : (names : List Text) (rows base : List Row) (p : Option (Text × List Text)) → settling names rows p ≡ [] → settled_rows (rules names) p rows ≡ base → AllGiven names base

@@ -1,5 +1,5 @@
 -- The options of a command, as clap has them.
-use Rattle.std.specs.Prelude.{List, Bool, true, false, not, Some, map, codes}
+use Rattle.std.specs.Prelude.{List, Bool, true, false, not, ◌&&◌, Some, map, codes}
 use Rattle.std.specs.Str.{bytes_eq}
 use Rattle.std.specs.List.{list_any}
 use Rattle.clap.specs.Words.{App, Rule, Text, new_app, new_rule}
@@ -11,13 +11,17 @@ use Rattle.ab_words.specs.declared.options.TheConstants.{CLUSTER, KEYS, STORM, N
 abbrev pub is_flag : Text → Bool
 is_flag name = bytes_eq name (codes "trace")
 
+-- the option that may be left out
+abbrev pub is_optional : Text → Bool
+is_optional name = bytes_eq name (codes "journal")
+
 abbrev pub action_for : Bool → ArgAction
 action_for true = SetTrue
 action_for false = Set
 
--- a flag, or an option that takes one value and has to be there
+-- a flag, or an option that takes one value, and has to be there if it may not be left out
 abbrev pub rule_as : Bool → Text → Rule
-rule_as flag name = record (new_rule name) { long = Some name; action = Some (action_for flag); required = not flag }
+rule_as flag name = record (new_rule name) { long = Some name; action = Some (action_for flag); required = not flag && not (is_optional name) }
 
 abbrev pub rule_named : Text → Rule
 rule_named name = rule_as (is_flag name) name

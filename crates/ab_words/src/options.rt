@@ -8,6 +8,9 @@ pub(crate) const EVENTS: &str = "events";
 
 pub(crate) const F: &str = "f";
 
+/// The name of a journal, which may be missing.
+pub(crate) const JOURNAL: &str = "journal";
+
 pub(crate) const LMS: &str = "lms";
 
 pub(crate) const PARTY: &str = "party";
@@ -25,6 +28,9 @@ pub(crate) const TURNS: &str = "turns";
 
 pub(crate) const WAIT: &str = "wait";
 
+/// The only word that the command `audit` takes.
+pub(crate) const WHY: &str = "--why";
+
 /// The options of the command `keys`.
 pub(crate) const KEYS: &[&str] = &[PLAN, F, CLIENTS, SERVICE, LMS, SEED, PARTY];
 
@@ -35,4 +41,4 @@ pub(crate) const CLUSTER: &[&str] = &[PLAN, F, SERVICE, LMS, SEED, BASE, WAIT, T
 pub(crate) const STORM: &[&str] = &[PLAN, F, CLIENTS, SEED, EVENTS];
 
 /// The options of the command `node`.
-pub(crate) const NODE: &[&str] = &[BASE, WAIT, TURNS, TRACE];
+pub(crate) const NODE: &[&str] = &[BASE, WAIT, TURNS, TRACE, JOURNAL];

@@ -2,7 +2,7 @@
 
 ghost use Rattle.std.specs.Prelude.{◌≡◌, IfOk, None, Some};
 ghost use Rattle.ab_words.specs.Found.{HasOnly};
-ghost use Rattle.ab_words.specs.Language.{cluster_in, cluster_of as cluster_words, command_in, command_of, keys_in, keys_of, node_in, node_of, storm_in, storm_of};
+ghost use Rattle.ab_words.specs.Language.{audit_of, cluster_in, cluster_of as cluster_words, command_in, command_of, keys_in, keys_of, node_in, node_of, storm_in, storm_of};
 ghost use Rattle.ab_words.specs.Options.{cluster_options, keys_options, node_options, storm_options};
 ghost use Rattle.ab_words.specs.Uses.{texts};
 
@@ -10,10 +10,10 @@ use crate::command::{ClusterCommand, Command, KeysCommand, NodeCommand, StormCom
 use crate::names::{height_named, plan_named, service_named};
 use crate::options::{
     BASE, CLIENTS, CLUSTER, EVENTS, F, KEYS, LMS, NODE, PARTY, PLAN, SEED, SERVICE, STORM, TURNS,
-    WAIT,
+    WAIT, WHY,
 };
 use crate::uses::{Uses, uses_in};
-use crate::values::number_of;
+use crate::values::{journal_of, number_of};
 use ab_key_text::{bytes_in, party_in};
 use ab_keys::is_party;
 use ab_num::OutOfMemory;
@@ -70,11 +70,13 @@ fn node_in(uses: &Uses<'_>) -> Option<NodeCommand>
     let wait = number_of(uses, WAIT, 1, 60000)? as u16;
     let turns = number_of(uses, TURNS, 1, 1000000000)? as u32;
     let trace = uses.trace();
+    let journal = journal_of(uses)?;
     Some(NodeCommand {
         base,
         wait,
         turns,
         trace,
+        journal,
     })
 }
 
@@ -156,6 +158,23 @@ fn cluster_words<'a>(alloc: Global, words: &'a [&'a str]) -> Result<Option<Comma
     }
 }
 
+/// The audit that the words ask for.
+fn audit_of(words: &[&str]) -> Option<Command>
+    ensures { result ≡ audit_of (texts words.now) }
+{
+    match words {
+        [] => Some(Command::Audit { why: false }),
+        [word] => {
+            if *word == WHY {
+                Some(Command::Audit { why: true })
+            } else {
+                None
+            }
+        }
+        _ => None,
+    }
+}
+
 /// The command that the words are, of which the first is its name.
 #[tactic(auto, unfolding(crate::specs::Language::command_of))]
 fn command_of<'a>(
@@ -182,11 +201,7 @@ fn command_of<'a>(
         return node_of(alloc, words);
     }
     if name == b"audit".as_slice() {
-        return Ok(if words.is_empty() {
-            Some(Command::Audit)
-        } else {
-            None
-        });
+        return Ok(audit_of(words));
     }
     if name == b"cluster".as_slice() {
         return cluster_words(alloc, words);

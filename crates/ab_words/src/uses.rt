@@ -5,12 +5,12 @@ ghost use Rattle.std.specs.List.{list_any};
 ghost use Rattle.std.specs.Str.{bytes_eq};
 ghost use Rattle.clap.specs.Words.{app_of, rule_of};
 ghost use Rattle.ab_words.specs.Language.{flag};
-ghost use Rattle.ab_words.specs.Values.{of_name, value_of};
+ghost use Rattle.ab_words.specs.Values.{of_name, optional_of, value_of};
 ghost use Rattle.ab_words.specs.Uses.{text_at, texts, uses_in};
-ghost use Rattle.ab_words.specs.Options.{action_for, app_with, is_flag, rule_named};
+ghost use Rattle.ab_words.specs.Options.{action_for, app_with, is_flag, is_optional, rule_named};
 ghost use Rattle.ab_words.specs.Found.{HasOnly, Refuses, are_names, dashes};
 
-use crate::options::TRACE;
+use crate::options::{JOURNAL, TRACE};
 use ab_num::OutOfMemory;
 use clap::error::ErrorKind;
 use clap::{Arg, ArgAction, ArgMatches, Command};
@@ -48,6 +48,13 @@ impl<'a> Uses<'a> {
         }
     }
 
+    /// The name of a journal, or None where the option is left out.
+    pub(crate) fn journal(&self) -> Option<&'a str>
+        ensures { optional_of (codes "journal") self.now ≡ Some (text_at result) }
+    {
+        self.matches.get_str(JOURNAL)
+    }
+
     /// Whether the flag is used.
     pub(crate) fn trace(&self) -> bool
         ensures { flag (of_name (codes "trace") self.now) ≡ Some result }
@@ -61,6 +68,13 @@ fn is_flag(name: &str) -> bool
     ensures { result ≡ is_flag name.now }
 {
     name == TRACE
+}
+
+/// Whether an option may be left out.
+fn is_optional(name: &str) -> bool
+    ensures { result ≡ is_optional name.now }
+{
+    name == JOURNAL
 }
 
 /// What is done at a use.
@@ -83,7 +97,7 @@ fn option<'a>(alloc: Global, name: &'a str) -> Arg<'a>
     Arg::new(alloc, name)
         .long(name)
         .action(action_for(flag))
-        .required(!flag)
+        .required(!flag && !is_optional(name))
 }
 
 /// A command of these options.

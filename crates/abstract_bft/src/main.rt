@@ -5,7 +5,8 @@
 //! It ends with 0 where the premises of the order properties held, 1 where one was broken, 2 for
 //! words that are no command, 3 for a line that is refused, 4 for a fault of standard input, 5 for one
 //! of standard output or standard error, 6 for one of the socket, 7 past a limit, 8 where a client's turns were used and
-//! commands are unanswered, 9 where an allocation failed, and 12 where a child of a cluster could not be started or waited for.
+//! commands are unanswered, 9 where an allocation failed, 10 for a fault of a journal's file, 11 where a journal's entry is refused,
+//! and 12 where a child of a cluster could not be started or waited for.
 #![tactic(auto)]
 
 ghost use Rattle.std.specs.Prelude.{◌≡◌, IfOk};
@@ -14,7 +15,7 @@ ghost use Rattle.ab_net.specs.UdpLinks.{unopened};
 use ab_command::{refuse_memory, run};
 use ab_net::{StdClock, UdpLink};
 use ab_process::ProcSpawner;
-use ab_standard::{StdSink, StdSource, program, texts, words};
+use ab_standard::{FileDisk, StdSink, StdSource, program, texts, words};
 use std::alloc::AllocError;
 use std::io;
 use std::process::ExitCode;
@@ -26,6 +27,13 @@ fn network(rt: &HostRuntime) -> Result<(UdpLink<HostRuntime>, StdClock<HostRunti
     let link = UdpLink::new(rt.clone()?);
     let clock = StdClock::new(rt.clone()?);
     Ok((link, clock))
+}
+
+/// The file of a journal, which isn't open.
+fn disk(rt: &HostRuntime) -> Result<FileDisk, AllocError>
+    ensures { IfOk result (λ d. d ≡ 0) }
+{
+    Ok(FileDisk::new(rt.clone()?))
 }
 
 /// Starts this program, by the word by which it was itself started.
@@ -58,6 +66,9 @@ fn main(rt: HostRuntime) -> ExitCode {
     let Ok((mut link, mut clock)) = network(&rt) else {
         return ExitCode::from(refuse_memory(&mut err));
     };
+    let Ok(mut disk) = disk(&rt) else {
+        return ExitCode::from(refuse_memory(&mut err));
+    };
     let Ok(mut spawner) = spawner(&rt) else {
         return ExitCode::from(refuse_memory(&mut err));
     };
@@ -69,6 +80,7 @@ fn main(rt: HostRuntime) -> ExitCode {
         &mut err,
         &mut link,
         &mut clock,
+        &mut disk,
         &mut spawner,
     );
     ExitCode::from(status)

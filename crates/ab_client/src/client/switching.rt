@@ -17,6 +17,7 @@ use super::{Client, nothing};
 use crate::certs::{history_of, is_kept, keep, own_cert, timely};
 use crate::sending::{asking_again, entering, panicking};
 use ab_abs::{Marks, Seen, Votes, reply_rule};
+use ab_extract::take_view;
 use ab_form::ListRef;
 use ab_hist::{History, Request};
 use ab_msg::{AbortCert, Outs, Signed};
@@ -141,27 +142,27 @@ impl Client {
         self.take_abort(alloc, v, &request)
     }
 
-    /// Takes a certificate of instance `j`, which is the present or a later one.
-    fn take_cert(
+    /// Takes a certificate of instance `j`, which is the present or a later one. One that isn't valid is not copied.
+    fn take_cert<'a>(
         &mut self,
         alloc: Global,
         j: u32,
-        cert: AbortCert,
+        cert: &ListRef<'a, SignedRef<'a>>,
         request: &Request,
     ) -> Result<(Outs, Marks), OutOfMemory>
         requires late { (self.old.cli.at ≤ j) × (j < 4294967295) }
-        requires cert { AreAborts 1 7 cert }
+        requires cert { AreAborts 1 7 (aborts cert.now) }
         requires request { self.old.cli.last ≡ Some request.now }
-        ensures ok { IfOk result (λ r. IsMoved self.old (taking (alone self.old.cluster) self.old.cli request.now j cert) self.new r.0 r.1.items) }
+        ensures ok { IfOk result (λ r. IsMoved self.old (taking (alone self.old.cluster) self.old.cli request.now j (aborts cert.now)) self.new r.0 r.1.items) }
         ensures err { OnErr result (self.new ≡ self.old) }
     {
-        match history_of(alloc, &self.cluster, j, &cert)? {
-            Some(h) => self.enter(alloc, j, cert, h, request),
+        match take_view(alloc, &self.cluster, j, cert)? {
+            Some((h, own)) => self.enter(alloc, j, own, h, request),
             None => Ok(nothing(alloc)),
         }
     }
 
-    /// Takes a certificate. One of an earlier instance is not copied.
+    /// Takes a certificate. One of an earlier instance is not looked at.
     pub(super) fn on_init<'a>(
         &mut self,
         alloc: Global,
@@ -174,8 +175,8 @@ impl Client {
         let Some(request) = self.request() else {
             return Ok(nothing(alloc));
         };
-        match timely(alloc, self.instance, cert)? {
-            Some((j, cert)) => self.take_cert(alloc, j, cert, &request),
+        match timely(self.instance, &cert) {
+            Some(j) => self.take_cert(alloc, j, &cert, &request),
             None => Ok(nothing(alloc)),
         }
     }

@@ -7,4 +7,4 @@ use Rattle.ab_audit.proofs.audit.Audit.news_among.Given as goal
 abbrev pub invariant-checks : goal.invariant-checks
 invariant-checks l =
     (goal.iterator-checks).can_next l.check-iterator × (goal.iterator-checks).is_finite l.check-iterator
-    × (notes_in l.news.items ++ flat_map (news_of l.self) l.check-iterator ≡ flat_map (news_of l.self) l.fn.checks)
+    × (notes_in l.news.items ++ flat_map (news_of l.self l.number) l.check-iterator ≡ flat_map (news_of l.self l.number) l.fn.checks)

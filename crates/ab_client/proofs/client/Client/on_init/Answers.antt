@@ -1,5 +1,5 @@
-use Rattle.std.proofs.Common.{◌<◌, ◌≤◌, ap, subst}
-use Rattle.std.specs.Prelude.{◌⊎◌, is_some}
+use Rattle.std.proofs.Common.{◌<◌, ◌≤◌, refl, subst}
+use Rattle.std.specs.Prelude.{◌⊎◌}
 use Rattle.ab_msg.specs.declared.message.Msg.TheVariants as msg
 use Rattle.ab_wire.specs.Views.{aborts}
 use Rattle.ab_run.specs.Replicas.{cert_instance}
@@ -13,5 +13,5 @@ returns-in-None-clause-ok c =
     let s : Seat = c.args.self.now in
     let cert = aborts c.args.cert in
     let late : (cert_instance cert < s.cli.at) ⊎ (4294967295 ≤ cert_instance cert) =
-    subst (λ (t : Seat). (cert_instance cert < t.cli.at) ⊎ (4294967295 ≤ cert_instance cert)) c.self.view_is (c.in_ok-j.ensures.none (ap is_some c.in-None.is)) in
+    subst (λ (t : Seat). (cert_instance cert < t.cli.at) ⊎ (4294967295 ≤ cert_instance cert)) c.self.view_is (c.in-None.ensures.none refl) in
     moved_nothing s (moves_on s (cue_message (msg.Init cert))) c.nothing-in-None.result.0 c.nothing-in-None.result.1.items c.nothing-in-None.ensures.outs c.nothing-in-None.ensures.marks (init_late s cert late)

@@ -1,4 +1,4 @@
-use Rattle.std.proofs.Common.{◌≡◌, ◌∙◌, Some, ap, sym}
+use Rattle.std.proofs.Common.{◌∙◌, Some, ap, sym}
 use Rattle.std.specs.Result.{result_ok}
 use Rattle.ab_msg.specs.declared.message.Msg.{Msg}
 use Rattle.ab_party.specs.Credentials.{Credentials, opening_by}

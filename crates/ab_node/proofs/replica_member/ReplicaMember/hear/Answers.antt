@@ -1,4 +1,4 @@
-use Rattle.std.proofs.Common.{◌≡◌, All, sym, ap, ◌∙◌, subst}
+use Rattle.std.proofs.Common.{All, sym, ap, ◌∙◌, subst}
 use Rattle.ab_run.specs.Forms.{IsDraftOf}
 use Rattle.ab_run.specs.Local.{rep_sends}
 use Rattle.ab_run.specs.Replicas.{is_spent}

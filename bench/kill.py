@@ -1,0 +1,255 @@
+#!/usr/bin/env python3
+"""Kills the nodes of clusters with journals at random moments, starts them again, and looks at what all of them did.
+
+usage: kill.py [--plan P] [--kills N] [--seed S] [--clients N] [--commands N] [--wait W] [--pause T] [--seconds S] [--lms H] [--timed N]
+               [--folder F]
+
+Without `--plan` all six plans are tried. Of each plan one cluster after another runs, until N nodes (200) were killed by SIGKILL. A
+cluster has four replicas and N clients (2), each with so many commands (40), all with journals and traces. Nodes are killed after random
+pauses, T seconds in the middle (0.5): mostly one, sometimes two, sometimes all at once, also while they read their journals. They are
+started again after a further pause. S of `--seed` (1) gives the moments and who is killed, as far as the machine goes along. Once the
+clients have ended, or after S seconds (120), all is stopped.
+
+What the journals have is then put together as one schedule: each event at the first line that its party wrote of it. That is replayed.
+It ends with 1 if the replay says anything but `premise held`; if a process writes other events again than its journal has; if a process
+of a client writes other replies than the first ones that the replay commits, in their order and each once; if a client's commands aren't
+its first ones, each once; if a node ends by itself otherwise than a client whose commands are answered; or if a cluster answers nothing.
+Then it tells where it left a copy of the cluster's files.
+
+Then each plan is timed: N commands (200) of one client, without traces, with journals and without. A replica and the client have journals
+of so many bytes a command. Journals lie in a folder of F, by default where temporary files do: where that is no disk, a sync costs
+nothing. The last cluster has a replica whose journal is in a file system of 32 KiB, if one can be mounted: it ends with 10, and goes on
+with a copy of its journal elsewhere."""
+
+import argparse
+import pathlib
+import random
+import shutil
+import subprocess
+import sys
+import tempfile
+import time
+
+import cluster
+from journals import Kept, faults_of
+from programs import end_in_order, need, parser_of
+from storms import PLANS
+
+REPLICAS = [f"r{r}" for r in range(cluster.REPLICAS)]
+# How often it is one node that is killed, two, or all.
+SHARES = (16, 3, 1)
+# So many commands fill a journal in a small file system.
+FULL = 300
+SMALL = "32k"
+DISK_FAULT = 10
+
+
+def clients_of(asked):
+    return [f"c{c}" for c in range(asked.clients)]
+
+
+def begin(nodes, asked):
+    """Starts the replicas and then, once they listen, the clients with their commands."""
+    for replica in REPLICAS:
+        nodes.set_up(replica)
+        nodes.begin(replica)
+    for c, client in enumerate(clients_of(asked)):
+        nodes.set_up(client, [b"put k%d_%d v%d" % (c, n % 50, n) for n in range(asked.commands)])
+    nodes.wait_for_ports(60)
+    for client in clients_of(asked):
+        nodes.begin(client)
+
+
+class Killer:
+    """Kills nodes of a cluster at random moments, at most so many, and starts them again."""
+
+    def __init__(self, nodes, asked, draws, most):
+        self.nodes, self.asked, self.draws, self.most = nodes, asked, draws, most
+        self.end = time.monotonic() + asked.seconds
+
+    def clients_left(self):
+        return [party for party in self.nodes.running() if party.startswith("c")]
+
+    def pause(self):
+        time.sleep(self.draws.uniform(0, 2 * self.asked.pause))
+
+    def goes_on(self):
+        return self.clients_left() and time.monotonic() < self.end
+
+    def victims(self):
+        running = self.nodes.running()
+        count = self.draws.choices((1, 2, len(running)), SHARES)[0]
+        return self.draws.sample(running, min(count, len(running), self.most - self.nodes.kills))
+
+    def kill(self):
+        """Kills until the clients have ended, or enough were killed; then waits for the clients."""
+        while self.nodes.kills < self.most and self.goes_on():
+            self.pause()
+            killed = self.nodes.kill(self.victims())
+            if self.draws.random() < 0.5:
+                self.pause()
+            for party in killed:
+                self.nodes.begin(party)
+        self.nodes.wait_for(self.clients_left(), max(0, self.end - time.monotonic()))
+
+
+def end_faults(statuses, running):
+    """What is wrong with how nodes ended that weren't stopped."""
+    for party, status in statuses.items():
+        if party not in running and (party.startswith("r") or status != cluster.ANSWERED):
+            yield f"{party} ended by itself, with status {status}"
+
+
+def told_of(plan, asked, **others):
+    """What a cluster of this plan is told."""
+    return argparse.Namespace(**{**vars(asked), "plan": plan, "quiet": False, **others})
+
+
+def killed_once(plan, asked, draws, most):
+    """A cluster whose nodes are killed: how many were, how many commands were answered, and what is wrong."""
+    asked = told_of(plan, asked)
+    with tempfile.TemporaryDirectory(dir=asked.folder) as folder:
+        nodes = Kept(folder, asked)
+        try:
+            begin(nodes, asked)
+            Killer(nodes, asked, draws, most).kill()
+            running = nodes.running()
+        finally:
+            statuses, said = nodes.stop()
+        faults, answered = faults_of(nodes)
+        faults += end_faults(statuses, running)
+        faults += [f"{party} said: {text.strip()}" for party, text in said.items() if text]
+        if not answered:
+            faults.append("no command was answered")
+        if faults:
+            faults.append(f"its texts, lines, journals and schedule are in {copied(folder, asked)}")
+        return nodes.kills, answered, faults
+
+
+def copied(folder, asked):
+    """Where a copy of this folder is."""
+    copy = tempfile.mkdtemp(prefix="kill-", dir=asked.folder)
+    shutil.copytree(folder, copy, dirs_exist_ok=True)
+    return copy
+
+
+def killed(plan, asked):
+    """Clusters of this plan, until enough nodes were killed. Yields what is wrong."""
+    draws = random.Random(f"{plan} {asked.seed}")
+    kills = answered = clusters = 0
+    while kills < asked.kills:
+        more, replies, faults = killed_once(plan, asked, draws, asked.kills - kills)
+        kills, answered, clusters = kills + more, answered + replies, clusters + 1
+        yield from (f"{plan}, cluster {clusters}: {fault}" for fault in faults)
+        if faults:
+            break
+    wanted = clusters * asked.clients * asked.commands
+    print(f"{plan}: {kills} kills in {clusters} clusters, {answered} of {wanted} commands answered", flush=True)
+
+
+def timed(plan, asked, with_journals):
+    """How many commands a second one client has answered, and the bytes of journals a command."""
+    asked = told_of(plan, asked, clients=1, commands=asked.timed, wait=1000, quiet=True, stop=None, noise=False)
+    with tempfile.TemporaryDirectory(dir=asked.folder) as folder:
+        nodes = cluster.Cluster(folder, asked)
+        if with_journals:
+            nodes.journals = nodes.folder / "journals"
+            nodes.journals.mkdir()
+        try:
+            seconds = cluster.run(nodes, asked)
+        finally:
+            nodes.stop()
+        answered = len(nodes.replies())
+        sizes = [(nodes.journals / party).stat().st_size / max(1, answered) for party in ("r0", "c0") if with_journals]
+    return answered, answered / seconds, sizes
+
+
+def tell_times(plan, asked):
+    """Tells the times of a plan, and yields what is wrong."""
+    for with_journals in (False, True):
+        answered, rate, sizes = timed(plan, asked, with_journals)
+        told = "".join(f", {size:.0f} bytes a command in the journal of {party}" for party, size in zip(("r0", "c0"), sizes))
+        print(f"{plan}: {rate:.0f} commands a second {'with' if with_journals else 'without'} journals{told}", flush=True)
+        if answered < asked.timed:
+            yield f"{plan}: {answered} of {asked.timed} commands were answered while it was timed"
+
+
+def mounted(folder):
+    """Whether a small file system could be mounted here."""
+    done = subprocess.run(["mount", "-t", "tmpfs", "-o", f"size={SMALL}", "tmpfs", folder], capture_output=True)
+    return done.returncode == 0
+
+
+def fill(nodes, small):
+    """Runs a cluster whose last replica's journal is in a small folder, until it ends. The replica then goes on with a copy."""
+    victim = REPLICAS[-1]
+    nodes.elsewhere[victim] = small
+    begin(nodes, nodes.asked)
+    nodes.wait_for([victim], nodes.asked.seconds)
+    if nodes.nodes[victim].poll() is None:
+        yield f"{victim} doesn't end, and its disk is small"
+        return
+    said = nodes.nodes[victim].communicate()[1]
+    if (nodes.nodes[victim].returncode, said) != (DISK_FAULT, b"disk fault\n"):
+        yield f"{victim} ended with {nodes.nodes[victim].returncode}, where its disk was full, and said {said}"
+    shutil.copy(small / victim, nodes.journals / victim)
+    del nodes.elsewhere[victim]
+    nodes.begin(victim)
+    nodes.wait_for(["c0"], nodes.asked.seconds)
+
+
+def full(asked):
+    """A cluster one of whose disks is full. Yields what is wrong."""
+    asked = told_of("quorum", asked, clients=1, commands=FULL)
+    with tempfile.TemporaryDirectory(dir=asked.folder) as folder:
+        small = pathlib.Path(folder) / "small"
+        small.mkdir()
+        if not mounted(small):
+            print("a full disk: no small file system can be mounted here")
+            return
+        nodes = Kept(folder, asked)
+        try:
+            yield from fill(nodes, small)
+            running = nodes.running()
+        finally:
+            statuses, _ = nodes.stop()
+            subprocess.run(["umount", small], check=True)
+        faults, answered = faults_of(nodes)
+        print(f"a full disk: {answered} of {FULL} commands answered")
+        yield from (f"a full disk: {fault}" for fault in (*faults, *end_faults(statuses, running)))
+
+
+def options():
+    parser = parser_of(__doc__)
+    parser.add_argument("--plan", choices=PLANS)
+    parser.add_argument("--kills", type=int, default=200)
+    parser.add_argument("--seed", type=int, default=1)
+    parser.add_argument("--clients", type=int, default=2)
+    parser.add_argument("--commands", type=int, default=40)
+    parser.add_argument("--wait", type=int, default=200)
+    parser.add_argument("--pause", type=float, default=0.5)
+    parser.add_argument("--seconds", type=float, default=120)
+    parser.add_argument("--lms", default="10")
+    parser.add_argument("--timed", type=int, default=200)
+    parser.add_argument("--folder")
+    return parser.parse_args()
+
+
+def main():
+    asked = options()
+    need("abstract_bft")
+    end_in_order()
+    asked.base = cluster.free_base()
+    faults = []
+    for plan in [asked.plan] if asked.plan else PLANS:
+        for fault in (*killed(plan, asked), *(tell_times(plan, asked) if asked.timed else ())):
+            print(fault, flush=True)
+            faults.append(fault)
+    for fault in full(asked):
+        print(fault, flush=True)
+        faults.append(fault)
+    sys.exit(1 if faults else 0)
+
+
+if __name__ == "__main__":
+    main()
