@@ -1,9 +1,9 @@
 -- Chunks, and the entries that they hold.
-use Rattle.std.proofs.Common.{◌≡◌, ℕ, zero, suc, ◌+◌, ◌*◌, ◌-◌, ◌/◌, ◌%◌, ◌<◌, ◌≤◌, List, [], ◌∷◌, ◌++◌, length, take, drop, fold, get_or, slice_get, Some, Contains, arith, sym, ◌∙◌, ap, refl, length-append, append_assoc, append-nil, inl, inr, subst, replicate, zero-add}
+use Rattle.std.proofs.Common.{◌≡◌, ℕ, zero, suc, ◌+◌, ◌*◌, ◌-◌, ◌/◌, ◌%◌, ◌<◌, ◌≤◌, List, [], ◌∷◌, ◌++◌, length, take, drop, get_or, slice_get, Some, Contains, arith, sym, ◌∙◌, ap, refl, length-append, append_assoc, append-nil, inl, inr, subst, replicate, zero-add}
 use Rattle.std.proofs.Math.Seq.{take-append-add}
 use Rattle.std.proofs.Math.Nat.{div-add-mod}
 use Rattle.std.proofs.lemmas.Bool.{cases_lt}
-use Rattle.std.proofs.lemmas.List.{length-take, take-append-le, take-append-drop, take_all, take_at, drop_all, get_or-append-add, get_or_append_left, get_or_default}
+use Rattle.std.proofs.lemmas.List.{length-take, take-append-le, take-append-drop, take_at, drop_all, get_or-append-add, get_or_append_left, get_or_default}
 use Rattle.std.proofs.lemmas.List.Elements.{All-append, Contains-append_cases}
 use Rattle.std.proofs.lemmas.List.Sums.{fold-append}
 use Rattle.std.proofs.lemmas.List.Concat.{flat_map-append}

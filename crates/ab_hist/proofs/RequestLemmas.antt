@@ -8,7 +8,7 @@ use Rattle.std.proofs.lemmas.Bool.{cases_order, cases_Bool, false_from_ne_true, 
 use Rattle.std.proofs.lemmas.Bool.Decides.{Decides-eqb, Decides-and, Decides-like, Decides-ltb, Decides-by_and, nat_tests}
 use Rattle.std.proofs.lemmas.Slice.Eq.{bytes_eq-Decides, slice_eq-Decides}
 use Rattle.std.proofs.lemmas.Option.{slice_get_read, slice_get_within, get_or_from_slice_get}
-use Rattle.std.proofs.lemmas.List.{get_or-map, get_or-take, length-map, length-take, take_all, take-append-le, take_more_same, get_or_default}
+use Rattle.std.proofs.lemmas.List.{get_or-map, get_or-take, length-map, length-take, take_all, take-append-le, get_or_default}
 use Rattle.std.proofs.lemmas.List.Quantifiers.{position-Some}
 use mathlib.Core.List.{IsPrefix}
 use Rattle.ab_hist.specs.declared.request.Request.{Request}
@@ -86,18 +86,6 @@ prefix_from_front h k e = (drop (length h) k, ap (λ xs. xs ++ drop (length h) k
 
 pub front_from_prefix : (h k : List Request) → IsPrefix h k → take (length h) k ≡ h
 front_from_prefix h k (rest, e) = ap (take (length h)) (sym e) ∙ take-append-le (length h) h rest (omega arith) ∙ take_all (length h) h (omega arith)
-
--- two lists that agree as far as k, and have one request there
-pub agree_more : (xs ys : List Request) (k : ℕ) (a b : Request) → slice_get xs k ≡ Some a → slice_get ys k ≡ Some b → a ≡ b → take k ys ≡ take k xs → take (k + 1) ys ≡ take (k + 1) xs
-agree_more xs ys k a b there here one same =
-    take_more_same ys xs k a (slice_get_within ys k b here) (slice_get_within xs k a there) same
-    (get_or_from_slice_get ys k b a here ∙ sym one ∙ sym (get_or_from_slice_get xs k a a there))
-
--- a list that another begins with has its request at place k
-pub agree_at : (xs ys : List Request) (k : ℕ) (a b : Request) → slice_get xs k ≡ Some a → slice_get ys k ≡ Some b → take (length xs) ys ≡ xs → a ≡ b
-agree_at xs ys k a b there here front =
-    let short : k < length xs = slice_get_within xs k a there in
-    sym (get_or_from_slice_get xs k a a there) ∙ ap (λ l. get_or l k a) (sym front) ∙ get_or-take (length xs) ys k a short ∙ get_or_from_slice_get ys k b a here
 
 differs : (m x : Request) → Precedes x m → is_key_of m (key_of x) ≡ false
 differs m x before = elim (cases_Bool (is_key_of m (key_of x))) [

@@ -31,7 +31,7 @@ pub enum PushFault {
 }
 
 /// A list of requests in which the stamps of each client rise, in chunks of 64. Copies share the chunks; a `push` on a copy
-/// copies the last one. No call walks the entries but `is_prefix_of` and `is_equal`.
+/// copies the last one. No call walks the entries but `is_prefix_of` and `is_equal`, chunk by chunk.
 pub struct History {
     parts: Vec<Part>,
     len: usize,
@@ -230,8 +230,8 @@ impl History {
         if h.len < self.len {
             return false;
         }
-        for n in 0..self.len {
-            if self.at(n + 1) != h.at(n + 1) {
+        'chunks: for n in 0..(self.len + CHUNK - 1) / CHUNK {
+            if !self.parts[n].is_front_of(&h.parts[n]) {
                 return false;
             }
         }
