@@ -34,7 +34,7 @@ fn write_log_of<S: Service, P: Protocol<S>>(
     let Some(instance) = world.instance_of(r) else {
         unreachable!()
     };
-    let Some(log) = world.log_of(r) else {
+    let Some(log) = world.present_log(r) else {
         unreachable!()
     };
     let entries = entries(alloc, log)?;

@@ -42,7 +42,7 @@ module _ {P : Type 0} (proto : Proto P) where
   front_or n (Ok h) some all each = ap (λ l. input_of h ∷ l) (each h)
   front_or n (Err fault) some all each = refl
 
-  front_inputs : (n : ℕ) (w : World P) (es : List Event) → inputs_of proto w (take n es) ≡ take n (inputs_of proto w es)
+  pub front_inputs : (n : ℕ) (w : World P) (es : List Event) → inputs_of proto w (take n es) ≡ take n (inputs_of proto w es)
   front_inputs zero w es = refl
   front_inputs (suc n) w [] = refl
   front_inputs (suc n) w (e ∷ es) =

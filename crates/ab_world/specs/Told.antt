@@ -1,7 +1,8 @@
 -- What is told of a run, in a report or a summary.
-use Rattle.std.specs.Prelude.{◌≡◌, ◌↔◌, ℕ, Bool, false, nat_le, List, map, reverse, slice_get, take, Some}
+use Rattle.std.specs.Prelude.{◌≡◌, ◌↔◌, ℕ, ◌+◌, ◌*◌, ◌<◌, Option, Bool, false, nat_le, List, map, reverse, slice_get, take, Some}
 use Rattle.std.specs.List.{filter}
 use Rattle.ab_num.specs.declared.party.Party.TheVariants.{Replica}
+use Rattle.ab_hist.specs.declared.request.Request.{Request}
 use Rattle.ab_text.specs.declared.event.Event.{Event}
 use Rattle.ab_text.specs.declared.line.Line.{Line}
 use Rattle.ab_text.specs.declared.line.Premise.{Premise}
@@ -48,6 +49,18 @@ pub record KeepsPromises {S P : Type 0} (machine : Machine S) (proto : Proto P) 
       Ordered machine (reverse w.seen) (named_by (run_setup x) w) (run_setup x).faulty
   pub instances : let w = run_of proto x es in
       EachIsAbstract machine (reverse w.seen) (named_by (run_setup x) w) (run_setup x).faulty
+
+-- correct replica r was in instance i after some of the events
+pub record WasIn {P : Type 0} (proto : Proto P) (x : Setup) (es : List Event) (i r : ℕ) : Type 0 where
+  pub replica : r < 3 * x.cluster.f + 1
+  pub correct : is_bad x (Replica r) ≡ false
+  pub first : ℕ
+  pub there : ((run_of proto x (take first es)).reps r).at ≡ i
+
+-- it is the last log that the run keeps of correct replica r in instance i, and there exactly if the replica was in it
+pub record IsLogIn {P : Type 0} (proto : Proto P) (x : Setup) (es : List Event) (i r : ℕ) (log : Option (List Request)) : Type 0 where
+  pub was : (h : List Request) → log ≡ Some h → WasIn proto x es i r
+  pub is : WasIn proto x es i r → log ≡ Some ((run_of proto x es).log i r)
 
 -- what a world tells of the run of the events that led to it: what was seen; the logs of the correct replicas; the premise line, which is
 -- that of the run, to the letter; and where it says `held` the run keeps what Abstract promises
