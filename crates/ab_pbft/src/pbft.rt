@@ -10,14 +10,14 @@ ghost use Rattle.ab_pbft_shelf.specs.Posts.{posts_all, signings};
 ghost use Rattle.ab_pbft_shelf.specs.Signing.{author_of, is_leaving, leavings};
 ghost use Rattle.ab_pbft.specs.Events.{next_of, post_of, signs_of};
 
-use crate::putting::{receive, shelve};
+use crate::putting::shelve;
 use ab_abs::{Entry, StepFault};
 use ab_backup::Orderer;
 use ab_hist::History;
 use ab_msg::{Notary, Outs};
 use ab_num::{Cluster, OutOfMemory};
 use ab_pbft_shelf::{Author, Shelf};
-use ab_pbft_work::{Memory, Placement, Progress};
+use ab_pbft_work::{Memory, Placement, Progress, read};
 use ab_slots::{Notice, Reading};
 use ab_wire::MsgRef;
 use std::alloc::Global;
@@ -205,8 +205,8 @@ impl Orderer for Pbft {
         n: &mut N,
     ) -> Result<(Self, Outs), StepFault> {
         let shelf = self.shelf.copy(alloc)?;
-        let (m, input) = receive(alloc, &self.cluster, self.seat.instance, m)?;
-        let held = shelve(self.seat.f, shelf, m, &input)?;
+        let input = read(alloc, &self.cluster, self.seat.instance, &m)?;
+        let held = shelve(alloc, self.seat.f, shelf, &m, &input)?;
         self.work(alloc, held, input, n)
     }
 

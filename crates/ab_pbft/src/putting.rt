@@ -1,59 +1,87 @@
-//! What came is read, and put on the shelf.
+//! What came is put on the shelf.
 
-ghost use Rattle.std.specs.Prelude.{◌≡◌, ℕ, IfOk, OnOk};
+ghost use Rattle.std.specs.Prelude.{◌≡◌, ℕ, ◌≤◌, IfOk, OnOk, length};
 ghost use Rattle.ab_msg.specs.declared.content.Content.{Content};
 ghost use Rattle.ab_msg.specs.declared.message.Msg.TheVariants as msg;
-ghost use Rattle.ab_wire.specs.Views.{IsReceived, message};
+ghost use Rattle.ab_msg.specs.Certs.{IsProof};
+ghost use Rattle.ab_wire.specs.Views.{IsReceived, message, proof as shown_proof, signed as shown_signed, tags as shown_tags};
 ghost use Rattle.ab_abs.specs.Messages.{took};
-ghost use Rattle.ab_order.specs.Readings.{read_message};
 ghost use Rattle.ab_slots.specs.Inputs.{input_of};
 ghost use Rattle.ab_pbft_shelf.specs.Signing.{puts};
 
-use ab_msg::{Msg, Proof, Signed, Tags};
-use ab_num::{Cluster, OutOfMemory};
-use ab_pbft_shelf::{Shelf, SignedVote};
-use ab_pbft_work::read;
+use ab_check::copy_of;
+use ab_form::ListRef;
+use ab_msg::Tags;
+use ab_num::OutOfMemory;
+use ab_pbft_shelf::Shelf;
 use ab_slots::Reading;
-use ab_wire::MsgRef;
+use ab_wire::{MsgRef, ProofRef, SignedRef, SignerRef, TagRef};
 use std::alloc::Global;
-use std::mem::drop;
+
+/// The tags, with memory of their own.
+fn own_tags<'a>(given: ListRef<'a, TagRef<'a>>) -> Tags
+    requires { length (shown_tags given) ≤ 7 }
+    ensures { result.items ≡ shown_tags given.entry }
+{
+    let mut all = Tags::new();
+    'tags: for entry in given {
+        all.push((entry.replica, *entry.tag));
+    }
+    all
+}
 
 /// The tags of a request that is told.
-fn put_tags(shelf: &mut Shelf, tags: Tags, input: &Reading) -> Result<(), OutOfMemory>
-    ensures { OnOk result ((f : ℕ) (s : Content) → shelf.new ≡ puts f (took (msg.Req s tags)) (input_of input.now) shelf.old) }
+fn put_tags<'a>(
+    shelf: &mut Shelf,
+    tags: ListRef<'a, TagRef<'a>>,
+    input: &Reading,
+) -> Result<(), OutOfMemory>
+    requires { length (shown_tags tags) ≤ 7 }
+    ensures { OnOk result ((f : ℕ) (s : Content) → shelf.new ≡ puts f (took (msg.Req s (record { items = shown_tags tags.entry }))) (input_of input.now) shelf.old) }
 {
     match input {
-        Reading::Request(m) => shelf.keep_tags(m.client, tags),
+        Reading::Request(m) => shelf.keep_tags(m.client, own_tags(tags)),
         _ => Ok(()),
     }
 }
 
 /// A PREPARE that is told.
-fn put_ballot(shelf: &mut Shelf, prepare: Signed, input: &Reading) -> Result<(), OutOfMemory>
-    ensures { OnOk result ((f : ℕ) → shelf.new ≡ puts f (took (msg.Prepare prepare)) (input_of input.now) shelf.old) }
+fn put_ballot(
+    alloc: Global,
+    shelf: &mut Shelf,
+    prepare: &SignedRef<'_>,
+    input: &Reading,
+) -> Result<(), OutOfMemory>
+    ensures { OnOk result ((f : ℕ) → shelf.new ≡ puts f (took (msg.Prepare (shown_signed prepare.now))) (input_of input.now) shelf.old) }
 {
     match input {
-        Reading::Prepare { by, view, slot, x } => shelf.keep_ballot(
-            *view,
-            SignedVote {
-                by: *by,
-                slot: *slot,
-                x: *x,
-                sig: prepare.into_sig(),
-            },
-        ),
+        Reading::Prepare { by, view, slot, x } => {
+            let signer = SignerRef {
+                replica: *by,
+                sig: prepare.sig,
+            };
+            shelf.keep_ballot(alloc, *view, *slot, x, signer)
+        }
         _ => Ok(()),
     }
 }
 
 /// A VIEW-CHANGE that is told and fits.
-fn put_proof(f: u8, shelf: &mut Shelf, proof: Proof, input: &Reading) -> Result<(), OutOfMemory>
-    ensures { OnOk result (shelf.new ≡ puts f (took (msg.ViewChange proof)) (input_of input.now) shelf.old) }
+fn put_proof(
+    alloc: Global,
+    f: u8,
+    shelf: &mut Shelf,
+    proof: &ProofRef<'_>,
+    input: &Reading,
+) -> Result<(), OutOfMemory>
+    requires { IsProof (shown_proof proof.now) }
+    ensures { OnOk result (shelf.new ≡ puts f (took (msg.ViewChange (shown_proof proof.now))) (input_of input.now) shelf.old) }
 {
     match input {
         Reading::ViewChange(change) => {
             if change.fits(f) {
-                shelf.keep_proof(proof)
+                let own = copy_of(proof).own(alloc)?;
+                shelf.keep_proof(own)
             } else {
                 Ok(())
             }
@@ -62,52 +90,38 @@ fn put_proof(f: u8, shelf: &mut Shelf, proof: Proof, input: &Reading) -> Result<
     }
 }
 
-/// A message with memory of its own, and what it tells a replica of this instance.
-pub(crate) fn receive(
+/// Keeps what a received message brings, which tells a replica this: a request's tags, a PREPARE of the present view, and
+/// a VIEW-CHANGE that fits where f replicas may be faulty. Nothing else of it is copied. After an `Err` the shelf may be
+/// anything.
+fn put(
     alloc: Global,
-    c: &Cluster,
-    instance: u32,
-    m: MsgRef<'_>,
-) -> Result<(Msg, Reading), OutOfMemory>
-    requires { IsReceived m }
-    ensures own { IfOk result (λ told. told.0 ≡ message m.entry) }
-    ensures tells { IfOk result (λ told. input_of told.1 ≡ read_message c.now instance (message m.entry)) }
-{
-    let m = m.own(alloc)?;
-    match read(alloc, c, instance, &m) {
-        Ok(input) => Ok((m, input)),
-        Err(refused) => {
-            // A call lets it go: in place each of its forms would be taken apart.
-            drop(m);
-            Err(refused)
-        }
-    }
-}
-
-/// Keeps what a message brings, which tells a replica this: a request's tags, a PREPARE of the present view, and a
-/// VIEW-CHANGE that fits where f replicas may be faulty. After an `Err` the shelf may be anything.
-fn put(f: u8, shelf: &mut Shelf, m: Msg, input: &Reading) -> Result<(), OutOfMemory>
-    ensures { OnOk result (shelf.new ≡ puts f (took m) (input_of input.now) shelf.old) }
+    f: u8,
+    shelf: &mut Shelf,
+    m: &MsgRef<'_>,
+    input: &Reading,
+) -> Result<(), OutOfMemory>
+    requires { IsReceived m.now }
+    ensures { OnOk result (shelf.new ≡ puts f (took (message m.now)) (input_of input.now) shelf.old) }
 {
     match m {
-        Msg::Req { content, tags } => {
-            drop(content);
-            put_tags(shelf, tags, input)
-        }
-        Msg::Prepare { prepare } => put_ballot(shelf, prepare, input),
-        Msg::ViewChange { change } => put_proof(f, shelf, change, input),
-        other => {
-            // As in `receive`.
-            drop(other);
-            Ok(())
-        }
+        MsgRef::Req { tags, .. } => put_tags(shelf, copy_of(tags), input),
+        MsgRef::Prepare { prepare } => put_ballot(alloc, shelf, prepare, input),
+        MsgRef::ViewChange { change } => put_proof(alloc, f, shelf, change, input),
+        _ => Ok(()),
     }
 }
 
-/// A shelf once what a message brings is on it.
-pub(crate) fn shelve(f: u8, mut shelf: Shelf, m: Msg, input: &Reading) -> Result<Shelf, OutOfMemory>
-    ensures { IfOk result (λ held. held ≡ puts f (took m) (input_of input.now) shelf) }
+/// A shelf once what a received message brings is on it.
+pub(crate) fn shelve(
+    alloc: Global,
+    f: u8,
+    mut shelf: Shelf,
+    m: &MsgRef<'_>,
+    input: &Reading,
+) -> Result<Shelf, OutOfMemory>
+    requires { IsReceived m.now }
+    ensures { IfOk result (λ held. held ≡ puts f (took (message m.now)) (input_of input.now) shelf) }
 {
-    put(f, &mut shelf, m, input)?;
+    put(alloc, f, &mut shelf, m, input)?;
     Ok(shelf)
 }

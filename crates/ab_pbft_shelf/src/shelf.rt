@@ -4,11 +4,13 @@ ghost use Rattle.std.specs.Prelude.{◌≡◌, ◌≢◌, ◌<◌, ◌≤◌, �
 ghost use Rattle.ab_pbft_shelf.specs.declared.kept.Tagged.{Tagged as ClientTags};
 ghost use Rattle.ab_pbft_shelf.specs.Shelves.{empty_shelf, with_ballot, with_ballot_of, with_tags, with_proof, with_certified, left_for, entered, put_tags};
 
-use crate::ballots::{certified_by, put_ballot};
+use crate::ballots::{certified_by, has_ballot, put_ballot};
 use crate::changes::{drop_maker, put_proof};
 use crate::kept::{Certified, SignedVote, Tagged, copy_slots};
+use ab_form::Part;
 use ab_msg::{AbortCert, Proof, Tags, Value, copy_each};
 use ab_num::{Cluster, OutOfMemory};
+use ab_wire::SignerRef;
 use std::alloc::Global;
 use std::marker::Model;
 
@@ -126,15 +128,29 @@ impl Shelf {
         put_tags(&mut self.tagged, Tagged { client, tags })
     }
 
-    /// Keeps a PREPARE of a view, if that is the present one and the PREPARE the first of its replica for its slot.
-    pub fn keep_ballot(&mut self, view: u32, ballot: SignedVote) -> Result<(), OutOfMemory>
-        ensures { OnOk result (self.new ≡ with_ballot_of view ballot self.old) }
+    /// Keeps a PREPARE of a view, if that is the present one and the PREPARE the first of its replica for its slot. Else its
+    /// signature isn't copied.
+    pub fn keep_ballot(
+        &mut self,
+        alloc: Global,
+        view: u32,
+        slot: u8,
+        x: &[u8; 32],
+        signer: SignerRef<'_>,
+    ) -> Result<(), OutOfMemory>
+        ensures { OnOk result (self.new ≡ with_ballot_of view (record { by = signer.entry.replica; slot = slot; x = x.now; sig = signer.entry.sig.now }) self.old) }
     {
-        if view == self.view {
-            put_ballot(&mut self.ballots, ballot)
-        } else {
-            Ok(())
+        if view != self.view || has_ballot(self.ballots.as_slice(), signer.replica, slot) {
+            return Ok(());
         }
+        let (by, sig) = signer.owned(alloc)?;
+        let ballot = SignedVote {
+            by,
+            slot,
+            x: *x,
+            sig,
+        };
+        put_ballot(&mut self.ballots, ballot)
     }
 
     /// Keeps a VIEW-CHANGE, if no later one of its replica is there.

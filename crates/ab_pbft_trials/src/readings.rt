@@ -1,181 +1,136 @@
-//! What messages tell, with one faulty replica of four.
+//! What received messages tell, with one faulty replica of four.
 
-use ab_hist::{History, Request};
-use ab_msg::{
-    AbortCert, Content, Msg, NO_TAG, Offer, Prepares, Proof, Proofs, Sig, Signed, SlotPrepares,
-    Value, Values, ViewEntries,
+use crate::coming::Coming::{Offer, Prepare};
+use crate::coming::{
+    BASE_DIGEST, Coming, REQUEST, REQUEST_DIGEST, bytes_of, put_count, put_maker, put_sig,
+    put_signers, put_slot, put_stating, put_tag, put_view, stating,
 };
-use ab_num::{Cluster, OutOfMemory, Party, Plan};
+use ab_num::{Cluster, Plan};
 use ab_pbft_work::read;
 use ab_slots::Reading;
-use arrayvec::ArrayVec;
-use std::alloc::Global;
+use std::alloc::{AllocError, Global};
 use std::mem::drop;
 use std::process::Abort;
 
-fn request(client: u16) -> Request {
-    Request {
-        client,
-        stamp: 1,
-        command: ArrayVec::new(),
+/// The signed ABORT of a replica in an instance, with a log of the request.
+fn put_abort(bytes: &mut Vec<u8>, by: u8, instance: u8) -> Result<(), AllocError> {
+    put_maker(bytes, 6, by, instance)?;
+    bytes.extend_from_slice(&[0, 1])?;
+    bytes.extend_from_slice(&REQUEST)?;
+    put_sig(bytes)
+}
+
+/// Replica 0's PRE-PREPARE of slot 0 in view 0 of instance 2, with the ABORTs of these replicas in an instance.
+fn based(alloc: Global, instance: u8, replicas: &[u8]) -> Result<Vec<u8>, AllocError> {
+    let mut bytes = Vec::new(alloc);
+    bytes.push(8)?;
+    put_maker(&mut bytes, 7, 0, 2)?;
+    put_slot(&mut bytes, 0, 0)?;
+    put_tag(&mut bytes)?;
+    put_count(&mut bytes, replicas)?;
+    for by in replicas {
+        put_abort(&mut bytes, *by, instance)?;
+    }
+    Ok(bytes)
+}
+
+/// Replica 2's VIEW-CHANGE for view 1, which states the empty base and the request as prepared in view 0, with PREPAREs by
+/// these replicas.
+fn stating_two(alloc: Global, base: &[u8], request: &[u8]) -> Result<Vec<u8>, AllocError> {
+    let mut bytes = Vec::new(alloc);
+    bytes.push(11)?;
+    put_maker(&mut bytes, 10, 2, 1)?;
+    put_view(&mut bytes, 1)?;
+    bytes.push(2)?;
+    for digest in [&BASE_DIGEST, &REQUEST_DIGEST] {
+        put_view(&mut bytes, 0)?;
+        bytes.extend_from_slice(digest)?;
+    }
+    put_sig(&mut bytes)?;
+    bytes.extend_from_slice(&[0, 0])?;
+    bytes.extend_from_slice(&REQUEST)?;
+    put_signers(&mut bytes, base)?;
+    put_signers(&mut bytes, request)?;
+    Ok(bytes)
+}
+
+/// Replica 1's NEW-VIEW for view 1, which rests on a view change of replica 2 with a PREPARE by this replica.
+fn leading(alloc: Global, signer: u8) -> Result<Vec<u8>, AllocError> {
+    let mut bytes = Vec::new(alloc);
+    bytes.push(12)?;
+    put_maker(&mut bytes, 11, 1, 1)?;
+    put_view(&mut bytes, 1)?;
+    put_tag(&mut bytes)?;
+    bytes.push(1)?;
+    put_stating(&mut bytes, 2, 0, &BASE_DIGEST, &[signer])?;
+    Ok(bytes)
+}
+
+/// What a message tells in instance `i`.
+fn told(
+    rt: &impl Abort,
+    alloc: Global,
+    c: &Cluster,
+    i: u32,
+    bytes: Result<Vec<u8>, AllocError>,
+) -> Reading {
+    let bytes = bytes.expect(rt, "memory");
+    match ab_open::read(bytes.as_slice()) {
+        Ok(m) => read(alloc, c, i, &m).expect(rt, "memory"),
+        Err(_) => panic!(rt; "not a message"),
     }
 }
 
-fn signed(alloc: Global, maker: u8, content: Content) -> Result<Signed, OutOfMemory> {
-    Ok(Signed {
-        maker,
-        content,
-        sig: Sig::of(alloc, Vec::new(alloc))?,
-    })
+/// What one of those that come tells in instance `i`.
+fn told_by(rt: &impl Abort, alloc: Global, c: &Cluster, i: u32, coming: Coming) -> Reading {
+    told(rt, alloc, c, i, bytes_of(alloc, coming))
 }
 
-fn prepare(rt: &impl Abort, alloc: Global, maker: Party, instance: u32) -> Msg {
-    let content = Content::Prepare {
-        maker,
-        instance,
-        view: 0,
-        slot: 1,
-        x: [7; 32],
-    };
-    Msg::Prepare {
-        prepare: signed(alloc, 0, content).expect(rt, "memory"),
-    }
+/// Whether nothing was told. A call lets it go: in place each of its forms would be taken apart.
+fn is_other(input: Reading) -> bool {
+    let other = matches!(&input, Reading::Other);
+    drop(input);
+    other
 }
 
-/// A PRE-PREPARE of replica 0 in view 0.
-fn pre_prepare(instance: u32, slot: u8, offer: Offer) -> Msg {
-    Msg::PrePrepare {
-        content: Content::PrePrepare {
-            maker: Party::Replica(0),
-            instance,
-            view: 0,
-            slot,
-            x: [7; 32],
-        },
-        tag: NO_TAG,
-        offer,
-    }
-}
-
-fn no_cert(alloc: Global) -> Offer {
-    Offer::Base(AbortCert::of(Vec::new(alloc)))
-}
-
-fn offered(client: u16) -> Offer {
-    Offer::Request {
-        request: request(client),
-        tag: NO_TAG,
-    }
-}
-
-/// The certificate of instance 1 by replicas 0 to 2, whose ABORTs stand under these names, with a log of client 0's
-/// request.
-fn cert(alloc: Global, names: [u8; 3]) -> Result<Offer, OutOfMemory> {
-    let mut aborts = Vec::new(alloc);
-    for r in 0..3u8 {
-        let mut history = History::new(alloc);
-        let _ = history.push(alloc, request(0));
-        let content = Content::Abort {
-            maker: Party::Replica(r),
-            instance: 1,
-            history,
-        };
-        aborts.push(signed(alloc, names[usize::from(r)], content)?)?;
-    }
-    Ok(Offer::Base(AbortCert::of(aborts)))
-}
-
-/// What a message tells. A call lets the message go: in place each of its forms would be taken apart.
-fn told(rt: &impl Abort, alloc: Global, c: &Cluster, i: u32, m: Msg) -> Reading {
-    let input = read(alloc, c, i, &m);
-    drop(m);
-    input.expect(rt, "memory")
-}
-
-/// How many requests are in the base that this certificate gives in instance 2, 0 if it gives none.
-fn base_len(rt: &impl Abort, alloc: Global, c: &Cluster, names: [u8; 3]) -> usize {
-    let offer = cert(alloc, names).expect(rt, "memory");
-    let input = told(rt, alloc, c, 2, pre_prepare(2, 0, offer));
+/// How many requests are in the base that these ABORTs of an instance give in instance 2, if they give one.
+fn base_len(
+    rt: &impl Abort,
+    alloc: Global,
+    c: &Cluster,
+    instance: u8,
+    replicas: &[u8],
+) -> Option<usize> {
+    let input = told(rt, alloc, c, 2, based(alloc, instance, replicas));
     let len = match &input {
-        Reading::PrePrepareBase { base, .. } => base.len(),
-        _ => 0,
+        Reading::PrePrepareBase { by: 0, base, .. } => Some(base.len()),
+        _ => None,
     };
     drop(input);
     len
 }
 
-/// So many lists of a PREPARE by this replica.
-fn prepares(alloc: Global, by: u8, lists: usize) -> Result<Prepares, OutOfMemory> {
-    let mut prepares = Vec::new(alloc);
-    for _ in 0..lists {
-        let mut signers = Vec::new(alloc);
-        signers.push((by, Sig::of(alloc, Vec::new(alloc))?))?;
-        prepares.push(SlotPrepares::of(signers))?;
-    }
-    Ok(Prepares::of(prepares))
-}
-
-fn one_entry(alloc: Global) -> Result<ViewEntries, OutOfMemory> {
-    let mut entries = Vec::new(alloc);
-    entries.push((0, [7; 32]))?;
-    Ok(ViewEntries::of(entries))
-}
-
-fn one_value(alloc: Global, value: Value) -> Result<Values, OutOfMemory> {
-    let mut values = Vec::new(alloc);
-    values.push(value)?;
-    Ok(Values::of(values))
-}
-
-/// A VIEW-CHANGE of replica 2 in instance 1 for view 1, with one slot prepared in view 0, and so many lists of PREPAREs
-/// by this replica.
-fn view_change(alloc: Global, value: Value, by: u8, lists: usize) -> Result<Proof, OutOfMemory> {
-    let values = one_value(alloc, value)?;
-    let (Ok(entries), Ok(prepares)) = (one_entry(alloc), prepares(alloc, by, lists)) else {
-        drop(values);
-        return Err(OutOfMemory);
+/// Whether it tells a VIEW-CHANGE of replica 2.
+fn is_change(
+    rt: &impl Abort,
+    alloc: Global,
+    c: &Cluster,
+    bytes: Result<Vec<u8>, AllocError>,
+) -> bool {
+    let input = told(rt, alloc, c, 1, bytes);
+    let is_change = match &input {
+        Reading::ViewChange(change) => change.by() == 2,
+        _ => false,
     };
-    let content = Content::ViewChange {
-        maker: Party::Replica(2),
-        instance: 1,
-        view: 1,
-        entries,
-    };
-    Ok(Proof {
-        change: signed(alloc, 2, content)?,
-        values,
-        prepares,
-    })
-}
-
-/// A NEW-VIEW of replica 1 for view 1 that rests on this.
-fn new_view(alloc: Global, change: Proof) -> Result<Msg, OutOfMemory> {
-    let mut changes = Vec::new(alloc);
-    changes.push(change)?;
-    Ok(Msg::NewView {
-        content: Content::NewView {
-            maker: Party::Replica(1),
-            instance: 1,
-            view: 1,
-        },
-        tag: NO_TAG,
-        changes: Proofs::of(changes),
-    })
-}
-
-/// Whether a message tells nothing.
-fn is_other(rt: &impl Abort, alloc: Global, c: &Cluster, i: u32, m: Msg) -> bool {
-    let input = told(rt, alloc, c, i, m);
-    let other = matches!(&input, Reading::Other);
     drop(input);
-    other
+    is_change
 }
 
 #[test]
 fn what_is_of_others_tells_nothing(rt: HostRuntime) {
     let alloc = rt.alloc();
     let c = Cluster::new(1, 1, Plan::Backup).expect(&rt, "a cluster");
-    let ours = told(&rt, alloc, &c, 1, prepare(&rt, alloc, Party::Replica(3), 1));
+    let ours = told_by(&rt, alloc, &c, 1, Prepare(3, 0, 1));
     let is_ours = matches!(
         &ours,
         Reading::Prepare {
@@ -187,86 +142,62 @@ fn what_is_of_others_tells_nothing(rt: HostRuntime) {
     );
     drop(ours);
     assert!(rt; is_ours);
-    assert!(rt; is_other(&rt, alloc, &c, 1, prepare(&rt, alloc, Party::Replica(3), 2)));
-    assert!(rt; is_other(&rt, alloc, &c, 1, prepare(&rt, alloc, Party::Replica(4), 1)));
-    assert!(rt; is_other(&rt, alloc, &c, 1, prepare(&rt, alloc, Party::Client(3), 1)));
+    assert!(rt; is_other(told_by(&rt, alloc, &c, 2, Prepare(3, 0, 1))));
+    assert!(rt; is_other(told_by(&rt, alloc, &c, 1, Prepare(4, 0, 1))));
 }
 
 #[test]
 fn a_base_stands_in_slot_0(rt: HostRuntime) {
     let alloc = rt.alloc();
     let c = Cluster::new(1, 1, Plan::Backup).expect(&rt, "a cluster");
-    let first = told(&rt, alloc, &c, 1, pre_prepare(1, 0, no_cert(alloc)));
+    let first = told_by(&rt, alloc, &c, 1, Offer(0, 0, 0));
     let empty = match &first {
         Reading::PrePrepareBase { by: 0, base, .. } => base.len() == 0,
         _ => false,
     };
     drop(first);
     assert!(rt; empty);
-    assert!(rt; is_other(&rt, alloc, &c, 1, pre_prepare(1, 1, no_cert(alloc))));
-    assert!(rt; is_other(&rt, alloc, &c, 2, pre_prepare(2, 0, no_cert(alloc))));
-    assert!(rt; is_other(&rt, alloc, &c, 1, pre_prepare(1, 0, offered(0))));
-    let order = told(&rt, alloc, &c, 1, pre_prepare(1, 5, offered(0)));
+    let order = told_by(&rt, alloc, &c, 1, Offer(0, 0, 5));
     let is_fifth = matches!(&order, Reading::PrePrepare { slot: 5, .. });
     drop(order);
     assert!(rt; is_fifth);
 }
 
 #[test]
-fn the_names_beside_aborts_do_not_matter(rt: HostRuntime) {
+fn a_certificate_gives_its_history(rt: HostRuntime) {
     let alloc = rt.alloc();
     let c = Cluster::new(1, 1, Plan::Quorum).expect(&rt, "a cluster");
-    assert!(rt; base_len(&rt, alloc, &c, [0, 1, 2]) == 1);
-    assert!(rt; base_len(&rt, alloc, &c, [3, 3, 9]) == 1);
-}
-
-/// Replica 2's VIEW-CHANGE as a message.
-fn changing(rt: &impl Abort, alloc: Global, value: Value, by: u8, lists: usize) -> Msg {
-    Msg::ViewChange {
-        change: view_change(alloc, value, by, lists).expect(rt, "memory"),
-    }
-}
-
-/// A NEW-VIEW that rests on it.
-fn leading(rt: &impl Abort, alloc: Global, value: Value) -> Msg {
-    let change = view_change(alloc, value, 3, 1).expect(rt, "memory");
-    new_view(alloc, change).expect(rt, "memory")
+    assert!(rt; base_len(&rt, alloc, &c, 1, &[0, 1, 2]) == Some(1));
 }
 
 #[test]
-fn lists_of_a_view_change_go_together(rt: HostRuntime) {
+fn what_is_no_certificate_gives_nothing(rt: HostRuntime) {
+    let alloc = rt.alloc();
+    let c = Cluster::new(1, 1, Plan::Quorum).expect(&rt, "a cluster");
+    assert!(rt; base_len(&rt, alloc, &c, 1, &[]) == None);
+    assert!(rt; base_len(&rt, alloc, &c, 1, &[0, 1]) == None);
+    assert!(rt; base_len(&rt, alloc, &c, 1, &[0, 1, 1]) == None);
+    assert!(rt; base_len(&rt, alloc, &c, 1, &[0, 1, 4]) == None);
+    assert!(rt; base_len(&rt, alloc, &c, 2, &[0, 1, 2]) == None);
+}
+
+#[test]
+fn a_view_change_names_replicas_of_the_cluster(rt: HostRuntime) {
     let alloc = rt.alloc();
     let c = Cluster::new(1, 1, Plan::Backup).expect(&rt, "a cluster");
-    let base = Value::Base(History::new(alloc));
-    let whole = told(&rt, alloc, &c, 1, changing(&rt, alloc, base, 3, 1));
-    let by = match &whole {
-        Reading::ViewChange(change) => change.by(),
-        _ => 9,
-    };
-    drop(whole);
-    assert!(rt; by == 2);
-    for (signer, lists) in [(3, 0), (3, 2), (4, 1)] {
-        let base = Value::Base(History::new(alloc));
-        let other = is_other(&rt, alloc, &c, 1, changing(&rt, alloc, base, signer, lists));
-        assert!(rt; other, "{signer} {lists}");
-    }
+    assert!(rt; is_change(&rt, alloc, &c, stating(alloc, 2, 0, &BASE_DIGEST, &[3])));
+    assert!(rt; !is_change(&rt, alloc, &c, stating(alloc, 2, 0, &BASE_DIGEST, &[4])));
+    assert!(rt; is_change(&rt, alloc, &c, stating_two(alloc, &[3], &[0, 1])));
+    assert!(rt; !is_change(&rt, alloc, &c, stating_two(alloc, &[4], &[0, 1])));
+    assert!(rt; !is_change(&rt, alloc, &c, stating_two(alloc, &[3], &[0, 4])));
 }
 
 #[test]
 fn a_new_view_rests_on_view_changes(rt: HostRuntime) {
     let alloc = rt.alloc();
     let c = Cluster::new(1, 1, Plan::Backup).expect(&rt, "a cluster");
-    assert!(rt;
-        is_other(
-            &rt,
-            alloc,
-            &c,
-            1,
-            leading(&rt, alloc, Value::Request(request(0)))
-        )
-    );
-    let base = Value::Base(History::new(alloc));
-    let entered = told(&rt, alloc, &c, 1, leading(&rt, alloc, base));
+    assert!(rt; is_other(told(&rt, alloc, &c, 1, leading(alloc, 4))));
+    let entered = told(&rt, alloc, &c, 1, leading(alloc, 3));
     let count = match &entered {
         Reading::NewView { by: 1, changes, .. } => changes.len(),
         _ => 0,

@@ -4,6 +4,5 @@ pub mod SettleLemmas
 pub mod StepLemmas
 pub mod RuleLemmas
 pub mod Gathering
-pub mod Renaming
 pub mod SlotLemmas
 pub mod BaseLemmas

@@ -8,7 +8,7 @@ use Rattle.ab_msg.specs.declared.value.Value.{Value}
 use Rattle.ab_msg.specs.Slots.{slot_digest}
 use Rattle.ab_abs.specs.Values.{goes}
 use Rattle.ab_lock.specs.Steps.{executes}
-use Rattle.ab_lock.specs.Votes.{or_else, next, next_sign, next_prepare, next_execute}
+use Rattle.ab_lock.specs.Votes.{or_else, next_sign, next_prepare, next_execute}
 use Rattle.ab_pbft_rules.specs.Traces.{OrderStep}
 use Rattle.ab_pbft_rules.specs.Rules.{Placement, Memory, Work, settle}
 use Rattle.ab_pbft_work.specs.declared.progress.Progress.{Progress}

@@ -1,29 +1,37 @@
 //! What a message tells a replica of PBFT.
 
-ghost use Rattle.std.specs.Prelude.{◌≡◌, IfOk};
+ghost use Rattle.std.specs.Prelude.{◌≡◌, ℕ, All, IfOk};
+ghost use Rattle.ab_msg.specs.declared.message.Offer.TheVariants as offers;
+ghost use Rattle.ab_msg.specs.Certs.{IsProof, IsSigned};
+ghost use Rattle.ab_msg.specs.Contents.{IsAbort, IsReq};
+ghost use Rattle.ab_msg.specs.Messages.{IsOffer};
+ghost use Rattle.ab_content.specs.Views.{content as shown};
+ghost use Rattle.ab_wire.specs.Views.{IsReceived, aborts, message, offered, proof as shown_proof, proofs as shown_proofs};
 ghost use Rattle.ab_order.specs.Readings.{change_of, read_base, read_change, read_commit, read_message, read_new_view, read_offer, read_pre_prepare, read_prepare, read_request};
 ghost use Rattle.ab_slots.specs.Inputs.{input_of};
 
 use crate::certificate::base_offered;
 use crate::change::{change_of, changes_of, is_ours};
-use ab_hist::Request;
-use ab_msg::{AbortCert, Content, Msg, Offer, Proof};
+use ab_check::copy_of;
+use ab_form::ListRef;
 use ab_num::{Cluster, OutOfMemory, Party};
 use ab_slots::Reading;
+use ab_wire::{ContentRef, MsgRef, OfferRef, ProofRef, SignedRef};
 use std::alloc::Global;
 
 /// The request that a client asks for in instance `i`.
-fn read_request(i: u32, content: &Content) -> Reading
-    ensures { input_of result ≡ read_request i content.now }
+fn read_request(i: u32, content: &ContentRef<'_>) -> Reading
+    requires { IsReq (shown content.now) }
+    ensures { input_of result ≡ read_request i (shown content.now) }
 {
     match content {
-        Content::Req {
+        ContentRef::Req {
             maker: Party::Client(client),
             instance,
             request,
         } => {
             if *instance == i && *client == request.client {
-                Reading::Request(request.copy())
+                Reading::Request(request.own())
             } else {
                 Reading::Other
             }
@@ -42,14 +50,15 @@ struct SlotPlace {
 }
 
 /// The base that a primary offers.
-fn read_base(
+fn read_base<'a>(
     alloc: Global,
     c: &Cluster,
     i: u32,
     place: SlotPlace,
-    cert: &AbortCert,
+    cert: &ListRef<'a, SignedRef<'a>>,
 ) -> Result<Reading, OutOfMemory>
-    ensures { IfOk result (λ e. input_of e ≡ read_offer c.now i place.by place.view place.slot place.x (Offer.Base cert.now)) }
+    requires { All (IsSigned IsAbort) (aborts cert.now) }
+    ensures { IfOk result (λ e. input_of e ≡ read_offer c.now i place.by place.view place.slot place.x (offers.Base (aborts cert.now))) }
 {
     let SlotPlace { by, view, slot, x } = place;
     if slot != 0 {
@@ -67,14 +76,15 @@ fn read_offer(
     c: &Cluster,
     i: u32,
     place: SlotPlace,
-    offer: &Offer,
+    offer: &OfferRef<'_>,
 ) -> Result<Reading, OutOfMemory>
-    ensures { IfOk result (λ e. input_of e ≡ read_offer c.now i place.by place.view place.slot place.x offer.now) }
+    requires { (slot : ℕ) × IsOffer slot (offered offer.now) }
+    ensures { IfOk result (λ e. input_of e ≡ read_offer c.now i place.by place.view place.slot place.x (offered offer.now)) }
 {
     let SlotPlace { by, view, slot, x } = place;
     match offer {
-        Offer::Base(cert) => read_base(alloc, c, i, place, cert),
-        Offer::Request { request, .. } => {
+        OfferRef::Base(cert) => read_base(alloc, c, i, place, cert),
+        OfferRef::Request { request, .. } => {
             if slot == 0 {
                 return Ok(Reading::Other);
             }
@@ -83,7 +93,7 @@ fn read_offer(
                 view,
                 slot,
                 x,
-                request: request.copy(),
+                request: request.own(),
             })
         }
     }
@@ -94,13 +104,14 @@ fn read_pre_prepare(
     alloc: Global,
     c: &Cluster,
     i: u32,
-    content: &Content,
-    offer: &Offer,
+    content: &ContentRef<'_>,
+    offer: &OfferRef<'_>,
 ) -> Result<Reading, OutOfMemory>
-    ensures { IfOk result (λ e. input_of e ≡ read_pre_prepare c.now i content.now offer.now) }
+    requires { (slot : ℕ) × IsOffer slot (offered offer.now) }
+    ensures { IfOk result (λ e. input_of e ≡ read_pre_prepare c.now i (shown content.now) (offered offer.now)) }
 {
     match content {
-        Content::PrePrepare {
+        ContentRef::PrePrepare {
             maker: Party::Replica(by),
             instance,
             view,
@@ -114,7 +125,7 @@ fn read_pre_prepare(
                 by: *by,
                 view: *view,
                 slot: *slot,
-                x: *x,
+                x: **x,
             };
             read_offer(alloc, c, i, place, offer)
         }
@@ -123,11 +134,11 @@ fn read_pre_prepare(
 }
 
 /// What a PREPARE tells.
-fn read_prepare(c: &Cluster, i: u32, content: &Content) -> Reading
-    ensures { input_of result ≡ read_prepare c.now.f i content.now }
+fn read_prepare(c: &Cluster, i: u32, content: &ContentRef<'_>) -> Reading
+    ensures { input_of result ≡ read_prepare c.now.f i (shown content.now) }
 {
     match content {
-        Content::Prepare {
+        ContentRef::Prepare {
             maker: Party::Replica(by),
             instance,
             view,
@@ -139,7 +150,7 @@ fn read_prepare(c: &Cluster, i: u32, content: &Content) -> Reading
                     by: *by,
                     view: *view,
                     slot: *slot,
-                    x: *x,
+                    x: **x,
                 }
             } else {
                 Reading::Other
@@ -150,11 +161,11 @@ fn read_prepare(c: &Cluster, i: u32, content: &Content) -> Reading
 }
 
 /// What a COMMIT tells.
-fn read_commit(c: &Cluster, i: u32, content: &Content) -> Reading
-    ensures { input_of result ≡ read_commit c.now.f i content.now }
+fn read_commit(c: &Cluster, i: u32, content: &ContentRef<'_>) -> Reading
+    ensures { input_of result ≡ read_commit c.now.f i (shown content.now) }
 {
     match content {
-        Content::Commit {
+        ContentRef::Commit {
             maker: Party::Replica(by),
             instance,
             view,
@@ -166,7 +177,7 @@ fn read_commit(c: &Cluster, i: u32, content: &Content) -> Reading
                     by: *by,
                     view: *view,
                     slot: *slot,
-                    x: *x,
+                    x: **x,
                 }
             } else {
                 Reading::Other
@@ -177,8 +188,14 @@ fn read_commit(c: &Cluster, i: u32, content: &Content) -> Reading
 }
 
 /// What a VIEW-CHANGE tells.
-fn read_change(alloc: Global, c: &Cluster, i: u32, proof: &Proof) -> Result<Reading, OutOfMemory>
-    ensures { IfOk result (λ e. input_of e ≡ read_change (change_of c.now.f i proof.now)) }
+fn read_change<'a>(
+    alloc: Global,
+    c: &Cluster,
+    i: u32,
+    proof: &ProofRef<'a>,
+) -> Result<Reading, OutOfMemory>
+    requires { IsProof (shown_proof proof.now) }
+    ensures { IfOk result (λ e. input_of e ≡ read_change (change_of c.now.f i (shown_proof proof.now))) }
 {
     match change_of(alloc, c, i, proof)? {
         Some(change) => Ok(Reading::ViewChange(change)),
@@ -187,17 +204,17 @@ fn read_change(alloc: Global, c: &Cluster, i: u32, proof: &Proof) -> Result<Read
 }
 
 /// What a NEW-VIEW tells.
-fn read_new_view(
+fn read_new_view<'a>(
     alloc: Global,
     c: &Cluster,
     i: u32,
-    content: &Content,
-    proofs: &[Proof],
+    content: &ContentRef<'a>,
+    proofs: ListRef<'a, ProofRef<'a>>,
 ) -> Result<Reading, OutOfMemory>
-    ensures { IfOk result (λ e. input_of e ≡ read_new_view c.now.f i content.now proofs.now) }
+    ensures { IfOk result (λ e. input_of e ≡ read_new_view c.now.f i (shown content.now) (shown_proofs proofs.entry)) }
 {
     match content {
-        Content::NewView {
+        ContentRef::NewView {
             maker: Party::Replica(by),
             instance,
             view,
@@ -218,22 +235,23 @@ fn read_new_view(
     }
 }
 
-/// What a message tells a replica of the cluster in instance `i`: what is not of that instance, or names a replica
-/// outside the cluster, tells nothing.
-pub fn read(alloc: Global, c: &Cluster, i: u32, m: &Msg) -> Result<Reading, OutOfMemory>
-    ensures { IfOk result (λ e. input_of e ≡ read_message c.now i m.now) }
+/// What a received message tells a replica of the cluster in instance `i`: what is not of that instance, or names a replica
+/// outside the cluster, tells nothing. The message is looked at where it stands, and only what it tells is copied.
+pub fn read<'a>(alloc: Global, c: &Cluster, i: u32, m: &MsgRef<'a>) -> Result<Reading, OutOfMemory>
+    requires { IsReceived m.now }
+    ensures { IfOk result (λ e. input_of e ≡ read_message c.now i (message m.now)) }
 {
     match m {
-        Msg::Req { content, .. } => Ok(read_request(i, content)),
-        Msg::PrePrepare { content, offer, .. } => read_pre_prepare(alloc, c, i, content, offer),
-        Msg::Prepare { prepare } => Ok(read_prepare(c, i, &prepare.content)),
-        Msg::Commit { content, .. } => Ok(read_commit(c, i, content)),
-        Msg::ViewChange { change } => read_change(alloc, c, i, change),
-        Msg::NewView {
+        MsgRef::Req { content, .. } => Ok(read_request(i, content)),
+        MsgRef::PrePrepare { content, offer, .. } => read_pre_prepare(alloc, c, i, content, offer),
+        MsgRef::Prepare { prepare } => Ok(read_prepare(c, i, &prepare.content)),
+        MsgRef::Commit { content, .. } => Ok(read_commit(c, i, content)),
+        MsgRef::ViewChange { change } => read_change(alloc, c, i, change),
+        MsgRef::NewView {
             content,
             changes,
             ..
-        } => read_new_view(alloc, c, i, content, changes.as_slice()),
+        } => read_new_view(alloc, c, i, content, copy_of(changes)),
         _ => Ok(Reading::Other),
     }
 }

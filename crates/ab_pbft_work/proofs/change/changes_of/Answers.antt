@@ -1,16 +1,21 @@
-use Rattle.std.proofs.Common.{◌≡◌, ◌+◌, ◌++◌, ◌∷◌, [], List, drop, sym, subst, ◌∙◌}
+use Rattle.std.proofs.Common.{◌≡◌, ◌++◌, ◌∷◌, [], List, ap, sym, subst, ◌∙◌}
+use Rattle.ab_wire.specs.Views.{proof, proofs}
 use Rattle.ab_order.specs.Inputs.{ChangeReading}
-use Rattle.ab_order.specs.Readings.{change_of, changes_of}
-use Rattle.ab_pbft_work.proofs.Gathering.{before, goes_on}
-use Rattle.ab_pbft_work.proofs.SlotLemmas.{gathers_changes}
+use Rattle.ab_order.specs.Readings.{changes_of}
+use Rattle.ab_pbft_work.proofs.Gathering.{before}
+use Rattle.ab_pbft_work.proofs.SlotLemmas.{change_follows}
 use Rattle.ab_pbft_work.proofs.change.changes_of.Goals as goal
 
 pub proofs-preserved : goal.proofs-preserved
 proofs-preserved c =
     let f = c.args.c.now.f in
     let i = c.args.i in
-    let proofs = c.args.proofs.now in
-    let at = c.proofs.proof-index in
-    let next : before (c.proofs.changes.items ++ c.in-Some.change ∷ []) (changes_of f i (drop (at + 1) proofs)) ≡ changes_of f i proofs =
-    goes_on (change_of f i) (changes_of f i) (gathers_changes f i) proofs at c.proofs.changes.items c.proofs.invariant c.proof-item.result c.in-Some.change c.proofs-test.true c.proof-item.is (sym c.in-Some.is ∙ c.in_ok-change.ensures) in
-    subst (λ (made : List ChangeReading). before made (changes_of f i (drop (at + 1) proofs)) ≡ changes_of f i proofs) (sym c.in_ok-push-in-Some.ensures.items) next
+    let made = c.proofs.changes.items in
+    let rest = proofs c.next.new.self in
+    let next : before (made ++ c.in-Some-2.change ∷ []) (changes_of f i rest) ≡ changes_of f i (proofs c.args.proofs) =
+    change_follows f i made (proof c.in-Some.proof) rest c.in-Some-2.change (sym c.in-Some-2.is ∙ c.in_ok-change.ensures)
+    ∙ ap (λ l. before made (changes_of f i l)) (sym c.in-Some.ensures.steps.0) ∙ c.proofs.invariant.2 in (
+      tt,
+      tt,
+      subst (λ (l : List ChangeReading). before l (changes_of f i rest) ≡ changes_of f i (proofs c.args.proofs)) (sym c.in_ok-push-in-Some-2.ensures.items) next,
+    )

@@ -1,4 +1,4 @@
-use Rattle.std.proofs.Common.{◌≡◌, ◌∙◌, Some, None, ap, arith}
+use Rattle.std.proofs.Common.{◌≡◌, ◌∙◌, ap, arith}
 use Rattle.std.specs.Prelude.{count_by, nat_lt}
 use Rattle.ab_lock.specs.ViewChanges.{Kept}
 use Rattle.ab_msg.specs.declared.value.Value.{Value}
