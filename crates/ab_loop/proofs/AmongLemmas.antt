@@ -1,5 +1,7 @@
 -- Some of a list.
 use Rattle.std.proofs.Common.{◌≡◌, ◌⊎◌, List, [], ◌∷◌, ◌++◌, inl, inr, refl, ap, sym, subst, ◌∙◌, append_assoc}
+use Rattle.std.specs.Prelude.{Contains}
+use Rattle.ab_num.proofs.Lists.{Contains-cons_cases, Contains-head, Contains-none, Contains-tail}
 use Rattle.ab_loop.specs.Lives.{Among}
 
 pub among_all : {X : Type 0} (xs : List X) → Among xs xs
@@ -16,6 +18,16 @@ among_both [] bs cs ds a b = among_right cs bs ds b
 among_both (x ∷ xs) [] cs ds a b = absurd a
 among_both (x ∷ xs) (y ∷ bs) cs ds (inl first) b = inl (first.0, among_both xs bs cs ds first.1 b)
 among_both (x ∷ xs) (y ∷ bs) cs ds (inr later) b = inr (among_both (x ∷ xs) bs cs ds later b)
+
+pub among_contains : {X : Type 0} (xs ys : List X) (x : X) → Among xs ys → Contains xs x → Contains ys x
+among_contains [] ys x a has = absurd (Contains-none x has)
+among_contains (y ∷ xs) [] x a has = absurd a
+among_contains (y ∷ xs) (z ∷ ys) x (inl first) has =
+    elim (Contains-cons_cases y xs x has) [
+      | inl is ↦ subst (λ (w : _). Contains (z ∷ ys) w) (sym first.0 ∙ is) (Contains-head z ys)
+      | inr more ↦ Contains-tail z x ys (among_contains xs ys x first.1 more)
+    ]
+among_contains (y ∷ xs) (z ∷ ys) x (inr later) has = Contains-tail z x ys (among_contains (y ∷ xs) ys x later has)
 
 pub among_front : {X : Type 0} (xs ys : List X) → Among xs (xs ++ ys)
 among_front [] ys = tt

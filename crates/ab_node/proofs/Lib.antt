@@ -9,3 +9,4 @@ pub mod LocalLemmas
 pub mod JointLemmas
 pub mod FormedLemmas
 pub mod IdleLemmas
+pub mod NumberLemmas

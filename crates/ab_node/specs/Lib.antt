@@ -7,3 +7,4 @@ pub mod Replicas
 pub mod Clients
 pub mod Reactions
 pub mod Locality
+pub mod Numbers

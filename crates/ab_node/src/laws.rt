@@ -1,15 +1,18 @@
 //! What ties members and runs.
 
-ghost use Rattle.std.specs.Prelude.{◌≡◌, ℕ, List, [], Option};
+ghost use Rattle.std.specs.Prelude.{◌≡◌, ◌<◌, ℕ, false, List, [], Contains, Option};
 ghost use Rattle.ab_num.specs.declared.cluster.Cluster.{Cluster as TheCluster};
 ghost use Rattle.ab_num.specs.declared.party.Party.{Party};
+ghost use Rattle.ab_num.specs.declared.party.Party.TheVariants.{Client};
 ghost use Rattle.ab_abs.specs.Ensembles.{Proto};
+ghost use Rattle.ab_abs.specs.Faults.{is_faulty};
 ghost use Rattle.ab_abs.specs.Instances.{EachIsAbstract};
 ghost use Rattle.ab_abs.specs.Order.{Ordered};
 ghost use Rattle.ab_abs.specs.Promises.{ServesAll};
 ghost use Rattle.ab_run.specs.Premises.{RunPremises};
 ghost use Rattle.ab_run.specs.Runs.{first_cli, named_by, run};
 ghost use Rattle.ab_run.specs.Setups.{RunSetup};
+ghost use Rattle.ab_loop.specs.declared.party_core.Commit.{Commit};
 ghost use Rattle.ab_loop.specs.Cores.{NodeEvent};
 ghost use Rattle.ab_loop.specs.Folds.{commits_in, sends_in};
 ghost use Rattle.ab_loop.specs.Lives.{Among, IsLife, StoppedRun, handed_by, kept_by, replied_by};
@@ -18,7 +21,8 @@ ghost use Rattle.ab_loop.specs.Settings.{NodeSetting as TheSetting};
 ghost use Rattle.ab_party.specs.Credentials.{sealed_all};
 ghost use Rattle.ab_node.specs.Replicas.{ReplicaMember as Member, replica_rules};
 ghost use Rattle.ab_node.specs.Clients.{ClientMember as Customer, client_rules};
-ghost use Rattle.ab_node.specs.Locality.{AllStartIn, AreFirst, AreRun, IsLocalClient, IsLocalReplica, Members, StartsIn, all_happens, calls_in, sent_locally, setup_among};
+ghost use Rattle.ab_node.specs.Locality.{AllStartIn, AreFirst, AreRun, IsLocalClient, IsLocalReplica, IsSeen, Members, StartsIn, all_happens, calls_in, events_at_client, sent_locally, setup_among};
+ghost use Rattle.ab_node.specs.Numbers.{SignsOnce};
 
 use ab_abs::Protocol;
 use ab_open::opened_messages_are_of_the_grammar;
@@ -51,6 +55,27 @@ pub fn stopped_members_are_one<P>()
     ensures replies { (s : TheSetting) (m : Customer) (runs : List StoppedRun) → IsLife client_rules s m [] runs
         → Among (replied_by runs) (commits_in client_rules m (kept_by runs)) }
 {}
+
+/// However often a replica is stopped, at any moment, and started again over what it kept, no number of its
+/// key signs two contents that left: the contents that it signs in all that it kept are one list, and each
+/// signature in what left is that of its key with a number n for the content at place n.
+pub fn numbers_sign_once<S: Service, P: Protocol<S>>()
+    ensures { (k : RunSetup) (s : TheSetting) (m : Member P) (runs : List StoppedRun) → StartsIn k P.proto m → IsLife (replica_rules P.proto P.counted) s m [] runs → SignsOnce k P.proto s m runs }
+{
+    stopped_members_are_one::<P>();
+}
+
+/// However often the nodes of a cluster are stopped and started again: where the events that they kept, in
+/// some order, are those of a run, each reply of a correct client is a commit that is seen in that run. So
+/// replies are ordered as the run's commits are.
+pub fn stopped_clients_are_seen<P>()
+    ensures { (k : RunSetup) (proto : Proto P) (s : TheSetting) (w : Members P) (xs : List (Party × NodeEvent)) (c : ℕ) (runs : List StoppedRun) → AllStartIn k proto w → c < k.cluster.clients
+        → is_faulty k.faulty (Client c) ≡ false → IsLife client_rules s (w.clients c) [] runs → events_at_client c xs ≡ kept_by runs
+        → (commit : Commit) → Contains (replied_by runs) commit → IsSeen c commit (run k proto (all_happens proto w xs)).seen }
+{
+    stopped_members_are_one::<P>();
+    members_make_a_run::<P>();
+}
 
 /// The parties of a cluster, each before its first event, stand where a run begins, whoever of them is
 /// faulty.
