@@ -2,8 +2,8 @@
 
 ghost use Rattle.std.specs.Prelude.{◌≡◌, ◌+◌, ◌*◌, length, map, flat_map, IfOk, OnOk, OnErr};
 ghost use Rattle.ab_check.specs.Listing.{IsClaim, checked};
-ghost use Rattle.ab_lms.specs.Verified.{verified};
 ghost use Rattle.ab_open.specs.Messages.{message_of};
+ghost use Rattle.ab_scheme.specs.Schemes.{verified_by};
 ghost use Rattle.ab_sign.specs.Judges.{is_sig_from};
 ghost use Rattle.ab_sign.specs.declared.key.SignKey.TheVariants.{Public};
 ghost use Rattle.ab_audit.specs.Audits.{IsToldOf, answer_to, begun, news_of, option_note, told};
@@ -16,9 +16,9 @@ use crate::subject::subject;
 use crate::tried::Tried;
 use crate::words::words;
 use ab_check::{CheckRef, Checks, TokenRef, checks_in};
-use ab_lms::verify;
 use ab_num::{Cluster, OutOfMemory, Party};
 use ab_open::read;
+use ab_scheme::{PublicKey, verify_by};
 use indexmap::IndexMap;
 use std::alloc::Global;
 use std::cell::RefCell;
@@ -29,7 +29,7 @@ use std::marker::Model;
 #[derive(Drop)]
 pub struct Audit {
     cluster: Cluster,
-    publics: Vec<[u8; 56]>,
+    publics: Vec<PublicKey>,
     tried: RefCell<Tried>,
     first: IndexMap<Accusation, Found>,
     others: IndexMap<Accusation, Found>,
@@ -48,7 +48,7 @@ impl Model for Audit {
 
 impl Audit {
     /// The audit of a cluster whose replicas have these public keys, from replica 0 on.
-    pub fn new(alloc: Global, c: &Cluster, publics: &[[u8; 56]]) -> Result<Audit, OutOfMemory>
+    pub fn new(alloc: Global, c: &Cluster, publics: &[PublicKey]) -> Result<Audit, OutOfMemory>
         requires { length publics.now ≡ 3 * c.now.f + 1 }
         ensures { IfOk result (λ a. a ≡ begun (map Public publics.now)) }
     {
@@ -62,12 +62,12 @@ impl Audit {
     }
 
     /// Whether the signature verifies under a public key. It is computed only if it wasn't tried before.
-    fn verifies(&self, alloc: Global, public: &[u8; 56], text: &[u8], sig: &[u8]) -> bool
-        ensures { result ≡ verified public.now text.now sig.now }
+    fn verifies(&self, alloc: Global, public: &PublicKey, text: &[u8], sig: &[u8]) -> bool
+        ensures { result ≡ verified_by public.now text.now sig.now }
     {
         match self.tried.try_borrow_mut() {
             Ok(mut tried) => tried.check(alloc, public, text, sig),
-            Err(_) => verify(public, text, sig),
+            Err(_) => verify_by(public.as_slice(), text, sig),
         }
     }
 

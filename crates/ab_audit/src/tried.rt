@@ -1,13 +1,13 @@
 //! Signatures that were tried, right or wrong, so that none is computed twice.
 
 ghost use Rattle.std.specs.Prelude.{◌≡◌, ◌≤◌, IfOk, IfSome};
-ghost use Rattle.ab_lms.specs.Verified.{verified};
+ghost use Rattle.ab_scheme.specs.Schemes.{verified_by};
 ghost use Rattle.ab_sign.specs.Kept.{bytes_in};
 
 use crate::verdict::Verdict;
-use ab_lms::verify;
 use ab_mac::{hash, link};
 use ab_num::OutOfMemory;
+use ab_scheme::{PublicKey, verify_by};
 use indexmap::IndexMap;
 use std::alloc::Global;
 
@@ -33,8 +33,8 @@ impl Drop for Tried {
 }
 
 /// The digest by which a signature is kept. Nothing is asked of it.
-fn name_of(public: &[u8; 56], content: &[u8], sig: &[u8]) -> [u8; 32] {
-    link(&link(&hash(public), content), sig)
+fn name_of(public: &PublicKey, content: &[u8], sig: &[u8]) -> [u8; 32] {
+    link(&link(&hash(public.as_slice()), content), sig)
 }
 
 impl Tried {
@@ -47,8 +47,8 @@ impl Tried {
     }
 
     /// Whether the signature verifies, if it was tried.
-    fn known(&self, public: &[u8; 56], content: &[u8], sig: &[u8]) -> Option<bool>
-        ensures { IfSome result (λ right. right ≡ verified public.now content.now sig.now) }
+    fn known(&self, public: &PublicKey, content: &[u8], sig: &[u8]) -> Option<bool>
+        ensures { IfSome result (λ right. right ≡ verified_by public.now content.now sig.now) }
     {
         match self.verdicts.get(&name_of(public, content, sig)) {
             Some(verdict) => verdict.on(public, content, sig),
@@ -60,12 +60,12 @@ impl Tried {
     fn learn(
         &mut self,
         alloc: Global,
-        public: &[u8; 56],
+        public: &PublicKey,
         content: &[u8],
         sig: &[u8],
         right: bool,
     ) -> Result<(), OutOfMemory>
-        requires { right ≡ verified public.now content.now sig.now }
+        requires { right ≡ verified_by public.now content.now sig.now }
     {
         if content.len() > 262_144 || sig.len() > 8_192 {
             return Ok(());
@@ -86,16 +86,16 @@ impl Tried {
     pub(crate) fn check(
         &mut self,
         alloc: Global,
-        public: &[u8; 56],
+        public: &PublicKey,
         content: &[u8],
         sig: &[u8],
     ) -> bool
-        ensures { result ≡ verified public.now content.now sig.now }
+        ensures { result ≡ verified_by public.now content.now sig.now }
     {
         if let Some(right) = self.known(public, content, sig) {
             return right;
         }
-        let right = verify(public, content, sig);
+        let right = verify_by(public.as_slice(), content, sig);
         let _ = self.learn(alloc, public, content, sig, right);
         right
     }

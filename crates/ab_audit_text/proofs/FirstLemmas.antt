@@ -2,15 +2,16 @@
 use Rattle.std.proofs.Common.{◌≡◌, ℕ, zero, suc, ◌+◌, ◌-◌, ◌≤◌, List, [], ◌∷◌, ◌++◌, Bool, true, false, Option, None, Some, Result, Ok, Err, ◌⊎◌, inl, inr, codes, take, refl, sym, ap, ◌∙◌, subst, arith, if◌then◌else◌}
 use Rattle.std.specs.Str.{bytes_eq}
 use Rattle.ab_num.specs.declared.party.Party.{Party}
-use Rattle.ab_num.specs.declared.plan.Height.{Height}
-use Rattle.ab_text.specs.Heads.{spelled_in, lms_line, heights}
+use Rattle.ab_num.specs.declared.plan.Scheme.{Scheme}
+use Rattle.ab_text.specs.Heads.{spelled_in, lms_line, schemes}
+use Rattle.ab_scheme.specs.Schemes.{public_length}
 use Rattle.ab_key_text.specs.declared.fault.NodeFault.{NodeFault}
 use Rattle.ab_key_text.specs.declared.fault.NodeFault.TheVariants.{BadLine, NoEnd}
 use Rattle.ab_key_text.specs.Keys.{replicas}
-use Rattle.ab_key_text.specs.Lines.{◌>>=◌, found_at, line_at, form_in, number_in, key_in}
+use Rattle.ab_key_text.specs.Lines.{◌>>=◌, found_at, line_at, number_in, key_in}
 use Rattle.ab_key_text.specs.Reading.{Read, ended, publics_at}
 use Rattle.ab_audit_text.specs.Spelling.{IsAuditText, audit_lines}
-use Rattle.ab_audit_text.specs.Texts.{AuditText, audit_in, audit_of, message_in, messages_at, with_message}
+use Rattle.ab_audit_text.specs.Texts.{AuditText, audit_in, audit_of, message_in, messages_at, name_in, with_message}
 use Rattle.ab_audit_text.proofs.TextLemmas.{from2, from3, from4, spelled_reads}
 
 abbrev Lines : Type 0
@@ -92,12 +93,12 @@ module _ {A B : Type 0} (read : List ℕ → Option A) (n : ℕ) (f : A → Read
     before_at (l ∷ ls) m zero e le = inl (ap (λ j. let r : Result B NodeFault = Err (NoEnd j) in r) (let i : n ≡ n + 0 = omega arith in i))
     before_at (l ∷ ls) m (suc k) e le = before_line ls m k (read l) e le
 
-publics_first : {B : Type 0} (K : Read Lines → Result B NodeFault) → ((keys : Lines) (n : ℕ) → IsFirst (λ ls. K (record { value = keys; next = n; rest = ls })) n)
-    → (ps : List Party) (done : Lines) (n : ℕ) → IsFirst (λ ls. publics_at ps done n ls >>= K) n
-publics_first K behind [] done n = behind done n
-publics_first K behind (p ∷ ps) done n =
-    first_as _ _ n (λ ls. assoc (line_at (key_in (codes "public ") p 56) n ls) (λ (y : List ℕ × Lines). publics_at ps (done ++ y.0 ∷ []) (n + 1) y.1) K)
-    (line_first (key_in (codes "public ") p 56) n (λ key ls. publics_at ps (done ++ key ∷ []) (n + 1) ls >>= K) (λ key. publics_first K behind ps (done ++ key ∷ []) (n + 1)))
+publics_first : {B : Type 0} (long : ℕ) (K : Read Lines → Result B NodeFault) → ((keys : Lines) (n : ℕ) → IsFirst (λ ls. K (record { value = keys; next = n; rest = ls })) n)
+    → (ps : List Party) (done : Lines) (n : ℕ) → IsFirst (λ ls. publics_at long ps done n ls >>= K) n
+publics_first long K behind [] done n = behind done n
+publics_first long K behind (p ∷ ps) done n =
+    first_as _ _ n (λ ls. assoc (line_at (key_in (codes "public ") p long) n ls) (λ (y : List ℕ × Lines). publics_at long ps (done ++ y.0 ∷ []) (n + 1) y.1) K)
+    (line_first (key_in (codes "public ") p long) n (λ key ls. publics_at long ps (done ++ key ∷ []) (n + 1) ls >>= K) (λ key. publics_first long K behind ps (done ++ key ∷ []) (n + 1)))
 
 -- ---- the end, and the messages before it
 
@@ -168,15 +169,15 @@ messages_first t n = record {
 
 -- ---- all lines
 
-first4 : (f : ℕ) (lms : Height) → IsFirst (λ ls. from4 f lms ls) 4
-first4 f lms = publics_first (λ (x : Read Lines). messages_at (audit_of f lms x.value []) x.next x.rest) (λ keys n. messages_first (audit_of f lms keys []) n) (replicas f) [] 4
+first4 : (f : ℕ) (lms : Scheme) → IsFirst (λ ls. from4 f lms ls) 4
+first4 f lms = publics_first (public_length lms) (λ (x : Read Lines). messages_at (audit_of f lms x.value []) x.next x.rest) (λ keys n. messages_first (audit_of f lms keys []) n) (replicas f) [] 4
 
 text_first : IsFirst audit_in 1
 unfolding audit_in
 text_first =
-    line_first (form_in (codes "audit 1")) 1 (λ u ls. from2 ls)
+    line_first name_in 1 (λ u ls. from2 ls)
     (λ u. line_first (number_in (codes "f ") 1 2) 2 (λ f ls. from3 f ls)
-    (λ f. line_first (spelled_in lms_line heights) 3 (λ lms ls. from4 f lms ls) (λ lms. first4 f lms)))
+    (λ f. line_first (spelled_in lms_line schemes) 3 (λ lms ls. from4 f lms ls) (λ lms. first4 f lms)))
 
 -- no text of an audit begins with the lines up to the bad one
 pub none_begins : (ls more : Lines) (n : ℕ) (t : AuditText) → audit_in ls ≡ Err (BadLine n) → IsAuditText t → audit_lines t ≡ take n ls ++ more → ⊥

@@ -3,24 +3,29 @@ use Rattle.std.proofs.Common.{◌≡◌, ℕ, ◌+◌, ◌*◌, List, [], ◌∷
 use Rattle.std.specs.List.{AllByRecursion, range_with_len}
 use Rattle.std.specs.Option.{option_and_then}
 use Rattle.std.specs.Str.{bytes_eq}
+use Rattle.std.proofs.lemmas.Option.{cond_some}
 use Rattle.std.proofs.lemmas.Slice.Eq.{bytes_eq-Decides}
 use Rattle.hex.specs.Hex.{encode_lower}
 use Rattle.ab_num.specs.declared.party.Party.TheVariants.{Replica}
-use Rattle.ab_num.specs.declared.plan.Height.{Height}
+use Rattle.ab_num.specs.declared.plan.Scheme.{Scheme}
+use Rattle.ab_num.specs.declared.plan.Scheme.TheVariants.{Lms, Hss}
 use Rattle.ab_text.specs.EventLines.{IsInjected}
-use Rattle.ab_text.specs.Heads.{stripped, spelled_in, lms_line, heights}
-use Rattle.ab_text.proofs.HeadLemmas.{height_read}
+use Rattle.ab_text.specs.declared.version.Version.TheVariants.{Two}
+use Rattle.ab_text.specs.Heads.{stripped, spelled_in, lms_line, schemes}
+use Rattle.ab_text.specs.Spelling.{Allows}
+use Rattle.ab_text.proofs.HeadLemmas.{scheme_read}
 use Rattle.ab_text.proofs.WordLemmas.{stripped-is}
+use Rattle.ab_scheme.specs.Schemes.{public_length}
 use Rattle.ab_key_text.specs.declared.fault.NodeFault.{NodeFault}
 use Rattle.ab_key_text.specs.Keys.{replicas}
-use Rattle.ab_key_text.specs.Lines.{◌>>=◌, found_at, line_at, form_in, number_in}
+use Rattle.ab_key_text.specs.Lines.{◌>>=◌, found_at, line_at, number_in}
 use Rattle.ab_key_text.specs.Reading.{Read, ended, publics_at}
 use Rattle.ab_key_text.specs.Spelling.{public_lines}
-use Rattle.ab_key_text.proofs.ReadLemmas.{ended_was, form_was, found_was, line_said, line_was, name_was, number_was, publics_were, then_was, word_was}
+use Rattle.ab_key_text.proofs.ReadLemmas.{ended_was, found_was, line_said, line_was, name_was, number_was, publics_were, then_was, word_was}
 use Rattle.ab_key_text.proofs.SpelledLemmas.{line_read, number_read, publics_read}
 use Rattle.ab_key_text.proofs.WholeLemmas.{bound}
 use Rattle.ab_audit_text.specs.Spelling.{IsAuditText, audit_lines, message_line}
-use Rattle.ab_audit_text.specs.Texts.{AuditText, audit_in, audit_of, message_bytes, message_in, messages_at, with_message}
+use Rattle.ab_audit_text.specs.Texts.{AuditText, audit_in, audit_of, message_bytes, message_in, messages_at, name_in, with_message}
 use Rattle.ab_audit_text.proofs.HexLemmas.{bytes_read, bytes_were}
 
 abbrev Lines : Type 0
@@ -29,11 +34,11 @@ Lines = List (List ℕ)
 abbrev Whole : Type 0
 Whole = Result AuditText NodeFault
 
-abbrev pub from4 : ℕ → Height → Lines → Whole
-from4 f lms ls = publics_at (replicas f) [] 4 ls >>= λ (x : Read Lines). messages_at (audit_of f lms x.value []) x.next x.rest
+abbrev pub from4 : ℕ → Scheme → Lines → Whole
+from4 f lms ls = publics_at (public_length lms) (replicas f) [] 4 ls >>= λ (x : Read Lines). messages_at (audit_of f lms x.value []) x.next x.rest
 
 abbrev pub from3 : ℕ → Lines → Whole
-from3 f ls = line_at (spelled_in lms_line heights) 3 ls >>= λ (x : Height × Lines). from4 f x.0 x.1
+from3 f ls = line_at (spelled_in lms_line schemes) 3 ls >>= λ (x : Scheme × Lines). from4 f x.0 x.1
 
 abbrev pub from2 : Lines → Whole
 from2 ls = line_at (number_in (codes "f ") 1 2) 2 ls >>= λ (x : ℕ × Lines). from3 x.0 x.1
@@ -58,6 +63,10 @@ messages_read (m ∷ ms) t n good =
     ∙ messages_read ms (with_message t m) (n + 1) good.1
     ∙ ap (kept t) (append_assoc t.messages (m ∷ []) ms)
 
+allows_all : (h : Scheme) → Allows Two h
+allows_all (Lms h) = tt
+allows_all Hss = tt
+
 pub spelled_reads : (t : AuditText) → IsAuditText t → audit_in (audit_lines t) ≡ Ok t
 unfolding audit_in
 spelled_reads t good =
@@ -67,16 +76,20 @@ spelled_reads t good =
     let t4 : Lines = public_lines 0 t.publics ++ t5 in
     let t3 : Lines = lms_line t.lms ∷ t4 in
     let t2 : Lines = (codes "f " ++ decimal t.f) ∷ t3 in
-    let one : form_in (codes "audit 1") (codes "audit 1") ≡ Some tt = ap (λ b. if b then Some tt else None) ((bytes_eq-Decides (codes "audit 1") (codes "audit 1")).1 refl) in
-    let publics : publics_at (replicas t.f) [] 4 t4 ≡ Ok (record { value = t.publics; next = 4 + length t.publics; rest = t5 }) =
-    ap (λ n. publics_at (map Replica (range_with_len 0 n)) [] 4 t4) (sym good.public_of_each) ∙ publics_read t.publics [] 0 4 t5 good.publics in
-    ap (λ (r : Result (Unit {0} × Lines) NodeFault). r >>= λ x. from2 x.1) (line_read (form_in (codes "audit 1")) 1 (codes "audit 1") t2 tt one)
+    let long = public_length t.lms in
+    let one : name_in (codes "audit 1") ≡ Some tt = ap (λ b. if b then Some tt else None) ((bytes_eq-Decides (codes "audit 1") (codes "audit 1")).1 refl) in
+    let publics : publics_at long (replicas t.f) [] 4 t4 ≡ Ok (record { value = t.publics; next = 4 + length t.publics; rest = t5 }) =
+    ap (λ n. publics_at long (map Replica (range_with_len 0 n)) [] 4 t4) (sym good.public_of_each) ∙ publics_read long t.publics [] 0 4 t5 good.publics in
+    ap (λ (r : Result (Unit {0} × Lines) NodeFault). r >>= λ x. from2 x.1) (line_read name_in 1 (codes "audit 1") t2 tt one)
     ∙ ap (λ (r : Result (ℕ × Lines) NodeFault). r >>= λ x. from3 x.0 x.1) (line_read (number_in (codes "f ") 1 2) 2 (codes "f " ++ decimal t.f) t3 t.f (number_read (codes "f ") 1 2 t.f low high (omega (arith, high))))
-    ∙ ap (λ (r : Result (Height × Lines) NodeFault). r >>= λ x. from4 t.f x.0 x.1) (line_read (spelled_in lms_line heights) 3 (lms_line t.lms) t4 t.lms (height_read t.lms))
+    ∙ ap (λ (r : Result (Scheme × Lines) NodeFault). r >>= λ x. from4 t.f x.0 x.1) (line_read (spelled_in lms_line schemes) 3 (lms_line t.lms) t4 t.lms (scheme_read Two t.lms (allows_all t.lms)))
     ∙ ap (λ (r : Result (Read Lines) NodeFault). r >>= λ x. messages_at (audit_of t.f t.lms x.value []) x.next x.rest) publics
     ∙ messages_read t.messages (audit_of t.f t.lms t.publics []) (4 + length t.publics) good.messages
 
 -- ---- what is read was spelled
+
+name_said : (l : List ℕ) (u : Unit {0}) → name_in l ≡ Some u → l ≡ codes "audit 1"
+name_said l u h = (bytes_eq-Decides l (codes "audit 1")).0 (cond_some (bytes_eq l (codes "audit 1")) tt u h).0
 
 message_was : (l m : List ℕ) → message_in l ≡ Some m → (l ≡ message_line m) × IsInjected m
 message_was l m h =
@@ -120,18 +133,19 @@ messages_were (l ∷ ls) t n out e = go (λ x. messages_were ls (with_message t 
 pub read_was : (ls : Lines) (t : AuditText) → audit_in ls ≡ Ok t → (ls ≡ audit_lines t) × IsAuditText t
 unfolding audit_in
 read_was ls t e =
-    let a = bound (line_at (form_in (codes "audit 1")) 1 ls) (λ (x : Unit {0} × Lines). from2 x.1) t e in
+    let a = bound (line_at name_in 1 ls) (λ (x : Unit {0} × Lines). from2 x.1) t e in
     let b = bound (line_at (number_in (codes "f ") 1 2) 2 a.0.1) (λ (x : ℕ × Lines). from3 x.0 x.1) t a.2 in
     let f = b.0.0 in
-    let c = bound (line_at (spelled_in lms_line heights) 3 b.0.1) (λ (x : Height × Lines). from4 f x.0 x.1) t b.2 in
+    let c = bound (line_at (spelled_in lms_line schemes) 3 b.0.1) (λ (x : Scheme × Lines). from4 f x.0 x.1) t b.2 in
     let lms = c.0.0 in
-    let d = bound (publics_at (replicas f) [] 4 c.0.1) (λ (x : Read Lines). messages_at (audit_of f lms x.value []) x.next x.rest) t c.2 in
-    let publics = publics_were (3 * f + 1) 0 [] 4 c.0.1 d.0 d.1 in
+    let long = public_length lms in
+    let d = bound (publics_at long (replicas f) [] 4 c.0.1) (λ (x : Read Lines). messages_at (audit_of f lms x.value []) x.next x.rest) t c.2 in
+    let publics = publics_were long (3 * f + 1) 0 [] 4 c.0.1 d.0 d.1 in
     let messages = messages_were d.0.rest (audit_of f lms d.0.value []) d.0.next t d.2 in
-    let one = line_said (form_in (codes "audit 1")) (λ u. codes "audit 1") (form_was (codes "audit 1")) 1 ls a.0.1 a.0.0 a.1 in
+    let one = line_said name_in (λ u. codes "audit 1") name_said 1 ls a.0.1 a.0.0 a.1 in
     let two = line_was (number_in (codes "f ") 1 2) 2 a.0.1 b.0.1 f b.1 in
     let f_is = number_was (codes "f ") 1 2 two.0 f two.2 in
-    let three = line_said (spelled_in lms_line heights) lms_line (name_was lms_line heights) 3 b.0.1 c.0.1 lms c.1 in
+    let three = line_said (spelled_in lms_line schemes) lms_line (name_was lms_line schemes) 3 b.0.1 c.0.1 lms c.1 in
     let out : AuditText = audit_of f lms publics.0 messages.0 in
     let same : out ≡ t = sym (messages.1.value ∙ ap (λ p. audit_of f lms p messages.0) publics.1.value) in
     let behind : c.0.1 ≡ public_lines 0 publics.0 ++ (map message_line messages.0 ++ codes "end" ∷ []) = publics.1.lines ∙ ap (λ r. public_lines 0 publics.0 ++ r) messages.1.lines in

@@ -3,23 +3,24 @@ use Rattle.std.specs.Prelude.{ℕ, ◌+◌, List, [], ◌∷◌, ◌++◌, Optio
 use Rattle.std.specs.Str.{bytes_eq}
 use Rattle.std.specs.Option.{option_and_then}
 use Rattle.hex.specs.Hex.{decode_of}
-use Rattle.ab_num.specs.declared.plan.Height.{Height}
-use Rattle.ab_text.specs.Heads.{stripped, spelled_in, lms_line, heights}
+use Rattle.ab_num.specs.declared.plan.Scheme.{Scheme}
+use Rattle.ab_text.specs.Heads.{stripped, spelled_in, lms_line, schemes}
+use Rattle.ab_scheme.specs.Schemes.{public_length}
 use Rattle.ab_key_text.specs.declared.fault.NodeFault.{NodeFault}
 use Rattle.ab_key_text.specs.declared.fault.NodeFault.TheVariants.{NoEnd}
 use Rattle.ab_key_text.specs.Hex.{in_lower_case}
 use Rattle.ab_key_text.specs.Keys.{replicas}
-use Rattle.ab_key_text.specs.Lines.{◌>>=◌, found_at, line_at, form_in, number_in}
+use Rattle.ab_key_text.specs.Lines.{◌>>=◌, found_at, line_at, number_in}
 use Rattle.ab_key_text.specs.Reading.{publics_at, ended}
 
 -- the replicas of a cluster are 3f + 1, and each has a public key
 pub record AuditText : Type 0 where
   pub f : ℕ
-  pub lms : Height
+  pub lms : Scheme
   pub publics : List (List ℕ)
   pub messages : List (List ℕ)
 
-abbrev pub audit_of : ℕ → Height → List (List ℕ) → List (List ℕ) → AuditText
+abbrev pub audit_of : ℕ → Scheme → List (List ℕ) → List (List ℕ) → AuditText
 audit_of f lms publics messages = record { f = f; lms = lms; publics = publics; messages = messages }
 
 -- ---- a message
@@ -51,11 +52,15 @@ messages_at t n (l ∷ ls) =
 
 -- ---- all lines
 
+-- the first line
+abbrev pub name_in : List ℕ → Option (Unit {0})
+name_in l = if bytes_eq l (codes "audit 1") then Some tt else None
+
 -- what the lines of an audit's text give
 unfoldable pub audit_in : List (List ℕ) → Result AuditText NodeFault
 audit_in ls = do
-  name ← line_at (form_in (codes "audit 1")) 1 ls
+  name ← line_at name_in 1 ls
   f ← line_at (number_in (codes "f ") 1 2) 2 name.1
-  lms ← line_at (spelled_in lms_line heights) 3 f.1
-  publics ← publics_at (replicas f.0) [] 4 lms.1
+  lms ← line_at (spelled_in lms_line schemes) 3 f.1
+  publics ← publics_at (public_length lms.0) (replicas f.0) [] 4 lms.1
   messages_at (audit_of f.0 lms.0 publics.value []) publics.next publics.rest

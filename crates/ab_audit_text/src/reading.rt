@@ -1,24 +1,57 @@
 //! The reading of an audit's text.
 
-ghost use Rattle.std.specs.Prelude.{◌≡◌, ◌<◌, ◌^◌, ◌+◌, ◌↔◌, IsTrue, codes, [], length};
+ghost use Rattle.std.specs.Prelude.{◌≡◌, ◌<◌, ◌^◌, ◌+◌, ◌≤◌, ◌↔◌, IfOk, IsTrue, codes, [], length};
+ghost use Rattle.ab_text.specs.Heads.{lms_line, schemes, spelled_in};
 ghost use Rattle.ab_text.specs.Lines.{lines_of};
-ghost use Rattle.ab_key_text.specs.Lines.{Gives};
+ghost use Rattle.ab_key_text.specs.Lines.{Gives, line_at};
 ghost use Rattle.ab_key_text.specs.Reading.{ended};
-ghost use Rattle.ab_audit_text.specs.Texts.{audit_in, audit_of, messages_at};
+ghost use Rattle.ab_audit_text.specs.Texts.{audit_in, audit_of, messages_at, name_in};
 
 use crate::hex_bytes::message_in;
 use crate::text::AuditText;
-use ab_key_text::{NodeFault, form_at, height_at, number_at, publics_of, replicas};
-use ab_num::{Cluster, Height, Plan};
-use ab_text::{Items, cluster_of, next_line};
+use ab_key_text::{NodeFault, number_at, publics_of, replicas};
+use ab_num::{Cluster, Plan, Scheme};
+use ab_scheme::PublicKey;
+use ab_text::{Items, cluster_of, next_line, scheme_in};
 use std::alloc::Global;
 
 /// What stands in front of the messages.
 #[derive(Drop)]
 struct Front {
     cluster: Cluster,
-    lms: Height,
-    publics: Vec<[u8; 56]>,
+    lms: Scheme,
+    publics: Vec<PublicKey>,
+}
+
+/// What comes after line 1, which says that this is the text of an audit.
+fn named(text: &[u8]) -> Result<&[u8], NodeFault>
+    ensures reads { Gives (λ rest. (tt, lines_of rest.now)) result (line_at name_in 1 (lines_of text.now)) }
+    ensures shorter { IfOk result (λ rest. length rest.now ≤ length text.now) }
+{
+    match next_line(text) {
+        None => Err(NodeFault::NoEnd(1)),
+        Some((line, rest)) => {
+            if line == b"audit 1".as_slice() {
+                Ok(rest)
+            } else {
+                Err(NodeFault::BadLine(1))
+            }
+        }
+    }
+}
+
+/// The scheme of line 3, and what comes after that line.
+fn scheme_at(text: &[u8]) -> Result<(Scheme, &[u8]), NodeFault>
+    ensures reads { Gives (λ p. (p.0, lines_of p.1.now)) result (line_at (spelled_in lms_line schemes) 3 (lines_of text.now)) }
+    ensures shorter { IfOk result (λ p. length p.1.now ≤ length text.now) }
+{
+    match next_line(text) {
+        None => Err(NodeFault::NoEnd(3)),
+        Some((line, rest)) => match scheme_in(line) {
+            None => Err(NodeFault::BadLine(3)),
+            Some(found) => Ok((found, rest)),
+        },
+    }
 }
 
 /// Whether the line is the last one.
@@ -77,12 +110,12 @@ pub fn read_audit(alloc: Global, text: &[u8]) -> Result<AuditText, NodeFault>
     requires { length text.now < 2 ^ 31 }
     ensures { Gives (λ t. t) result (audit_in (lines_of text.now)) }
 {
-    let rest = form_at(text, b"audit 1", 1)?;
+    let rest = named(text)?;
     let (f, rest) = number_at(rest, b"f ", 1, 2, 2)?;
-    let (lms, rest) = height_at(rest, 3)?;
+    let (lms, rest) = scheme_at(rest)?;
     let cluster = cluster_of(f as u8, 1, Plan::Quorum);
     let replicas = replicas(alloc, &cluster)?;
-    let publics = publics_of(alloc, rest, &replicas, 4)?;
+    let publics = publics_of(alloc, rest, lms, &replicas, 4)?;
     let front = Front {
         cluster,
         lms,

@@ -3,16 +3,17 @@
 ghost use Rattle.std.specs.Prelude.{◌≡◌, ◌+◌, ◌*◌, length};
 ghost use Rattle.ab_audit_text.specs.Texts.{audit_of};
 
-use ab_num::{Cluster, Height};
+use ab_num::{Cluster, Scheme};
+use ab_scheme::PublicKey;
 use ab_text::Items;
 use std::marker::Model;
 
-/// The public keys of the replicas of a cluster, the height of their trees, and messages.
+/// The public keys of the replicas of a cluster, how they sign, and messages.
 #[derive(Drop)]
 pub struct AuditText {
     pub(crate) cluster: Cluster,
-    pub(crate) lms: Height,
-    pub(crate) publics: Vec<[u8; 56]>,
+    pub(crate) lms: Scheme,
+    pub(crate) publics: Vec<PublicKey>,
     pub(crate) messages: Items<Items<u8>>,
 }
 
@@ -38,7 +39,7 @@ impl AuditText {
     }
 
     /// The public keys of the replicas, from replica 0 on.
-    pub fn publics(&self) -> &[[u8; 56]]
+    pub fn publics(&self) -> &[PublicKey]
         ensures { result.now ≡ self.now.publics }
     {
         self.publics.as_slice()

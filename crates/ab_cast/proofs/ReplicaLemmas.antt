@@ -4,17 +4,13 @@ use Rattle.std.specs.Prelude.{IfOk, OnOk, replicate, slice_set}
 use Rattle.std.proofs.lemmas.Bool.{lt-ltb}
 use Rattle.ab_num.specs.declared.cluster.Cluster.{Cluster}
 use Rattle.ab_num.specs.declared.memory.OutOfMemory.{OutOfMemory}
-use Rattle.ab_num.specs.declared.plan.Height.{Height}
-use Rattle.ab_num.specs.declared.plan.Height.TheVariants.{Five, Ten}
 use Rattle.ab_num.specs.declared.plan.Kind.{Kind}
 use Rattle.ab_num.specs.declared.party.Party.{Party}
 use Rattle.ab_num.specs.declared.party.Party.TheVariants.{Replica, Client}
-use Rattle.ab_lms.specs.Nodes.{levels}
-use Rattle.ab_lms.proofs.Signed.{length-lms_signature}
 use Rattle.ab_keys.specs.Keys.{is_party}
 use Rattle.ab_keys.specs.Secrets.{tree_name, tree_seed}
 use Rattle.ab_sign.specs.Signers.{pen_of, signature_at}
-use Rattle.ab_sign.proofs.KeyLemmas.{derived-at, derived-leaves}
+use Rattle.ab_sign.proofs.KeyLemmas.{derived-at, derived-leaves, signature_fits}
 use Rattle.ab_msg.specs.declared.content.Content.{Content}
 use Rattle.ab_msg.specs.declared.message.Out.{Out}
 use Rattle.ab_msg.specs.Contents.{spell_content}
@@ -44,16 +40,12 @@ use Rattle.ab_cast.specs.Hearing.{CliHears, RepHears}
 
 -- ---- signatures
 
-sig_fits : (lms : Height) (sig : List ℕ) → length sig ≡ 2188 + 32 * levels lms → IsSig sig
-sig_fits Five sig long = let e : length sig ≡ 2348 = long in rw e refl
-sig_fits Ten sig long = let e : length sig ≡ 2508 = long in rw e refl
-
 sig_long : (x : Setup) (r : ℕ) (s : Content) (n : ℕ) → r < 3 * x.cluster.f + 1 → IsSig ((run_setup x).sig r s n)
 sig_long x r s n lt =
     let zeros : List ℕ = replicate 32 0 in
     let text = spell_content s in
     subst (λ k. IsSig (signature_at k n text)) (sym (derived-at x.cluster.f x.lms zeros r lt))
-    (sig_fits x.lms _ (length-lms_signature x.lms (tree_name zeros r) (tree_seed zeros r) n text))
+    (signature_fits x.lms (tree_name zeros r) (tree_seed zeros r) text n)
 
 pub written_setup : (x : Setup) (serves : Kind → Bool) → ServesAll serves x.cluster → IsWrittenSetup (run_setup x) serves
 written_setup x serves served = record { serves_all = served; signs = λ r s n lt. sig_long x r s n lt }

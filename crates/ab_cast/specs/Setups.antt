@@ -1,13 +1,13 @@
--- A cluster in one program, with its faulty parties and the height of its signature trees. The keys of its parties are those of the seed
+-- A cluster in one program, with its faulty parties and the scheme by which its replicas sign. The keys of its parties are those of the seed
 -- of zeros.
-use Rattle.std.specs.Prelude.{IsTrue, All, ◌≡◌, ℕ, ◌<◌, ◌-◌, ◌^◌, ◌+◌, ◌*◌, ◌==◌, ◌&&◌, if◌then◌else◌, Bool, Option, None, Some, List, [], map, position, replicate, slice_get}
+use Rattle.std.specs.Prelude.{IsTrue, All, ◌≡◌, ℕ, ◌<◌, ◌-◌, ◌+◌, ◌*◌, ◌==◌, ◌&&◌, if◌then◌else◌, Bool, Option, None, Some, List, [], map, position, replicate, slice_get}
 use Rattle.std.specs.List.{flat_map, range_with_len}
 use Rattle.std.specs.Option.{option_map}
 use Rattle.ab_num.specs.declared.party.Party.{Party}
 use Rattle.ab_num.specs.declared.party.Party.TheVariants.{Replica, Client}
 use Rattle.ab_num.specs.declared.cluster.Cluster.{Cluster}
-use Rattle.ab_num.specs.declared.plan.Height.{Height}
-use Rattle.ab_lms.specs.Nodes.{levels}
+use Rattle.ab_num.specs.declared.plan.Scheme.{Scheme}
+use Rattle.ab_scheme.specs.Schemes.{signatures_in}
 use Rattle.ab_sign.specs.declared.key.SignKey.{SignKey}
 use Rattle.ab_sign.specs.Signers.{derived_keys, pen_of}
 use Rattle.ab_keys.specs.Keys.{is_party}
@@ -22,7 +22,7 @@ use Rattle.ab_cast.specs.declared.place.Place.TheVariants as place
 pub record Setup : Type 0 where
   pub cluster : Cluster
   pub faulty : List (Party × ℕ)
-  pub lms : Height
+  pub lms : Scheme
 
 -- the signature keys of the replicas
 abbrev pub keys_of : Setup → List SignKey
@@ -30,7 +30,7 @@ keys_of x = derived_keys x.cluster.f x.lms (replicate 32 0)
 
 -- how many signatures each replica can make
 abbrev pub signatures_of : Setup → ℕ
-signatures_of x = 2 ^ levels x.lms
+signatures_of x = signatures_in x.lms
 
 -- what a run over it is set up with
 abbrev pub run_setup : Setup → RunSetup

@@ -12,8 +12,9 @@ ghost use Rattle.ab_cast.specs.Setups.{credentials_at, is_bad, signatures_of, pl
 
 use crate::place::Place;
 use ab_keys::{KeyRing, is_party};
-use ab_num::{Cluster, Height, OutOfMemory, Party};
+use ab_num::{Cluster, OutOfMemory, Party, Scheme};
 use ab_party::Credentials;
+use ab_scheme::signatures;
 use ab_sign::Signers;
 use std::alloc::Global;
 use std::marker::Model;
@@ -24,7 +25,7 @@ use std::marker::Model;
 pub struct Setup {
     cluster: Cluster,
     faulty: Vec<(Party, u8)>,
-    lms: Height,
+    lms: Scheme,
     signers: Signers,
     replica_rings: Vec<KeyRing>,
     client_rings: Vec<KeyRing>,
@@ -141,12 +142,12 @@ fn has(faulty: &[(Party, u8)], party: Party) -> bool
 
 impl Setup {
     /// The setup of a cluster in which these parties are faulty, each with the number of its cores.
-    /// The keys are those that the seed of 32 zeros gives; a replica's signature tree has this height.
+    /// The keys are those that the seed of 32 zeros gives; replicas sign by this scheme.
     pub fn new(
         alloc: Global,
         cluster: &Cluster,
         faulty: &[(Party, u8)],
-        lms: Height,
+        lms: Scheme,
     ) -> Result<Setup, OutOfMemory>
         requires { All (λ e. IsTrue (is_party cluster.now.f cluster.now.clients e.0)) faulty.now }
         ensures { IfOk result (λ x. x ≡ record { cluster = cluster.now; faulty = faulty.now; lms = lms }) }
@@ -189,10 +190,7 @@ impl Setup {
     pub(crate) fn signatures(&self) -> u64
         ensures { result ≡ signatures_of self.now }
     {
-        match self.lms {
-            Height::Five => 32,
-            Height::Ten => 1024,
-        }
+        signatures(self.lms)
     }
 
     /// What a party of the cluster opens, signs and seals by.

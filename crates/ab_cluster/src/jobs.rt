@@ -39,7 +39,7 @@ fn first_keys(alloc: Global, asked: &ClusterCommand) -> Result<PartyKeys, OutOfM
         alloc,
         asked.cluster(),
         asked.service(),
-        asked.height(),
+        asked.scheme(),
         asked.seed(),
         Party::Replica(0),
     )

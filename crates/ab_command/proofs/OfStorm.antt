@@ -3,6 +3,7 @@ use Rattle.std.proofs.Common.{◌≡◌, List, [], All, Ok, length, refl, sym, a
 use Rattle.std.proofs.lemmas.List.Elements.{recursion_from_All}
 use Rattle.ab_num.specs.declared.cluster.Cluster.{Cluster}
 use Rattle.ab_num.specs.declared.plan.Height.TheVariants.{Ten}
+use Rattle.ab_num.specs.declared.plan.Scheme.TheVariants.{Lms}
 use Rattle.ab_num.specs.declared.plan.ServiceName.TheVariants.{Kv}
 use Rattle.ab_text.specs.declared.event.Event.{Event}
 use Rattle.ab_text.specs.EventLines.{IsEvent}
@@ -28,7 +29,7 @@ of_storm k c events s sized (end, draws) is =
     let f : c.f ≡ own.f = sized.f ∙ sym draws.sized.f in
     let clients : c.clients ≡ own.clients = sized.clients ∙ sym draws.sized.clients in
     let plan : c.plan ≡ own.plan = sized.plan ∙ sym draws.sized.plan in
-    let whole : s ≡ script_in own (events_in kv own k) = is ∙ (λ j. record { f = f j; clients = clients j; plan = plan j; service = Kv; lms = Ten; faulty = []; events = draws.drawn j }) in
+    let whole : s ≡ script_in own (events_in kv own k) = is ∙ (λ j. record { f = f j; clients = clients j; plan = plan j; service = Kv; lms = Lms Ten; faulty = []; events = draws.drawn j }) in
     record {
       cluster = own;
       sized = draws.sized;

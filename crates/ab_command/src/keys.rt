@@ -16,7 +16,7 @@ pub(crate) fn key_text(alloc: Global, asked: &KeysCommand) -> Result<Vec<u8>, Ou
         alloc,
         asked.cluster(),
         asked.service(),
-        asked.height(),
+        asked.scheme(),
         asked.seed(),
         asked.party(),
     )?;

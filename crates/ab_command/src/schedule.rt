@@ -7,7 +7,7 @@ ghost use Rattle.ab_storm.specs.Runs.{StormCause};
 ghost use Rattle.ab_command.specs.Written.{script_in, IsOfStorm, WritesStorm};
 
 use ab_kv::Kv;
-use ab_num::{Cluster, Height, ServiceName};
+use ab_num::{Cluster, Height, Scheme, ServiceName};
 use ab_replay::AnyProtocol;
 use ab_storm::{StormFault, storm_events};
 use ab_text::{Event, Head, Items, Schedule, write_schedule, written_is_spelled};
@@ -21,7 +21,7 @@ fn schedule_in(alloc: Global, cluster: &Cluster, events: Items<Event>) -> Schedu
     let head = Head {
         cluster: *cluster,
         service: ServiceName::Kv,
-        lms: Height::Ten,
+        lms: Scheme::Lms(Height::Ten),
         faulty: Items::new(alloc),
     };
     Schedule { head, events }

@@ -10,17 +10,21 @@ use Rattle.ab_num.specs.declared.party.Party.TheVariants.{Replica, Client}
 use Rattle.ab_num.specs.Bounds.{IsInBounds}
 use Rattle.ab_keys.specs.Keys.{exchanges, is_party}
 use Rattle.ab_keys.specs.Rings.{Peer, parties}
+use Rattle.ab_scheme.specs.Schemes.{public_length}
+use Rattle.ab_text.specs.declared.version.Version.{Version}
+use Rattle.ab_text.specs.declared.version.Version.TheVariants.{One, Two}
 use Rattle.ab_text.specs.Cores.{party_text, IsParty}
+use Rattle.ab_text.specs.Heads.{version_of}
 use Rattle.ab_text.specs.Lines.{lines_of}
 use Rattle.ab_text.proofs.PartLemmas.{Lacks-append, Lacks-cons, Lacks-decimal}
 use Rattle.ab_text.proofs.CoreLemmas.{Lacks-party}
 use Rattle.ab_key_text.specs.Keys.{Secret, PartyKeys, IsBytes, IsSecretOf, IsPartyKeys, peers_in}
 use Rattle.ab_key_text.specs.Nodes.{AreCommandsOf, IsNodeText, NodeText, command_line, command_lines, is_command, is_printable, node_in, node_lines}
 use Rattle.ab_key_text.specs.Reading.{keys_in}
-use Rattle.ab_key_text.specs.Spelling.{key_line, peer_lines, public_lines, secret_lines, cluster_lines, name_lines, key_lines}
+use Rattle.ab_key_text.specs.Spelling.{key_line, keys_line, peer_lines, public_lines, secret_lines, cluster_lines, name_lines, key_lines}
 use Rattle.ab_key_text.proofs.ReadLemmas.{nodes_are_read}
 use Rattle.ab_key_text.proofs.RoundLemmas.{spelled_reads}
-use Rattle.ab_text.proofs.FeedLemmas.{lines_of-text_of, both, tested, no_feed_in_digits, no_feed_in_plan, no_feed_in_service, no_feed_in_height, HasNoFeed, HaveNoFeed}
+use Rattle.ab_text.proofs.FeedLemmas.{lines_of-text_of, both, tested, no_feed_in_digits, no_feed_in_plan, no_feed_in_service, no_feed_in_scheme, HasNoFeed, HaveNoFeed}
 use Rattle.ab_text.specs.Texts.{text_of}
 
 no_feed_in_key : (word : List ℕ) (p : Party) (n : ℕ) (key : List ℕ) → HasNoFeed word → IsParty p → IsBytes n key → HasNoFeed (key_line word p key)
@@ -37,10 +41,10 @@ no_feed_in_secret (Replica r) (Some s) good = (
   tt,
 )
 
-no_feed_in_publics : (keys : List (List ℕ)) (r : ℕ) → r + length keys ≤ 255 → AllByRecursion (IsBytes 56) keys → HaveNoFeed (public_lines r keys)
-no_feed_in_publics [] r few good = tt
-no_feed_in_publics (k ∷ keys) r few good =
-    (no_feed_in_key (codes "public ") (Replica r) 56 k (tested (codes "public ") refl) (omega (arith, few)) good.0, no_feed_in_publics keys (r + 1) (omega (arith, few)) good.1)
+no_feed_in_publics : (long : ℕ) (keys : List (List ℕ)) (r : ℕ) → r + length keys ≤ 255 → AllByRecursion (IsBytes long) keys → HaveNoFeed (public_lines r keys)
+no_feed_in_publics long [] r few good = tt
+no_feed_in_publics long (k ∷ keys) r few good =
+    (no_feed_in_key (codes "public ") (Replica r) long k (tested (codes "public ") refl) (omega (arith, few)) good.0, no_feed_in_publics long keys (r + 1) (omega (arith, few)) good.1)
 
 -- each party that has lines of its own is small
 abbrev AreSmall : List Party → Type 0
@@ -87,6 +91,10 @@ small_party : (f clients : ℕ) (p : Party) → IsInBounds f clients → IsTrue 
 small_party f clients (Replica r) bounds inside = let lt : r < 3 * f + 1 = (Decides-ltb r (3 * f + 1)).0 inside in let few = bounds.few_faulty in omega (arith, lt, few)
 small_party f clients (Client c) bounds inside = let lt : c < clients = (Decides-ltb c clients).0 inside in let few = bounds.few_clients in omega (arith, lt, few)
 
+no_feed_in_version : (w : Version) → HasNoFeed (keys_line w)
+no_feed_in_version One = tested (codes "keys 1") refl
+no_feed_in_version Two = tested (codes "keys 2") refl
+
 no_feed : (k : PartyKeys) → IsPartyKeys k → HaveNoFeed (key_lines k)
 no_feed k good =
     let bounds = good.bounds in
@@ -97,13 +105,13 @@ no_feed k good =
     let f = Lacks-append 10 (codes "f ") (decimal k.f) (tested (codes "f ") refl) (Lacks-decimal 10 k.f (omega arith) (omega (arith, fs))) in
     let clients = Lacks-append 10 (codes "clients ") (decimal k.clients) (tested (codes "clients ") refl) (Lacks-decimal 10 k.clients (omega arith) (omega (arith, cs))) in
     both (cluster_lines k) (name_lines k ++ (secret_lines k.secret ++ (flat_map peer_lines k.peers ++ public_lines 0 k.publics)))
-    (tested (codes "keys 1") refl, (me, (f, (clients, tt))))
+    (no_feed_in_version (version_of k.lms), (me, (f, (clients, tt))))
     (both (name_lines k) (secret_lines k.secret ++ (flat_map peer_lines k.peers ++ public_lines 0 k.publics))
-    (no_feed_in_plan k.plan, (no_feed_in_service k.service, (no_feed_in_height k.lms, tt)))
+    (no_feed_in_plan k.plan, (no_feed_in_service k.service, (no_feed_in_scheme k.lms, tt)))
     (both (secret_lines k.secret) (flat_map peer_lines k.peers ++ public_lines 0 k.publics) (no_feed_in_secret k.me k.secret good.secret)
     (both (flat_map peer_lines k.peers) (public_lines 0 k.publics)
     (no_feed_in_peers k.peers (subst AreSmall (sym good.peers) (small_peers k.f k.clients k.me bounds)) good.keys)
-    (no_feed_in_publics k.publics 0 (omega (arith, count, fs)) good.publics))))
+    (no_feed_in_publics (public_length k.lms) k.publics 0 (omega (arith, count, fs)) good.publics))))
 
 -- what is written is read
 pub written_reads : (k : PartyKeys) → IsPartyKeys k → keys_in (lines_of (text_of (key_lines k))) ≡ Ok k

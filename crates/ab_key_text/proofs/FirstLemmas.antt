@@ -8,18 +8,20 @@ use Rattle.ab_num.specs.declared.party.Party.{Party}
 use Rattle.ab_num.specs.declared.party.Party.TheVariants.{Replica, Client}
 use Rattle.ab_num.specs.declared.plan.Plan.{Plan}
 use Rattle.ab_num.specs.declared.plan.ServiceName.{ServiceName}
-use Rattle.ab_num.specs.declared.plan.Height.{Height}
+use Rattle.ab_num.specs.declared.plan.Scheme.{Scheme}
 use Rattle.ab_keys.specs.Keys.{is_party}
 use Rattle.ab_keys.specs.Rings.{Peer}
-use Rattle.ab_text.specs.Heads.{spelled_in, stripped, plan_line, plans, service_line, services, lms_line, heights}
+use Rattle.ab_scheme.specs.Schemes.{public_length}
+use Rattle.ab_text.specs.declared.version.Version.{Version}
+use Rattle.ab_text.specs.Heads.{spelled_in, stripped, plan_line, plans, service_line, services, lms_line, versions}
 use Rattle.ab_key_text.specs.declared.fault.NodeFault.{NodeFault}
 use Rattle.ab_key_text.specs.declared.fault.NodeFault.TheVariants.{BadLine, NoEnd}
 use Rattle.ab_key_text.specs.Faults.{seen}
 use Rattle.ab_key_text.specs.Keys.{Secret, PartyKeys, IsPartyKeys, peers_in, replicas}
-use Rattle.ab_key_text.specs.Lines.{◌>>=◌, found_at, line_at, form_in, number_in, party_in, key_in}
+use Rattle.ab_key_text.specs.Lines.{◌>>=◌, found_at, line_at, own_schemes, number_in, party_in, key_in}
 use Rattle.ab_key_text.specs.Nodes.{AreCommandsOf, IsNodeText, NodeText, command_in, command_lines, commands_at, commands_in, node_in, node_lines, node_of}
 use Rattle.ab_key_text.specs.Reading.{Read, KeyLines, ended, keys_after, keys_at, keys_in, member, peers_at, publics_at, put_together, secret_at, secret_in, setting_at}
-use Rattle.ab_key_text.specs.Spelling.{key_lines}
+use Rattle.ab_key_text.specs.Spelling.{key_lines, keys_line}
 use Rattle.ab_key_text.proofs.CommandLemmas.{in_middle}
 use Rattle.ab_key_text.proofs.ReadLemmas.{commands_are_read, nodes_are_read}
 use Rattle.ab_key_text.proofs.RoundLemmas.{setting, from2, from3, from4, from5, from6, from7, inside, spelled_reads}
@@ -121,37 +123,37 @@ member_first false r first = record {
 }
 
 module _ {B : Type 0} (C : KeyLines × Lines → Result B NodeFault) (behind : (s : KeyLines) → IsFirst (λ ls. C (s, ls)) 8) where
-  first7 : (me : Party) (f c : ℕ) (p : Plan) (v : ServiceName) → IsFirst (λ ls. from7 me f c p v ls >>= C) 7
-  first7 me f c p v = first_as _ _ 7 (λ ls. assoc (line_at (spelled_in lms_line heights) 7 ls) (λ (x : Height × Lines). let r : Result (KeyLines × Lines) NodeFault = Ok (setting me f c p v x.0, x.1) in r) C)
-      (line_first (spelled_in lms_line heights) 7 (λ h ls. C (setting me f c p v h, ls)) (λ h. behind (setting me f c p v h)))
+  first7 : (w : Version) (me : Party) (f c : ℕ) (p : Plan) (v : ServiceName) → IsFirst (λ ls. from7 w me f c p v ls >>= C) 7
+  first7 w me f c p v = first_as _ _ 7 (λ ls. assoc (line_at (spelled_in lms_line (own_schemes w)) 7 ls) (λ (x : Scheme × Lines). let r : Result (KeyLines × Lines) NodeFault = Ok (setting me f c p v x.0, x.1) in r) C)
+      (line_first (spelled_in lms_line (own_schemes w)) 7 (λ h ls. C (setting me f c p v h, ls)) (λ h. behind (setting me f c p v h)))
 
-  first6 : (me : Party) (f c : ℕ) (p : Plan) → IsFirst (λ ls. from6 me f c p ls >>= C) 6
-  first6 me f c p = first_as _ _ 6 (λ ls. assoc (line_at (spelled_in service_line services) 6 ls) (λ (x : ServiceName × Lines). from7 me f c p x.0 x.1) C)
-      (line_first (spelled_in service_line services) 6 (λ v ls. from7 me f c p v ls >>= C) (λ v. first7 me f c p v))
+  first6 : (w : Version) (me : Party) (f c : ℕ) (p : Plan) → IsFirst (λ ls. from6 w me f c p ls >>= C) 6
+  first6 w me f c p = first_as _ _ 6 (λ ls. assoc (line_at (spelled_in service_line services) 6 ls) (λ (x : ServiceName × Lines). from7 w me f c p x.0 x.1) C)
+      (line_first (spelled_in service_line services) 6 (λ v ls. from7 w me f c p v ls >>= C) (λ v. first7 w me f c p v))
 
-  first5 : (me : Party) (f c : ℕ) → IsFirst (λ ls. from5 me f c ls >>= C) 5
-  first5 me f c = first_as _ _ 5 (λ ls. assoc (line_at (spelled_in plan_line plans) 5 ls) (λ (x : Plan × Lines). from6 me f c x.0 x.1) C)
-      (line_first (spelled_in plan_line plans) 5 (λ p ls. from6 me f c p ls >>= C) (λ p. first6 me f c p))
+  first5 : (w : Version) (me : Party) (f c : ℕ) → IsFirst (λ ls. from5 w me f c ls >>= C) 5
+  first5 w me f c = first_as _ _ 5 (λ ls. assoc (line_at (spelled_in plan_line plans) 5 ls) (λ (x : Plan × Lines). from6 w me f c x.0 x.1) C)
+      (line_first (spelled_in plan_line plans) 5 (λ p ls. from6 w me f c p ls >>= C) (λ p. first6 w me f c p))
 
-  first_inside : (me : Party) (f c : ℕ) → IsFirst (λ ls. inside me f c ls >>= C) 5
-  first_inside me f c = first_as _ _ 5 (λ ls. assoc (member f c me) (λ (x : Unit {0}). from5 me f c ls) C) (member_first (is_party f c me) (λ ls. from5 me f c ls >>= C) (first5 me f c))
+  first_inside : (w : Version) (me : Party) (f c : ℕ) → IsFirst (λ ls. inside w me f c ls >>= C) 5
+  first_inside w me f c = first_as _ _ 5 (λ ls. assoc (member f c me) (λ (x : Unit {0}). from5 w me f c ls) C) (member_first (is_party f c me) (λ ls. from5 w me f c ls >>= C) (first5 w me f c))
 
-  first4 : (me : Party) (f : ℕ) → IsFirst (λ ls. from4 me f ls >>= C) 4
-  first4 me f = first_as _ _ 4 (λ ls. assoc (line_at (number_in (codes "clients ") 1 16) 4 ls) (λ (x : ℕ × Lines). inside me f x.0 x.1) C)
-      (line_first (number_in (codes "clients ") 1 16) 4 (λ c ls. inside me f c ls >>= C) (λ c. first_inside me f c))
+  first4 : (w : Version) (me : Party) (f : ℕ) → IsFirst (λ ls. from4 w me f ls >>= C) 4
+  first4 w me f = first_as _ _ 4 (λ ls. assoc (line_at (number_in (codes "clients ") 1 16) 4 ls) (λ (x : ℕ × Lines). inside w me f x.0 x.1) C)
+      (line_first (number_in (codes "clients ") 1 16) 4 (λ c ls. inside w me f c ls >>= C) (λ c. first_inside w me f c))
 
-  first3 : (me : Party) → IsFirst (λ ls. from3 me ls >>= C) 3
-  first3 me = first_as _ _ 3 (λ ls. assoc (line_at (number_in (codes "f ") 1 2) 3 ls) (λ (x : ℕ × Lines). from4 me x.0 x.1) C)
-      (line_first (number_in (codes "f ") 1 2) 3 (λ f ls. from4 me f ls >>= C) (λ f. first4 me f))
+  first3 : (w : Version) (me : Party) → IsFirst (λ ls. from3 w me ls >>= C) 3
+  first3 w me = first_as _ _ 3 (λ ls. assoc (line_at (number_in (codes "f ") 1 2) 3 ls) (λ (x : ℕ × Lines). from4 w me x.0 x.1) C)
+      (line_first (number_in (codes "f ") 1 2) 3 (λ f ls. from4 w me f ls >>= C) (λ f. first4 w me f))
 
-  first2 : IsFirst (λ ls. from2 ls >>= C) 2
-  first2 = first_as _ _ 2 (λ ls. assoc (line_at (λ l. option_and_then party_in (stripped (codes "party ") l)) 2 ls) (λ (x : Party × Lines). from3 x.0 x.1) C)
-      (line_first (λ l. option_and_then party_in (stripped (codes "party ") l)) 2 (λ me ls. from3 me ls >>= C) (λ me. first3 me))
+  first2 : (w : Version) → IsFirst (λ ls. from2 w ls >>= C) 2
+  first2 w = first_as _ _ 2 (λ ls. assoc (line_at (λ l. option_and_then party_in (stripped (codes "party ") l)) 2 ls) (λ (x : Party × Lines). from3 w x.0 x.1) C)
+      (line_first (λ l. option_and_then party_in (stripped (codes "party ") l)) 2 (λ me ls. from3 w me ls >>= C) (λ me. first3 w me))
 
   setting_first : IsFirst (λ ls. setting_at ls >>= C) 1
   unfolding setting_at
-  setting_first = first_as _ _ 1 (λ ls. assoc (line_at (form_in (codes "keys 1")) 1 ls) (λ (x : Unit {0} × Lines). from2 x.1) C)
-      (line_first (form_in (codes "keys 1")) 1 (λ u ls. from2 ls >>= C) (λ u. first2))
+  setting_first = first_as _ _ 1 (λ ls. assoc (line_at (spelled_in keys_line versions) 1 ls) (λ (x : Version × Lines). from2 x.0 x.1) C)
+      (line_first (spelled_in keys_line versions) 1 (λ w ls. from2 w ls >>= C) (λ w. first2 w))
 
 -- whatever was read before a line with this number, what is read from it on
 abbrev Behind : {A B : Type 0} → (Read A → Result B NodeFault) → Type 0
@@ -173,15 +175,15 @@ peers_first K behind (p ∷ ps) done n =
     (line_first (key_in (codes "in ") p 32) (n + 1) (λ from ls. peers_at ps (rest to from) (n + 2) ls >>= K)
     (λ from. first_at _ (n + 2) (n + 1 + 1) (omega arith) (peers_first K behind ps (rest to from) (n + 2))))))
 
-publics_first : {B : Type 0} (K : Read Lines → Result B NodeFault) → Behind K → (ps : List Party) (done : Lines) (n : ℕ) → IsFirst (λ ls. publics_at ps done n ls >>= K) n
-publics_first K behind [] done n = behind done n
-publics_first K behind (p ∷ ps) done n =
-    first_as _ _ n (λ ls. assoc (line_at (key_in (codes "public ") p 56) n ls) (λ (y : List ℕ × Lines). publics_at ps (done ++ y.0 ∷ []) (n + 1) y.1) K)
-    (line_first (key_in (codes "public ") p 56) n (λ key ls. publics_at ps (done ++ key ∷ []) (n + 1) ls >>= K) (λ key. publics_first K behind ps (done ++ key ∷ []) (n + 1)))
+publics_first : {B : Type 0} (long : ℕ) (K : Read Lines → Result B NodeFault) → Behind K → (ps : List Party) (done : Lines) (n : ℕ) → IsFirst (λ ls. publics_at long ps done n ls >>= K) n
+publics_first long K behind [] done n = behind done n
+publics_first long K behind (p ∷ ps) done n =
+    first_as _ _ n (λ ls. assoc (line_at (key_in (codes "public ") p long) n ls) (λ (y : List ℕ × Lines). publics_at long ps (done ++ y.0 ∷ []) (n + 1) y.1) K)
+    (line_first (key_in (codes "public ") p long) n (λ key ls. publics_at long ps (done ++ key ∷ []) (n + 1) ls >>= K) (λ key. publics_first long K behind ps (done ++ key ∷ []) (n + 1)))
 
 module _ {B : Type 0} (K : Read PartyKeys → Result B NodeFault) (behind : Behind K) where
   abbrev with_publics : KeyLines → Option Secret → Read (List Peer) → Result (Read PartyKeys) NodeFault
-  with_publics s secret b = publics_at (replicas s.f) [] b.next b.rest >>= λ (c : Read Lines). Ok (record { value = put_together s secret b.value c.value; next = c.next; rest = c.rest })
+  with_publics s secret b = publics_at (public_length s.lms) (replicas s.f) [] b.next b.rest >>= λ (c : Read Lines). Ok (record { value = put_together s secret b.value c.value; next = c.next; rest = c.rest })
 
   abbrev with_peers : KeyLines → Read (Option Secret) → Result (Read PartyKeys) NodeFault
   with_peers s a = peers_at (peers_in s.f s.clients s.me) [] a.next a.rest >>= λ (b : Read (List Peer)). with_publics s a.value b
@@ -191,8 +193,8 @@ module _ {B : Type 0} (K : Read PartyKeys → Result B NodeFault) (behind : Behi
   after_first s =
       first_as _ _ 8 (λ ls. assoc (secret_at s.me ls) (with_peers s) K)
       (secret_first (λ a. with_peers s a >>= K) (λ secret n. first_as _ _ n (λ ls. assoc (peers_at (peers_in s.f s.clients s.me) [] n ls) (with_publics s secret) K)
-      (peers_first (λ b. with_publics s secret b >>= K) (λ peers e. first_as _ _ e (λ ls. assoc (publics_at (replicas s.f) [] e ls) (λ (c : Read Lines). let r : Result (Read PartyKeys) NodeFault = Ok (record { value = put_together s secret peers c.value; next = c.next; rest = c.rest }) in r) K)
-      (publics_first (λ c. K (record { value = put_together s secret peers c.value; next = c.next; rest = c.rest })) (λ publics i. behind (put_together s secret peers publics) i) (replicas s.f) [] e))
+      (peers_first (λ b. with_publics s secret b >>= K) (λ peers e. first_as _ _ e (λ ls. assoc (publics_at (public_length s.lms) (replicas s.f) [] e ls) (λ (c : Read Lines). let r : Result (Read PartyKeys) NodeFault = Ok (record { value = put_together s secret peers c.value; next = c.next; rest = c.rest }) in r) K)
+      (publics_first (public_length s.lms) (λ c. K (record { value = put_together s secret peers c.value; next = c.next; rest = c.rest })) (λ publics i. behind (put_together s secret peers publics) i) (replicas s.f) [] e))
       (peers_in s.f s.clients s.me) [] n)) s.me)
 
   keys_first : IsFirst (λ ls. keys_at ls >>= K) 1

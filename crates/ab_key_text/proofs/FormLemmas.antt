@@ -11,9 +11,13 @@ use Rattle.ab_num.specs.declared.party.Party.TheVariants.{Replica, Client}
 use Rattle.ab_num.specs.declared.plan.Plan.{Plan}
 use Rattle.ab_num.specs.declared.plan.ServiceName.{ServiceName}
 use Rattle.ab_num.specs.declared.plan.Height.{Height}
+use Rattle.ab_num.specs.declared.plan.Height.TheVariants.{Ten}
+use Rattle.ab_num.specs.declared.plan.Scheme.{Scheme}
+use Rattle.ab_num.specs.declared.plan.Scheme.TheVariants.{Lms, Hss}
 use Rattle.ab_mac.proofs.Sha256Lemmas.{IsBytes as AreBytes, IsBytes-append, IsBytes-four, IsBytes-sha256, length-sha256}
 use Rattle.ab_lms.specs.Nodes.{inner_node, leaf_node, levels, node, root, type_of}
-use Rattle.ab_lms.specs.Signatures.{u32_bytes}
+use Rattle.ab_lms.specs.Signatures.{public_key, u32_bytes}
+use Rattle.ab_scheme.specs.Schemes.{public_length}
 use Rattle.ab_keys.specs.Keys.{exchanges, is_party, key_of}
 use Rattle.ab_keys.specs.Rings.{parties, peer_of, peers_of}
 use Rattle.ab_keys.specs.Secrets.{tree_name, tree_seed}
@@ -63,19 +67,38 @@ unfolding node leaf_node inner_node
 node_long id seed h zero r = length-sha256 _
 node_long id seed h (suc k) r = length-sha256 _
 
-public_form : (lms : Height) (seed : List ℕ) (r : ℕ) → IsBytes 56 (public_of lms seed r)
-unfolding public_of u32_bytes
-public_form lms seed r =
+-- an LMS key of a replica
+record IsKey (xs : List ℕ) : Type 0 where
+  long : length xs ≡ 56
+  are : AreBytes xs
+
+key_of_tree : (lms : Height) (seed : List ℕ) (r : ℕ) → IsKey (public_key lms (tree_name seed r) (tree_seed seed r))
+unfolding u32_bytes
+key_of_tree lms seed r =
     let id = tree_name seed r in
     let top = root id (tree_seed seed r) (levels lms) in
     let first = to_be_bytes w32 (type_of lms) in
     let second = to_be_bytes w32 3 in
     let name = name_long seed r in
     let node = node_long id (tree_seed seed r) (levels lms) (levels lms) 1 in
-    in_form 56 (first ++ second ++ id ++ top) (omega (arith, length-append first (second ++ id ++ top), length-append second (id ++ top), length-append id top, name, node))
-    (IsBytes-append first (second ++ id ++ top) (IsBytes-four (type_of lms))
-    (IsBytes-append second (id ++ top) (IsBytes-four 3)
-    (IsBytes-append id top (name_bytes seed r) (node_bytes id (tree_seed seed r) (levels lms) (levels lms) 1))))
+    record {
+      long = omega (arith, length-append first (second ++ id ++ top), length-append second (id ++ top), length-append id top, name, node);
+      are = IsBytes-append first (second ++ id ++ top) (IsBytes-four (type_of lms))
+          (IsBytes-append second (id ++ top) (IsBytes-four 3)
+          (IsBytes-append id top (name_bytes seed r) (node_bytes id (tree_seed seed r) (levels lms) (levels lms) 1)));
+    }
+
+public_form : (lms : Scheme) (seed : List ℕ) (r : ℕ) → IsBytes (public_length lms) (public_of lms seed r)
+unfolding public_of u32_bytes
+public_form (Lms height) seed r =
+    let key = key_of_tree height seed r in
+    in_form 56 (public_key height (tree_name seed r) (tree_seed seed r)) key.long key.are
+public_form Hss seed r =
+    let top = public_key Ten (tree_name seed r) (tree_seed seed r) in
+    let key = key_of_tree Ten seed r in
+    let long = key.long in
+    let two = to_be_bytes w32 2 in
+    in_form 60 (two ++ top) (omega (arith, length-append two top, long)) (IsBytes-append two top (IsBytes-four 2) key.are)
 
 -- ---- lists of them
 
@@ -91,11 +114,11 @@ keys_form : (seed : List ℕ) (me : Party) (ps : List Party) → AllByRecursion 
 keys_form seed me [] = tt
 keys_form seed me (p ∷ ps) = ((key_form seed me p, key_form seed p me), keys_form seed me ps)
 
-publics_form : (lms : Height) (seed : List ℕ) (rs : List ℕ) → AllByRecursion (IsBytes 56) (map (public_of lms seed) rs)
+publics_form : (lms : Scheme) (seed : List ℕ) (rs : List ℕ) → AllByRecursion (IsBytes (public_length lms)) (map (public_of lms seed) rs)
 publics_form lms seed [] = tt
 publics_form lms seed (r ∷ rs) = (public_form lms seed r, publics_form lms seed rs)
 
-pub derived_form : (f clients : ℕ) (plan : Plan) (service : ServiceName) (lms : Height) (seed : List ℕ) (me : Party) → IsInBounds f clients → IsTrue (is_party f clients me) → IsPartyKeys (keys_of f clients plan service lms seed me)
+pub derived_form : (f clients : ℕ) (plan : Plan) (service : ServiceName) (lms : Scheme) (seed : List ℕ) (me : Party) → IsInBounds f clients → IsTrue (is_party f clients me) → IsPartyKeys (keys_of f clients plan service lms seed me)
 unfolding peers_of
 derived_form f clients plan service lms seed me bounds party = record {
   bounds = bounds;

@@ -17,24 +17,27 @@ use Rattle.ab_num.specs.declared.party.Party.{Party}
 use Rattle.ab_num.specs.declared.party.Party.TheVariants.{Replica, Client}
 use Rattle.ab_num.specs.declared.plan.Plan.{Plan}
 use Rattle.ab_num.specs.declared.plan.ServiceName.{ServiceName}
-use Rattle.ab_num.specs.declared.plan.Height.{Height}
+use Rattle.ab_num.specs.declared.plan.Scheme.{Scheme}
 use Rattle.ab_num.specs.Bounds.{IsInBounds}
 use Rattle.ab_keys.specs.Keys.{is_party}
 use Rattle.ab_keys.specs.Rings.{Peer}
+use Rattle.ab_scheme.specs.Schemes.{public_length}
 use Rattle.ab_text.specs.declared.fault.TextFault.{TextFault}
 use Rattle.ab_text.specs.declared.fault.TextFault.TheVariants.{BadLine as BadText}
+use Rattle.ab_text.specs.declared.version.Version.{Version}
+use Rattle.ab_text.specs.declared.version.Version.TheVariants.{One, Two}
 use Rattle.ab_text.specs.Cores.{party_text}
-use Rattle.ab_text.specs.Heads.{number_after, spelled_in, stripped, taken, within, plan_line, plans, service_line, services, lms_line, heights}
-use Rattle.ab_text.proofs.HeadLemmas.{name_is, number_is}
+use Rattle.ab_text.specs.Heads.{number_after, spelled_in, stripped, taken, within, plan_line, plans, service_line, services, lms_line, versions, version_of}
+use Rattle.ab_text.proofs.HeadLemmas.{name_is, number_is, spelled_has}
 use Rattle.ab_text.proofs.WordLemmas.{stripped-is}
 use Rattle.ab_key_text.specs.declared.fault.NodeFault.{NodeFault}
 use Rattle.ab_key_text.specs.declared.fault.NodeFault.TheVariants.{BadLine}
 use Rattle.ab_key_text.specs.Hex.{bytes_in, in_lower_case}
 use Rattle.ab_key_text.specs.Keys.{Secret, PartyKeys, IsBytes, IsSecretOf, IsPartyKeys, peers_in, replicas}
-use Rattle.ab_key_text.specs.Lines.{◌>>=◌, found_at, line_at, form_in, bounded, number_in, numbered, or_else, party_in, bytes_after, key_in}
+use Rattle.ab_key_text.specs.Lines.{◌>>=◌, found_at, line_at, own_schemes, bounded, number_in, numbered, or_else, party_in, bytes_after, key_in}
 use Rattle.ab_key_text.specs.Nodes.{NodeText, AreCommandsOf, IsNodeText, command_in, command_line, command_lines, commands_at, commands_in, checked_command, is_command, node_in, node_lines, node_of}
 use Rattle.ab_key_text.specs.Reading.{Read, KeyLines, member, ended, keys_after, keys_at, keys_in, peers_at, publics_at, put_together, secret_at, secret_in, secret_of_parts, secret_text_in, setting_at}
-use Rattle.ab_key_text.specs.Spelling.{cluster_lines, key_line, key_lines, name_lines, peer_lines, public_lines, secret_line, secret_lines}
+use Rattle.ab_key_text.specs.Spelling.{cluster_lines, key_line, keys_line, key_lines, name_lines, peer_lines, public_lines, secret_line, secret_lines}
 use Rattle.ab_key_text.proofs.CommandLemmas.{in_middle}
 use Rattle.ab_key_text.proofs.RoundLemmas.{setting, from2, from3, from4, from5, from6, from7, inside, whole_read}
 use Rattle.ab_key_text.proofs.SpelledLemmas.{after_secret}
@@ -152,15 +155,22 @@ line_said read said says n ls rest a h = let line = line_was read n ls rest a h 
 
 -- ---- the head
 
-pub form_was : (form l : List ℕ) (u : Unit {0}) → form_in form l ≡ Some u → l ≡ form
-form_was form l u h = (bytes_eq-Decides l form).0 (cond_some (bytes_eq l form) tt u h).0
+own_versions : (w : Version) → AllByRecursion (λ h. version_of h ≡ w) (own_schemes w)
+own_versions One = (refl, (refl, tt))
+own_versions Two = (refl, tt)
+
+-- the scheme was read where this is its least version
+version_was : (w : Version) (n : ℕ) (ls rest : Lines) (h : Scheme) → line_at (spelled_in lms_line (own_schemes w)) n ls ≡ Ok (h, rest) → version_of h ≡ w
+version_was w n ls rest h is =
+    let line = line_was (spelled_in lms_line (own_schemes w)) n ls rest h is in
+    spelled_has (λ x. version_of x ≡ w) lms_line (own_schemes w) line.0 h (own_versions w) line.2
 
 member_was : (b : Bool) (u : Unit {0}) → (let r : Result (Unit {0}) NodeFault = if b then Ok tt else Err (BadLine 2) in r) ≡ Ok u → b ≡ true
 member_was true u h = refl
 member_was false u h = absurd (cc)
 
 record IsFront (s : KeyLines) (ls rest : Lines) : Type 0 where
-  lines : ls ≡ codes "keys 1" ∷ (codes "party " ++ party_text s.me) ∷ (codes "f " ++ decimal s.f) ∷ (codes "clients " ++ decimal s.clients)
+  lines : ls ≡ keys_line (version_of s.lms) ∷ (codes "party " ++ party_text s.me) ∷ (codes "f " ++ decimal s.f) ∷ (codes "clients " ++ decimal s.clients)
       ∷ plan_line s.plan ∷ service_line s.service ∷ lms_line s.lms ∷ rest
   bounds : IsInBounds s.f s.clients
   party : is_party s.f s.clients s.me ≡ true
@@ -170,20 +180,22 @@ unfolding setting_at
 setting_was ls rest s e =
     let out : KeyLines × Lines = (s, rest) in
     let read_party : List ℕ → Option Party = λ l. option_and_then party_in (stripped (codes "party ") l) in
-    let a = bound (line_at (form_in (codes "keys 1")) 1 ls) (λ (x : Unit {0} × Lines). from2 x.1) out e in
-    let b = bound (line_at read_party 2 a.0.1) (λ (x : Party × Lines). from3 x.0 x.1) out a.2 in
+    let a = bound (line_at (spelled_in keys_line versions) 1 ls) (λ (x : Version × Lines). from2 x.0 x.1) out e in
+    let w = a.0.0 in
+    let b = bound (line_at read_party 2 a.0.1) (λ (x : Party × Lines). from3 w x.0 x.1) out a.2 in
     let me = b.0.0 in
-    let c = bound (line_at (number_in (codes "f ") 1 2) 3 b.0.1) (λ (x : ℕ × Lines). from4 me x.0 x.1) out b.2 in
+    let c = bound (line_at (number_in (codes "f ") 1 2) 3 b.0.1) (λ (x : ℕ × Lines). from4 w me x.0 x.1) out b.2 in
     let f = c.0.0 in
-    let d = bound (line_at (number_in (codes "clients ") 1 16) 4 c.0.1) (λ (x : ℕ × Lines). inside me f x.0 x.1) out c.2 in
+    let d = bound (line_at (number_in (codes "clients ") 1 16) 4 c.0.1) (λ (x : ℕ × Lines). inside w me f x.0 x.1) out c.2 in
     let n = d.0.0 in
-    let m = bound (member f n me) (λ (x : Unit {0}). from5 me f n d.0.1) out d.2 in
-    let p = bound (line_at (spelled_in plan_line plans) 5 d.0.1) (λ (x : Plan × Lines). from6 me f n x.0 x.1) out m.2 in
-    let v = bound (line_at (spelled_in service_line services) 6 p.0.1) (λ (x : ServiceName × Lines). from7 me f n p.0.0 x.0 x.1) out p.2 in
-    let h = bound (line_at (spelled_in lms_line heights) 7 v.0.1) (λ (x : Height × Lines). let r : Result (KeyLines × Lines) NodeFault = Ok (setting me f n p.0.0 v.0.0 x.0, x.1) in r) out v.2 in
+    let m = bound (member f n me) (λ (x : Unit {0}). from5 w me f n d.0.1) out d.2 in
+    let p = bound (line_at (spelled_in plan_line plans) 5 d.0.1) (λ (x : Plan × Lines). from6 w me f n x.0 x.1) out m.2 in
+    let v = bound (line_at (spelled_in service_line services) 6 p.0.1) (λ (x : ServiceName × Lines). from7 w me f n p.0.0 x.0 x.1) out p.2 in
+    let h = bound (line_at (spelled_in lms_line (own_schemes w)) 7 v.0.1) (λ (x : Scheme × Lines). let r : Result (KeyLines × Lines) NodeFault = Ok (setting me f n p.0.0 v.0.0 x.0, x.1) in r) out v.2 in
     let made : KeyLines × Lines = (setting me f n p.0.0 v.0.0 h.0.0, h.0.1) in
     let same : made ≡ out = same_ok made out h.2 in
-    let one = line_said (form_in (codes "keys 1")) (λ u. codes "keys 1") (form_was (codes "keys 1")) 1 ls a.0.1 a.0.0 a.1 in
+    let one = line_said (spelled_in keys_line versions) keys_line (name_was keys_line versions) 1 ls a.0.1 w a.1 in
+    let least : version_of h.0.0 ≡ w = version_was w 7 v.0.1 h.0.1 h.0.0 h.1 in
     let two = line_said read_party (λ q. codes "party " ++ party_text q)
     (λ l q is_read. let behind = then_was party_in (stripped (codes "party ") l) q is_read in word_was (codes "party ") l behind.0 behind.1 ∙ ap (λ t. codes "party " ++ t) (party_was behind.0 q behind.2)) 2 a.0.1 b.0.1 me b.1 in
     let three = line_was (number_in (codes "f ") 1 2) 3 b.0.1 c.0.1 f c.1 in
@@ -192,9 +204,9 @@ setting_was ls rest s e =
     let n_is = number_was (codes "clients ") 1 16 four.0 n four.2 in
     let five = line_said (spelled_in plan_line plans) plan_line (name_was plan_line plans) 5 d.0.1 p.0.1 p.0.0 p.1 in
     let six = line_said (spelled_in service_line services) service_line (name_was service_line services) 6 p.0.1 v.0.1 v.0.0 v.1 in
-    let seven = line_said (spelled_in lms_line heights) lms_line (name_was lms_line heights) 7 v.0.1 h.0.1 h.0.0 h.1 in
+    let seven = line_said (spelled_in lms_line (own_schemes w)) lms_line (name_was lms_line (own_schemes w)) 7 v.0.1 h.0.1 h.0.0 h.1 in
     subst (λ (x : KeyLines × Lines). IsFront x.0 ls x.1) same (record {
-      lines = one ∙ ap (λ t. codes "keys 1" ∷ t) (two ∙ ap (λ t. (codes "party " ++ party_text me) ∷ t) ((three.1 ∙ (λ j. f_is.0 j ∷ c.0.1)) ∙ ap (λ t. (codes "f " ++ decimal f) ∷ t) ((four.1 ∙ (λ j. n_is.0 j ∷ d.0.1))
+      lines = one ∙ ap (λ x. keys_line x ∷ a.0.1) (sym least) ∙ ap (λ t. keys_line (version_of h.0.0) ∷ t) (two ∙ ap (λ t. (codes "party " ++ party_text me) ∷ t) ((three.1 ∙ (λ j. f_is.0 j ∷ c.0.1)) ∙ ap (λ t. (codes "f " ++ decimal f) ∷ t) ((four.1 ∙ (λ j. n_is.0 j ∷ d.0.1))
           ∙ ap (λ t. (codes "clients " ++ decimal n) ∷ t) (five ∙ ap (λ t. plan_line p.0.0 ∷ t) (six ∙ ap (λ t. service_line v.0.0 ∷ t) seven)))));
       bounds = record { some_faulty = f_is.1; few_faulty = f_is.2; some_client = n_is.1; few_clients = n_is.2 };
       party = member_was (is_party f n me) m.0 m.1;
@@ -248,22 +260,22 @@ peers_were (p ∷ ps) done n ls x e =
       },
     )
 
-pub record ArePublicsRead (r m : ℕ) (done : Lines) (ls : Lines) (x : Read Lines) (keys : Lines) : Type 0 where
+pub record ArePublicsRead (long r m : ℕ) (done : Lines) (ls : Lines) (x : Read Lines) (keys : Lines) : Type 0 where
   pub value : x.value ≡ done ++ keys
   pub many : length keys ≡ m
-  pub each : AllByRecursion (IsBytes 56) keys
+  pub each : AllByRecursion (IsBytes long) keys
   pub lines : ls ≡ public_lines r keys ++ x.rest
 
-pub publics_were : (m r : ℕ) (done : Lines) (n : ℕ) (ls : Lines) (x : Read Lines) → publics_at (map Replica (range_with_len r m)) done n ls ≡ Ok x → (keys : Lines) × ArePublicsRead r m done ls x keys
-publics_were zero r done n ls x e =
+pub publics_were : (long m r : ℕ) (done : Lines) (n : ℕ) (ls : Lines) (x : Read Lines) → publics_at long (map Replica (range_with_len r m)) done n ls ≡ Ok x → (keys : Lines) × ArePublicsRead long r m done ls x keys
+publics_were long zero r done n ls x e =
     let made : Read Lines = record { value = done; next = n; rest = ls } in
     let same : made ≡ x = same_ok made x e in
-    ([], subst (λ y. ArePublicsRead r 0 done ls y []) same (record { value = sym (append-nil done); many = refl; each = tt; lines = refl }))
-publics_were (suc m) r done n ls x e =
-    let a = bound (line_at (key_in (codes "public ") (Replica r) 56) n ls) (λ (y : List ℕ × Lines). publics_at (map Replica (range_with_len (r + 1) m)) (done ++ y.0 ∷ []) (n + 1) y.1) x e in
-    let rest = publics_were m (r + 1) (done ++ a.0.0 ∷ []) (n + 1) a.0.1 x a.2 in
-    let one = line_was (key_in (codes "public ") (Replica r) 56) n ls a.0.1 a.0.0 a.1 in
-    let said = key_was (codes "public ") (Replica r) 56 one.0 a.0.0 one.2 in (
+    ([], subst (λ y. ArePublicsRead long r 0 done ls y []) same (record { value = sym (append-nil done); many = refl; each = tt; lines = refl }))
+publics_were long (suc m) r done n ls x e =
+    let a = bound (line_at (key_in (codes "public ") (Replica r) long) n ls) (λ (y : List ℕ × Lines). publics_at long (map Replica (range_with_len (r + 1) m)) (done ++ y.0 ∷ []) (n + 1) y.1) x e in
+    let rest = publics_were long m (r + 1) (done ++ a.0.0 ∷ []) (n + 1) a.0.1 x a.2 in
+    let one = line_was (key_in (codes "public ") (Replica r) long) n ls a.0.1 a.0.0 a.1 in
+    let said = key_was (codes "public ") (Replica r) long one.0 a.0.0 one.2 in (
       a.0.0 ∷ rest.0,
       record {
         value = rest.1.value ∙ append_assoc done (a.0.0 ∷ []) rest.0;
@@ -289,14 +301,14 @@ behind_were : (s : KeyLines) (all ls : Lines) (x : Read PartyKeys) → IsFront s
 unfolding keys_after
 behind_were s all ls x front_is e =
     let T : Type 0 = Result (Read PartyKeys) NodeFault in
-    let secret = bound (secret_at s.me ls) (λ (a : Read (Option Secret)). peers_at (peers_in s.f s.clients s.me) [] a.next a.rest >>= λ (b : Read (List Peer)). publics_at (replicas s.f) [] b.next b.rest >>= λ (c : Read Lines). let r : T = Ok (record { value = put_together s a.value b.value c.value; next = c.next; rest = c.rest }) in r) x e in
-    let peers = bound (peers_at (peers_in s.f s.clients s.me) [] secret.0.next secret.0.rest) (λ (b : Read (List Peer)). publics_at (replicas s.f) [] b.next b.rest >>= λ (c : Read Lines). let r : T = Ok (record { value = put_together s secret.0.value b.value c.value; next = c.next; rest = c.rest }) in r) x secret.2 in
-    let publics = bound (publics_at (replicas s.f) [] peers.0.next peers.0.rest) (λ (c : Read Lines). let r : T = Ok (record { value = put_together s secret.0.value peers.0.value c.value; next = c.next; rest = c.rest }) in r) x peers.2 in
+    let secret = bound (secret_at s.me ls) (λ (a : Read (Option Secret)). peers_at (peers_in s.f s.clients s.me) [] a.next a.rest >>= λ (b : Read (List Peer)). publics_at (public_length s.lms) (replicas s.f) [] b.next b.rest >>= λ (c : Read Lines). let r : T = Ok (record { value = put_together s a.value b.value c.value; next = c.next; rest = c.rest }) in r) x e in
+    let peers = bound (peers_at (peers_in s.f s.clients s.me) [] secret.0.next secret.0.rest) (λ (b : Read (List Peer)). publics_at (public_length s.lms) (replicas s.f) [] b.next b.rest >>= λ (c : Read Lines). let r : T = Ok (record { value = put_together s secret.0.value b.value c.value; next = c.next; rest = c.rest }) in r) x secret.2 in
+    let publics = bound (publics_at (public_length s.lms) (replicas s.f) [] peers.0.next peers.0.rest) (λ (c : Read Lines). let r : T = Ok (record { value = put_together s secret.0.value peers.0.value c.value; next = c.next; rest = c.rest }) in r) x peers.2 in
     let made : Read PartyKeys = record { value = put_together s secret.0.value peers.0.value publics.0.value; next = publics.0.next; rest = publics.0.rest } in
     let same : made ≡ x = same_ok made x publics.2 in
     let own = secret_read_was s.me ls secret.0 secret.1 in
     let others = peers_were (peers_in s.f s.clients s.me) [] secret.0.next secret.0.rest peers.0 peers.1 in
-    let each = publics_were (3 * s.f + 1) 0 [] peers.0.next peers.0.rest publics.0 publics.1 in
+    let each = publics_were (public_length s.lms) (3 * s.f + 1) 0 [] peers.0.next peers.0.rest publics.0 publics.1 in
     let peers_are : others.0 ≡ peers.0.value = sym others.1.value in
     let publics_are : each.0 ≡ publics.0.value = sym each.1.value in
     subst (AreAtFront all) same (record {
@@ -307,7 +319,7 @@ behind_were s all ls x front_is e =
         peers = subst (λ xs. map (λ y. y.party) xs ≡ peers_in s.f s.clients s.me) peers_are others.1.parties;
         keys = subst (λ xs. AllByRecursion (λ y. IsBytes 32 y.to × IsBytes 32 y.from) xs) peers_are others.1.keys;
         public_of_each = subst (λ (keys : Lines). length keys ≡ 3 * s.f + 1) publics_are each.1.many;
-        publics = subst (λ (keys : Lines). AllByRecursion (IsBytes 56) keys) publics_are each.1.each;
+        publics = subst (λ (keys : Lines). AllByRecursion (IsBytes (public_length s.lms)) keys) publics_are each.1.each;
       };
       lines = front_is.lines
           ∙ ap (λ t. cluster_lines made.value ++ (name_lines made.value ++ t)) (own.lines

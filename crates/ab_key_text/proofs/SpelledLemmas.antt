@@ -70,19 +70,19 @@ peers_read (x ∷ xs) done n rest good =
     ∙ peers_read xs (done ++ x ∷ []) (n + 2) rest good.1
     ∙ (λ j. Ok (record { value = a j; next = b j; rest = rest }))
 
-pub publics_read : (keys : List (List ℕ)) (done : List (List ℕ)) (r n : ℕ) (rest : Rest) → AllByRecursion (IsBytes 56) keys
-    → publics_at (map Replica (range_with_len r (length keys))) done n (public_lines r keys ++ rest) ≡ Ok (record { value = done ++ keys; next = n + length keys; rest = rest })
-publics_read [] done r n rest good =
+pub publics_read : (long : ℕ) (keys : List (List ℕ)) (done : List (List ℕ)) (r n : ℕ) (rest : Rest) → AllByRecursion (IsBytes long) keys
+    → publics_at long (map Replica (range_with_len r (length keys))) done n (public_lines r keys ++ rest) ≡ Ok (record { value = done ++ keys; next = n + length keys; rest = rest })
+publics_read long [] done r n rest good =
     let a : done ≡ done ++ [] = sym (append-nil done) in
     let b : n ≡ n + zero = omega arith in
     λ j. Ok (record { value = a j; next = b j; rest = rest })
-publics_read (k ∷ keys) done r n rest good =
+publics_read long (k ∷ keys) done r n rest good =
     let tail : Rest = public_lines (r + 1) keys ++ rest in
-    let first = line_read (key_in (codes "public ") (Replica r) 56) n (key_line (codes "public ") (Replica r) k) tail k (key_read (codes "public ") (Replica r) 56 k good.0) in
+    let first = line_read (key_in (codes "public ") (Replica r) long) n (key_line (codes "public ") (Replica r) k) tail k (key_read (codes "public ") (Replica r) long k good.0) in
     let a : (done ++ k ∷ []) ++ keys ≡ done ++ k ∷ keys = append_assoc done (k ∷ []) keys in
     let b : n + 1 + length keys ≡ n + length (k ∷ keys) = omega arith in
-    ap (λ (x : Result (List ℕ × Rest) NodeFault). x >>= λ key. publics_at (map Replica (range_with_len (r + 1) (length keys))) (done ++ key.0 ∷ []) (n + 1) key.1) first
-    ∙ publics_read keys (done ++ k ∷ []) (r + 1) (n + 1) rest good.1
+    ap (λ (x : Result (List ℕ × Rest) NodeFault). x >>= λ key. publics_at long (map Replica (range_with_len (r + 1) (length keys))) (done ++ key.0 ∷ []) (n + 1) key.1) first
+    ∙ publics_read long keys (done ++ k ∷ []) (r + 1) (n + 1) rest good.1
     ∙ (λ j. Ok (record { value = a j; next = b j; rest = rest }))
 
 -- ---- the secret

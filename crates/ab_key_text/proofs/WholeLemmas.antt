@@ -6,10 +6,11 @@ use Rattle.std.proofs.lemmas.List.FromFn.{length-map-range_with_len}
 use Rattle.ab_num.specs.declared.party.Party.{Party}
 use Rattle.ab_num.specs.declared.party.Party.TheVariants.{Replica}
 use Rattle.ab_keys.specs.Rings.{Peer}
+use Rattle.ab_scheme.specs.Schemes.{public_length}
 use Rattle.ab_key_text.specs.declared.fault.NodeFault.{NodeFault}
 use Rattle.ab_num.specs.declared.plan.Plan.{Plan}
 use Rattle.ab_num.specs.declared.plan.ServiceName.{ServiceName}
-use Rattle.ab_num.specs.declared.plan.Height.{Height}
+use Rattle.ab_num.specs.declared.plan.Scheme.{Scheme}
 use Rattle.ab_key_text.specs.Derived.{keys_of, own_secret, public_of, secret_of}
 use Rattle.ab_key_text.specs.Keys.{Secret, PartyKeys, IsWhole, peers_in, replicas}
 use Rattle.ab_key_text.specs.Lines.{◌>>=◌, found_at, line_at, key_in}
@@ -32,13 +33,13 @@ secret_there r ls x e =
           let same : x ≡ record { value = Some secret.0.0; next = 9; rest = secret.0.1 } = cc in ap (λ (y : Read (Option Secret)). y.value) same,
     )
 
-publics_many : (ps : List Party) (done : Lines) (n : ℕ) (ls : Lines) (x : Read Lines) → publics_at ps done n ls ≡ Ok x → length x.value ≡ length done + length ps
-publics_many [] done n ls x e =
+publics_many : (long : ℕ) (ps : List Party) (done : Lines) (n : ℕ) (ls : Lines) (x : Read Lines) → publics_at long ps done n ls ≡ Ok x → length x.value ≡ length done + length ps
+publics_many long [] done n ls x e =
     let same : x ≡ record { value = done; next = n; rest = ls } = cc in
     ap (λ (y : Read Lines). length y.value) same ∙ omega arith
-publics_many (p ∷ ps) done n ls x e =
-    let key = bound (line_at (key_in (codes "public ") p 56) n ls) (λ (y : List ℕ × Lines). publics_at ps (done ++ y.0 ∷ []) (n + 1) y.1) x e in
-    let rest = publics_many ps (done ++ key.0.0 ∷ []) (n + 1) key.0.1 x key.2 in
+publics_many long (p ∷ ps) done n ls x e =
+    let key = bound (line_at (key_in (codes "public ") p long) n ls) (λ (y : List ℕ × Lines). publics_at long ps (done ++ y.0 ∷ []) (n + 1) y.1) x e in
+    let rest = publics_many long ps (done ++ key.0.0 ∷ []) (n + 1) key.0.1 x key.2 in
     omega (arith, rest, length-append done (key.0.0 ∷ []))
 
 many_replicas : (f : ℕ) → length (replicas f) ≡ 3 * f + 1
@@ -47,15 +48,15 @@ many_replicas f = length-map-range_with_len Replica 0 (3 * f + 1)
 keys_whole : (s : KeyLines) (ls : Lines) (x : Read PartyKeys) → keys_after s ls ≡ Ok x → IsWhole x.value
 unfolding keys_after
 keys_whole s ls x e =
-    let secret = bound (secret_at s.me ls) (λ (a : Read (Option Secret)). peers_at (peers_in s.f s.clients s.me) [] a.next a.rest >>= λ b. publics_at (replicas s.f) [] b.next b.rest >>= λ c. Ok (record { value = put_together s a.value b.value c.value; next = c.next; rest = c.rest })) x e in
-    let peers = bound (peers_at (peers_in s.f s.clients s.me) [] secret.0.next secret.0.rest) (λ (b : Read (List Peer)). publics_at (replicas s.f) [] b.next b.rest >>= λ c. Ok (record { value = put_together s secret.0.value b.value c.value; next = c.next; rest = c.rest })) x secret.2 in
-    let publics = bound (publics_at (replicas s.f) [] peers.0.next peers.0.rest) (λ (c : Read Lines). Ok (record { value = put_together s secret.0.value peers.0.value c.value; next = c.next; rest = c.rest })) x peers.2 in
+    let secret = bound (secret_at s.me ls) (λ (a : Read (Option Secret)). peers_at (peers_in s.f s.clients s.me) [] a.next a.rest >>= λ b. publics_at (public_length s.lms) (replicas s.f) [] b.next b.rest >>= λ c. Ok (record { value = put_together s a.value b.value c.value; next = c.next; rest = c.rest })) x e in
+    let peers = bound (peers_at (peers_in s.f s.clients s.me) [] secret.0.next secret.0.rest) (λ (b : Read (List Peer)). publics_at (public_length s.lms) (replicas s.f) [] b.next b.rest >>= λ c. Ok (record { value = put_together s secret.0.value b.value c.value; next = c.next; rest = c.rest })) x secret.2 in
+    let publics = bound (publics_at (public_length s.lms) (replicas s.f) [] peers.0.next peers.0.rest) (λ (c : Read Lines). Ok (record { value = put_together s secret.0.value peers.0.value c.value; next = c.next; rest = c.rest })) x peers.2 in
     let made : Read PartyKeys = record { value = put_together s secret.0.value peers.0.value publics.0.value; next = publics.0.next; rest = publics.0.rest } in
     let is : ◌≡◌ {A = Result (Read PartyKeys) NodeFault} (Ok made) (Ok x) = publics.2 in
     let same : made ≡ x = cc in
     subst (λ (y : Read PartyKeys). IsWhole y.value) same (record {
       secret = λ r me. secret_there r ls secret.0 (subst (λ (p : Party). secret_at p ls ≡ Ok secret.0) me secret.1);
-      public_of_each = publics_many (replicas s.f) [] peers.0.next peers.0.rest publics.0 publics.1 ∙ let many = many_replicas s.f in omega (arith, many);
+      public_of_each = publics_many (public_length s.lms) (replicas s.f) [] peers.0.next peers.0.rest publics.0 publics.1 ∙ let many = many_replicas s.f in omega (arith, many);
     })
 
 pub read_whole : (ls : Lines) (n : NodeText) → node_in ls ≡ Ok n → IsWhole n.keys
@@ -68,7 +69,7 @@ read_whole ls n e =
     let same : node_of keys.0.value commands.0 ≡ n = cc in
     subst (λ (t : NodeText). IsWhole t.keys) same (keys_whole setting.0.0 setting.0.1 keys.0 setting.2)
 
-pub derived_whole : (f clients : ℕ) (plan : Plan) (service : ServiceName) (lms : Height) (seed : List ℕ) (me : Party) → IsWhole (keys_of f clients plan service lms seed me)
+pub derived_whole : (f clients : ℕ) (plan : Plan) (service : ServiceName) (lms : Scheme) (seed : List ℕ) (me : Party) → IsWhole (keys_of f clients plan service lms seed me)
 derived_whole f clients plan service lms seed me = record {
   secret = λ r is. (secret_of seed r, ap (own_secret seed) is);
   public_of_each = length-map-range_with_len (public_of lms seed) 0 (3 * f + 1);

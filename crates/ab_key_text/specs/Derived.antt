@@ -5,10 +5,10 @@ use Rattle.ab_num.specs.declared.party.Party.{Party}
 use Rattle.ab_num.specs.declared.party.Party.TheVariants.{Replica, Client}
 use Rattle.ab_num.specs.declared.plan.Plan.{Plan}
 use Rattle.ab_num.specs.declared.plan.ServiceName.{ServiceName}
-use Rattle.ab_num.specs.declared.plan.Height.{Height}
-use Rattle.ab_lms.specs.Signatures.{public_key}
+use Rattle.ab_num.specs.declared.plan.Scheme.{Scheme}
 use Rattle.ab_keys.specs.Rings.{parties, peers_of}
 use Rattle.ab_keys.specs.Secrets.{tree_name, tree_seed}
+use Rattle.ab_scheme.specs.Schemes.{public_by}
 use Rattle.ab_key_text.specs.Keys.{Secret, PartyKeys}
 
 -- the secret of replica r
@@ -20,11 +20,11 @@ own_secret seed (Replica r) = Some (secret_of seed r)
 own_secret seed (Client c) = None
 
 -- the public key of replica r
-unfoldable pub public_of : Height → List ℕ → ℕ → List ℕ
-public_of lms seed r = public_key lms (tree_name seed r) (tree_seed seed r)
+unfoldable pub public_of : Scheme → List ℕ → ℕ → List ℕ
+public_of lms seed r = public_by lms (tree_name seed r) (tree_seed seed r)
 
 -- what me keeps
-abbrev pub keys_of : ℕ → ℕ → Plan → ServiceName → Height → List ℕ → Party → PartyKeys
+abbrev pub keys_of : ℕ → ℕ → Plan → ServiceName → Scheme → List ℕ → Party → PartyKeys
 keys_of f clients plan service lms seed me = record {
   f = f;
   clients = clients;

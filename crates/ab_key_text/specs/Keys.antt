@@ -5,23 +5,24 @@ use Rattle.ab_num.specs.declared.party.Party.{Party}
 use Rattle.ab_num.specs.declared.party.Party.TheVariants.{Replica, Client}
 use Rattle.ab_num.specs.declared.plan.Plan.{Plan}
 use Rattle.ab_num.specs.declared.plan.ServiceName.{ServiceName}
-use Rattle.ab_num.specs.declared.plan.Height.{Height}
+use Rattle.ab_num.specs.declared.plan.Scheme.{Scheme}
 use Rattle.ab_num.specs.Bounds.{IsInBounds}
 use Rattle.ab_keys.specs.Keys.{is_party, exchanges}
 use Rattle.ab_keys.specs.Rings.{Peer, Ring, parties}
+use Rattle.ab_scheme.specs.Schemes.{public_length}
 
 -- the name of a signer's tree, and the seed of its private values
 pub record Secret : Type 0 where
   pub id : List ℕ
   pub seed : List ℕ
 
--- the cluster of a party, its service and the height of its signers' trees, the party, its secret, what it shares with each of its peers, and the public key of each replica
+-- the cluster of a party, its service and how its replicas sign, the party, its secret, what it shares with each of its peers, and the public key of each replica
 pub record PartyKeys : Type 0 where
   pub f : ℕ
   pub clients : ℕ
   pub plan : Plan
   pub service : ServiceName
-  pub lms : Height
+  pub lms : Scheme
   pub me : Party
   pub secret : Option Secret
   pub peers : List Peer
@@ -51,7 +52,7 @@ IsSecretOf (Replica r) (Some s) = IsBytes 16 s.id × IsBytes 32 s.seed
 IsSecretOf (Client c) None = Unit {0}
 IsSecretOf (Client c) (Some s) = ⊥
 
--- a party of the cluster, with two keys for each of its peers and a public key of each replica
+-- a party of the cluster, with two keys for each of its peers and a public key of each replica, as long as the scheme has it
 pub record IsPartyKeys (k : PartyKeys) : Type 0 where
   pub bounds : IsInBounds k.f k.clients
   pub party : IsTrue (is_party k.f k.clients k.me)
@@ -59,7 +60,7 @@ pub record IsPartyKeys (k : PartyKeys) : Type 0 where
   pub peers : map (λ x. x.party) k.peers ≡ peers_in k.f k.clients k.me
   pub keys : AllByRecursion (λ x. IsBytes 32 x.to × IsBytes 32 x.from) k.peers
   pub public_of_each : length k.publics ≡ 3 * k.f + 1
-  pub publics : AllByRecursion (IsBytes 56) k.publics
+  pub publics : AllByRecursion (IsBytes (public_length k.lms)) k.publics
 
 -- a replica has its secret, and there is a public key of each replica
 pub record IsWhole (k : PartyKeys) : Type 0 where

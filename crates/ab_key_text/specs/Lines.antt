@@ -1,11 +1,13 @@
 -- What one line of a text is read as, and the lines after it.
 use Rattle.std.specs.Prelude.{◌≡◌, ℕ, List, [], ◌∷◌, ◌++◌, Option, None, Some, Result, Ok, Err, codes, ◌&&◌, nat_le, if◌then◌else◌}
-use Rattle.std.specs.Str.{bytes_eq}
 use Rattle.std.specs.Option.{option_and_then}
 use Rattle.ab_num.specs.declared.party.Party.{Party}
 use Rattle.ab_num.specs.declared.party.Party.TheVariants.{Replica, Client}
+use Rattle.ab_num.specs.declared.plan.Scheme.{Scheme}
+use Rattle.ab_text.specs.declared.version.Version.{Version}
+use Rattle.ab_text.specs.declared.version.Version.TheVariants.{One, Two}
 use Rattle.ab_text.specs.Cores.{party_text}
-use Rattle.ab_text.specs.Heads.{stripped, number_after}
+use Rattle.ab_text.specs.Heads.{stripped, number_after, one_level, two_levels}
 use Rattle.ab_key_text.specs.declared.fault.NodeFault.{NodeFault}
 use Rattle.ab_key_text.specs.declared.fault.NodeFault.TheVariants.{BadLine, NoEnd, OutOfMemory}
 use Rattle.ab_key_text.specs.Hex.{bytes_in}
@@ -25,9 +27,10 @@ abbrev pub line_at : {A : Type 0} → (List ℕ → Option A) → ℕ → List (
 line_at read n [] = Err (NoEnd n)
 line_at read n (l ∷ ls) = found_at n ls (read l)
 
--- exactly this form
-abbrev pub form_in : List ℕ → List ℕ → Option (Unit {0})
-form_in form l = if bytes_eq l form then Some tt else None
+-- the schemes of which this is the least version
+abbrev pub own_schemes : Version → List Scheme
+own_schemes One = one_level
+own_schemes Two = two_levels
 
 abbrev pub bounded : ℕ → ℕ → Option ℕ → Option ℕ
 bounded low high None = None

@@ -5,17 +5,19 @@ use Rattle.ab_num.specs.declared.party.Party.{Party}
 use Rattle.ab_num.specs.declared.party.Party.TheVariants.{Replica, Client}
 use Rattle.ab_num.specs.declared.plan.Plan.{Plan}
 use Rattle.ab_num.specs.declared.plan.ServiceName.{ServiceName}
-use Rattle.ab_num.specs.declared.plan.Height.{Height}
+use Rattle.ab_num.specs.declared.plan.Scheme.{Scheme}
 use Rattle.ab_keys.specs.Keys.{is_party}
 use Rattle.ab_keys.specs.Rings.{Peer}
-use Rattle.ab_text.specs.Heads.{spelled_in, stripped, plan_line, plans, service_line, services, lms_line, heights}
+use Rattle.ab_scheme.specs.Schemes.{public_length}
+use Rattle.ab_text.specs.Heads.{spelled_in, stripped, plan_line, plans, service_line, services, lms_line, versions}
 use Rattle.ab_key_text.specs.declared.fault.KeyFault.{KeyFault}
 use Rattle.ab_key_text.specs.declared.fault.KeyFault.TheVariants as key_fault
 use Rattle.ab_key_text.specs.declared.fault.NodeFault.{NodeFault}
 use Rattle.ab_key_text.specs.declared.fault.NodeFault.TheVariants.{BadLine, NoEnd}
 use Rattle.ab_key_text.specs.Hex.{bytes_in}
 use Rattle.ab_key_text.specs.Keys.{Secret, PartyKeys, peers_in, replicas}
-use Rattle.ab_key_text.specs.Lines.{◌>>=◌, line_at, form_in, number_in, party_in, bytes_after, key_in}
+use Rattle.ab_key_text.specs.Lines.{◌>>=◌, line_at, own_schemes, number_in, party_in, bytes_after, key_in}
+use Rattle.ab_key_text.specs.Spelling.{keys_line}
 
 -- lines 1 to 7
 pub record KeyLines : Type 0 where
@@ -24,7 +26,7 @@ pub record KeyLines : Type 0 where
   pub clients : ℕ
   pub plan : Plan
   pub service : ServiceName
-  pub lms : Height
+  pub lms : Scheme
 
 -- the party of line 2 is of the cluster that lines 3 and 4 give
 abbrev pub member : ℕ → ℕ → Party → Result (Unit {0}) NodeFault
@@ -32,14 +34,14 @@ member f clients me = if is_party f clients me then Ok tt else Err (BadLine 2)
 
 unfoldable pub setting_at : List (List ℕ) → Result (KeyLines × List (List ℕ)) NodeFault
 setting_at ls = do
-  name ← line_at (form_in (codes "keys 1")) 1 ls
-  me ← line_at (λ l. option_and_then party_in (stripped (codes "party ") l)) 2 name.1
+  version ← line_at (spelled_in keys_line versions) 1 ls
+  me ← line_at (λ l. option_and_then party_in (stripped (codes "party ") l)) 2 version.1
   f ← line_at (number_in (codes "f ") 1 2) 3 me.1
   clients ← line_at (number_in (codes "clients ") 1 16) 4 f.1
   inside ← member f.0 clients.0 me.0
   plan ← line_at (spelled_in plan_line plans) 5 clients.1
   service ← line_at (spelled_in service_line services) 6 plan.1
-  lms ← line_at (spelled_in lms_line heights) 7 service.1
+  lms ← line_at (spelled_in lms_line (own_schemes version.0)) 7 service.1
   Ok (record { me = me.0; f = f.0; clients = clients.0; plan = plan.0; service = service.0; lms = lms.0 }, lms.1)
 
 -- 16 bytes, a space and 32 bytes
@@ -75,12 +77,12 @@ peers_at (p ∷ ps) done n ls = do
   from ← line_at (key_in (codes "in ") p 32) (n + 1) to.1
   peers_at ps (done ++ record { party = p; to = to.0; from = from.0 } ∷ []) (n + 2) from.1
 
--- the same of the public keys of these replicas
-abbrev pub publics_at : List Party → List (List ℕ) → ℕ → List (List ℕ) → Result (Read (List (List ℕ))) NodeFault
-publics_at [] done n ls = Ok (record { value = done; next = n; rest = ls })
-publics_at (p ∷ ps) done n ls = do
-  key ← line_at (key_in (codes "public ") p 56) n ls
-  publics_at ps (done ++ key.0 ∷ []) (n + 1) key.1
+-- the same of the public keys of these replicas, each with so many bytes
+abbrev pub publics_at : ℕ → List Party → List (List ℕ) → ℕ → List (List ℕ) → Result (Read (List (List ℕ))) NodeFault
+publics_at long [] done n ls = Ok (record { value = done; next = n; rest = ls })
+publics_at long (p ∷ ps) done n ls = do
+  key ← line_at (key_in (codes "public ") p long) n ls
+  publics_at long ps (done ++ key.0 ∷ []) (n + 1) key.1
 
 abbrev pub put_together : KeyLines → Option Secret → List Peer → List (List ℕ) → PartyKeys
 put_together s secret peers publics = record {
@@ -100,7 +102,7 @@ unfoldable pub keys_after : KeyLines → List (List ℕ) → Result (Read PartyK
 keys_after s ls = do
   secret ← secret_at s.me ls
   peers ← peers_at (peers_in s.f s.clients s.me) [] secret.next secret.rest
-  publics ← publics_at (replicas s.f) [] peers.next peers.rest
+  publics ← publics_at (public_length s.lms) (replicas s.f) [] peers.next peers.rest
   Ok (record { value = put_together s secret.value peers.value publics.value; next = publics.next; rest = publics.rest })
 
 -- the keys at the front of the lines, and what comes after them

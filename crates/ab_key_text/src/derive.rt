@@ -11,8 +11,8 @@ use crate::peers::peers_in;
 use crate::secret::Secret;
 use crate::shared::Shared;
 use ab_keys::{key_of, tree_name, tree_seed};
-use ab_lms::public_key;
-use ab_num::{Cluster, Height, OutOfMemory, Party, ServiceName};
+use ab_num::{Cluster, OutOfMemory, Party, Scheme, ServiceName};
+use ab_scheme::PublicKey;
 use std::alloc::Global;
 
 /// The secret that a seed gives to replica `r`.
@@ -34,19 +34,19 @@ fn own_secret(seed: &[u8; 32], me: Party) -> Option<Secret>
 
 /// The public key of replica `r`.
 #[tactic(auto, unfolding(crate::specs::Derived::public_of))]
-fn public_of(lms: Height, seed: &[u8; 32], r: u8) -> [u8; 56]
+fn public_of(lms: Scheme, seed: &[u8; 32], r: u8) -> PublicKey
     ensures { result ≡ public_of lms seed.now r }
 {
-    public_key(lms, &tree_name(seed, r), &tree_seed(seed, r))
+    PublicKey::of(lms, &tree_name(seed, r), &tree_seed(seed, r))
 }
 
 /// The public keys of the replicas.
 fn publics_of(
     alloc: Global,
     c: &Cluster,
-    lms: Height,
+    lms: Scheme,
     seed: &[u8; 32],
-) -> Result<Vec<[u8; 56]>, OutOfMemory>
+) -> Result<Vec<PublicKey>, OutOfMemory>
     ensures { IfOk result (λ v. v.items ≡ map (public_of lms seed.now) (range_with_len 0 (3 * c.now.f + 1))) }
 {
     let mut publics = Vec::new(alloc);
@@ -79,7 +79,7 @@ impl PartyKeys {
         alloc: Global,
         c: &Cluster,
         service: ServiceName,
-        lms: Height,
+        lms: Scheme,
         seed: &[u8; 32],
         me: Party,
     ) -> Result<PartyKeys, OutOfMemory>

@@ -6,10 +6,10 @@ ghost use Rattle.ab_key_text.specs.Hex.{bytes_in};
 
 /// Whether a text is that of these bytes, in lower case.
 fn is_spelled(bytes: &[u8], text: &[u8]) -> bool
-    requires { length bytes.now ≤ 56 }
+    requires { length bytes.now ≤ 60 }
     ensures { IsTrue result ↔ (text.now ≡ encode_lower bytes.now) }
 {
-    let mut digits = [0; 112];
+    let mut digits = [0; 120];
     let spelled = &mut digits[..2 * bytes.len()];
     match hex::encode_to_slice(bytes, &mut *spelled) {
         Ok(()) => &*spelled == text,
@@ -20,7 +20,7 @@ fn is_spelled(bytes: &[u8], text: &[u8]) -> bool
 /// The `N` bytes whose text this is.
 #[tactic(auto, unfolding(crate::specs::Hex::bytes_in))]
 pub fn bytes_in<const N: usize>(text: &[u8]) -> Option<[u8; N]>
-    requires { N ≤ 56 }
+    requires { N ≤ 60 }
     ensures { result ≡ bytes_in N text.now }
 {
     let mut bytes = [0; N];

@@ -2,27 +2,30 @@
 
 ghost use Rattle.std.specs.Prelude.{◌≡◌, ◌≤◌, IfOk, length};
 ghost use Rattle.ab_keys.specs.Keys.{is_party};
+ghost use Rattle.ab_text.specs.Heads.{spelled_in, versions};
 ghost use Rattle.ab_text.specs.Lines.{lines_of};
-ghost use Rattle.ab_key_text.specs.Lines.{Gives};
+ghost use Rattle.ab_key_text.specs.Lines.{Gives, line_at};
 ghost use Rattle.ab_key_text.specs.Reading.{put_together, setting_at};
+ghost use Rattle.ab_key_text.specs.Spelling.{keys_line};
 
 use crate::fault::NodeFault;
 use crate::keys::PartyKeys;
-use crate::lines::{form_at, height_at, number_at, party_at, plan_at, service_at};
+use crate::lines::{number_at, party_at, plan_at, scheme_at, service_at};
 use crate::secret::Secret;
 use crate::shared::Shared;
 use ab_keys::is_party;
-use ab_num::{Cluster, Height, Party, Plan, ServiceName};
-use ab_text::cluster_of;
+use ab_num::{Cluster, Party, Plan, Scheme, ServiceName};
+use ab_scheme::PublicKey;
+use ab_text::{Version, cluster_of, next_line};
 use std::marker::Model;
 
-/// A party of a cluster, the cluster's service and the height of its signers' trees.
+/// A party of a cluster, the cluster's service and how its replicas sign.
 #[derive(Drop)]
 pub(crate) struct KeyLines {
     me: Party,
     cluster: Cluster,
     service: ServiceName,
-    lms: Height,
+    lms: Scheme,
 }
 
 impl Model for KeyLines {
@@ -44,13 +47,41 @@ impl Model for KeyLines {
     ghost invariant = { λ s. IsTrue (is_member s.cluster.f s.cluster.clients s.me) };
 }
 
+/// The version that a first line names.
+#[tactic(auto, unfolding(ab_text::specs::Heads::spelled_in))]
+fn version_in(line: &[u8]) -> Option<Version>
+    ensures { result ≡ spelled_in keys_line versions line.now }
+{
+    if line == b"keys 1".as_slice() {
+        return Some(Version::One);
+    }
+    if line == b"keys 2".as_slice() {
+        return Some(Version::Two);
+    }
+    None
+}
+
+/// The version in line 1, and what comes after that line.
+fn version_at(text: &[u8]) -> Result<(Version, &[u8]), NodeFault>
+    ensures reads { Gives (λ p. (p.0, lines_of p.1.now)) result (line_at (spelled_in keys_line versions) 1 (lines_of text.now)) }
+    ensures shorter { IfOk result (λ p. length p.1.now ≤ length text.now) }
+{
+    match next_line(text) {
+        None => Err(NodeFault::NoEnd(1)),
+        Some((line, rest)) => match version_in(line) {
+            None => Err(NodeFault::BadLine(1)),
+            Some(version) => Ok((version, rest)),
+        },
+    }
+}
+
 /// What seven lines set up, and what comes after them.
 #[tactic(auto, unfolding(crate::specs::Reading::setting_at))]
 pub(crate) fn setting_of(text: &[u8]) -> Result<(KeyLines, &[u8]), NodeFault>
     ensures reads { Gives (λ p. (p.0, lines_of p.1.now)) result (setting_at (lines_of text.now)) }
     ensures shorter { IfOk result (λ p. length p.1.now ≤ length text.now) }
 {
-    let rest = form_at(text, b"keys 1", 1)?;
+    let (version, rest) = version_at(text)?;
     let (me, rest) = party_at(rest, 2)?;
     let (f, rest) = number_at(rest, b"f ", 1, 2, 3)?;
     let (clients, rest) = number_at(rest, b"clients ", 1, 16, 4)?;
@@ -60,7 +91,7 @@ pub(crate) fn setting_of(text: &[u8]) -> Result<(KeyLines, &[u8]), NodeFault>
     }
     let (plan, rest) = plan_at(rest, 5)?;
     let (service, rest) = service_at(rest, 6)?;
-    let (lms, rest) = height_at(rest, 7)?;
+    let (lms, rest) = scheme_at(rest, version, 7)?;
     let cluster = cluster_of(f as u8, clients as u16, plan);
     Ok((
         KeyLines {
@@ -90,12 +121,19 @@ impl KeyLines {
         self.me
     }
 
+    /// How the replicas sign.
+    pub(crate) fn scheme(&self) -> Scheme
+        ensures { result ≡ self.now.lms }
+    {
+        self.lms
+    }
+
     /// The keys of the party that is set up so.
     pub(crate) fn with(
         self,
         secret: Option<Secret>,
         peers: Vec<Shared>,
-        publics: Vec<[u8; 56]>,
+        publics: Vec<PublicKey>,
     ) -> PartyKeys
         ensures { result ≡ put_together self secret peers.items publics.items }
     {

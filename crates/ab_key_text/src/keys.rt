@@ -8,7 +8,8 @@ ghost use Rattle.ab_key_text.specs.Keys.{ring_in};
 use crate::secret::Secret;
 use crate::shared::Shared;
 use ab_keys::KeyRing;
-use ab_num::{Cluster, Height, OutOfMemory, Party, ServiceName};
+use ab_num::{Cluster, OutOfMemory, Party, Scheme, ServiceName};
+use ab_scheme::PublicKey;
 use std::alloc::Global;
 use std::marker::Model;
 
@@ -18,11 +19,11 @@ use std::marker::Model;
 pub struct PartyKeys {
     pub(crate) cluster: Cluster,
     pub(crate) service: ServiceName,
-    pub(crate) lms: Height,
+    pub(crate) lms: Scheme,
     pub(crate) me: Party,
     pub(crate) secret: Option<Secret>,
     pub(crate) peers: Vec<Shared>,
-    pub(crate) publics: Vec<[u8; 56]>,
+    pub(crate) publics: Vec<PublicKey>,
 }
 
 impl Model for PartyKeys {
@@ -64,8 +65,8 @@ impl PartyKeys {
         self.service
     }
 
-    /// The height of the signers' trees.
-    pub fn height(&self) -> Height
+    /// How the replicas sign.
+    pub fn scheme(&self) -> Scheme
         ensures { result ≡ self.now.lms }
     {
         self.lms
@@ -87,7 +88,7 @@ impl PartyKeys {
     }
 
     /// The public keys of the replicas, from replica 0 on.
-    pub fn publics(&self) -> &[[u8; 56]]
+    pub fn publics(&self) -> &[PublicKey]
         ensures { result.now ≡ self.now.publics }
     {
         self.publics.as_slice()

@@ -6,7 +6,7 @@ ghost use Rattle.ab_key_text.specs.declared.fault.NodeFault.TheVariants.{BadLine
 ghost use Rattle.ab_num.specs.declared.party.Party.{Party as TheParty};
 ghost use Rattle.ab_num.specs.declared.plan.Plan.{Plan as ThePlan};
 ghost use Rattle.ab_num.specs.declared.plan.ServiceName.{ServiceName as Service};
-ghost use Rattle.ab_num.specs.declared.plan.Height.{Height as TheHeight};
+ghost use Rattle.ab_num.specs.declared.plan.Scheme.{Scheme as TheScheme};
 ghost use Rattle.ab_num.specs.Bounds.{IsInBounds};
 ghost use Rattle.ab_keys.specs.Keys.{is_party};
 ghost use Rattle.ab_text.specs.Lines.{lines_of};
@@ -66,12 +66,12 @@ pub fn written_nodes_are_read()
 /// key of each replica.
 pub fn keys_are_whole()
     ensures read { (ls : List (List ℕ)) (n : NodeText) → node_in ls ≡ Ok n → IsWhole n.keys }
-    ensures derived { (f clients : ℕ) (plan : ThePlan) (service : Service) (lms : TheHeight) (seed : List ℕ) (me : TheParty) → IsWhole (keys_of f clients plan service lms seed me) }
+    ensures derived { (f clients : ℕ) (plan : ThePlan) (service : Service) (lms : TheScheme) (seed : List ℕ) (me : TheParty) → IsWhole (keys_of f clients plan service lms seed me) }
 {}
 
 /// The keys that a seed gives to a party of a cluster are in form. So what is written of them is read as
 /// these keys.
 pub fn derived_keys_are_in_form()
-    ensures { (f clients : ℕ) (plan : ThePlan) (service : Service) (lms : TheHeight) (seed : List ℕ) (me : TheParty) → IsInBounds f clients → IsTrue (is_party f clients me)
+    ensures { (f clients : ℕ) (plan : ThePlan) (service : Service) (lms : TheScheme) (seed : List ℕ) (me : TheParty) → IsInBounds f clients → IsTrue (is_party f clients me)
         → IsPartyKeys (keys_of f clients plan service lms seed me) }
 {}

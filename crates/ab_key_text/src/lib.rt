@@ -24,7 +24,7 @@ pub use laws::{
     derived_keys_are_in_form, fault_is_first, keys_are_whole, read_is_spelled, spelled_is_read,
     spelled_nodes_are_read, written_is_read, written_nodes_are_read,
 };
-pub use lines::{form_at, height_at, number_at};
+pub use lines::number_at;
 pub use node::{Commands, read_commands, read_node};
 pub use node_writing::node_text;
 pub use parts::party_in;

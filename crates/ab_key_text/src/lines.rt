@@ -1,34 +1,19 @@
 //! One line after the other.
 
-ghost use Rattle.std.specs.Prelude.{◌≤◌, IfOk, codes, length};
+ghost use Rattle.std.specs.Prelude.{◌≡◌, ◌≤◌, IfOk, codes, length};
 ghost use Rattle.std.specs.Option.{option_and_then};
-ghost use Rattle.ab_text.specs.Heads.{heights, lms_line, plan_line, plans, service_line, services, spelled_in, stripped};
+ghost use Rattle.ab_text.specs.Heads.{lms_line, plan_line, plans, service_line, services, spelled_in, stripped};
 ghost use Rattle.ab_text.specs.Lines.{lines_of};
-ghost use Rattle.ab_key_text.specs.Lines.{Gives, form_in, key_in, line_at, number_in, party_in};
+ghost use Rattle.ab_key_text.specs.Lines.{Gives, key_in, line_at, number_in, own_schemes, party_in};
 ghost use Rattle.ab_key_text.specs.Reading.{secret_in};
+ghost use Rattle.ab_scheme.specs.Schemes.{public_length};
 
 use crate::fault::NodeFault;
-use crate::parts::{key_in, named_party, number_in, secret_in};
+use crate::parts::{key_in, named_party, number_in, public_in, secret_in};
 use crate::secret::Secret;
-use ab_num::{Height, Party, Plan, ServiceName};
-use ab_text::{height_in, next_line, plan_in, service_in};
-
-/// What comes after line `n`, which has this form.
-pub fn form_at<'a>(text: &'a [u8], form: &[u8], n: u32) -> Result<&'a [u8], NodeFault>
-    ensures reads { Gives (λ rest. (tt, lines_of rest.now)) result (line_at (form_in form.now) n (lines_of text.now)) }
-    ensures shorter { IfOk result (λ rest. length rest.now ≤ length text.now) }
-{
-    match next_line(text) {
-        None => Err(NodeFault::NoEnd(n)),
-        Some((line, rest)) => {
-            if line == form {
-                Ok(rest)
-            } else {
-                Err(NodeFault::BadLine(n))
-            }
-        }
-    }
-}
+use ab_num::{Party, Plan, Scheme, ServiceName};
+use ab_scheme::PublicKey;
+use ab_text::{Version, next_line, one_level_in, plan_in, service_in, two_levels_in};
 
 /// The number of line `n`, after its word, and what comes after that line.
 pub fn number_at<'a>(
@@ -94,14 +79,28 @@ pub(crate) fn service_at<'a>(text: &'a [u8], n: u32) -> Result<(ServiceName, &'a
     }
 }
 
-/// The height of line `n`, and what comes after that line.
-pub fn height_at<'a>(text: &'a [u8], n: u32) -> Result<(Height, &'a [u8]), NodeFault>
-    ensures reads { Gives (λ p. (p.0, lines_of p.1.now)) result (line_at (spelled_in lms_line heights) n (lines_of text.now)) }
+/// The scheme that a line names, where this is the least version that has it.
+fn own_scheme_in(version: Version, line: &[u8]) -> Option<Scheme>
+    ensures { result ≡ spelled_in lms_line (own_schemes version) line.now }
+{
+    match version {
+        Version::One => one_level_in(line),
+        Version::Two => two_levels_in(line),
+    }
+}
+
+/// The scheme of line `n`, of which this is the least version, and what comes after that line.
+pub(crate) fn scheme_at<'a>(
+    text: &'a [u8],
+    version: Version,
+    n: u32,
+) -> Result<(Scheme, &'a [u8]), NodeFault>
+    ensures reads { Gives (λ p. (p.0, lines_of p.1.now)) result (line_at (spelled_in lms_line (own_schemes version)) n (lines_of text.now)) }
     ensures shorter { IfOk result (λ p. length p.1.now ≤ length text.now) }
 {
     match next_line(text) {
         None => Err(NodeFault::NoEnd(n)),
-        Some((line, rest)) => match height_in(line) {
+        Some((line, rest)) => match own_scheme_in(version, line) {
             None => Err(NodeFault::BadLine(n)),
             Some(found) => Ok((found, rest)),
         },
@@ -129,13 +128,32 @@ pub(crate) fn key_at<'a, const N: usize>(
     p: Party,
     n: u32,
 ) -> Result<([u8; N], &'a [u8]), NodeFault>
-    requires { N ≤ 56 }
+    requires { N ≤ 60 }
     ensures reads { Gives (λ p. (p.0, lines_of p.1.now)) result (line_at (key_in word.now p N) n (lines_of text.now)) }
     ensures shorter { IfOk result (λ p. length p.1.now ≤ length text.now) }
 {
     match next_line(text) {
         None => Err(NodeFault::NoEnd(n)),
         Some((line, rest)) => match key_in(line, word, p) {
+            None => Err(NodeFault::BadLine(n)),
+            Some(found) => Ok((found, rest)),
+        },
+    }
+}
+
+/// The public key of a party in line `n`, and what comes after that line.
+pub(crate) fn public_at<'a>(
+    text: &'a [u8],
+    lms: Scheme,
+    p: Party,
+    n: u32,
+) -> Result<(PublicKey, &'a [u8]), NodeFault>
+    ensures reads { Gives (λ p. (p.0, lines_of p.1.now)) result (line_at (key_in (codes "public ") p (public_length lms)) n (lines_of text.now)) }
+    ensures shorter { IfOk result (λ p. length p.1.now ≤ length text.now) }
+{
+    match next_line(text) {
+        None => Err(NodeFault::NoEnd(n)),
+        Some((line, rest)) => match public_in(line, lms, p) {
             None => Err(NodeFault::BadLine(n)),
             Some(found) => Ok((found, rest)),
         },

@@ -6,10 +6,12 @@ ghost use Rattle.ab_text.specs.Cores.{party_text};
 ghost use Rattle.ab_text.specs.Heads.{stripped};
 ghost use Rattle.ab_key_text.specs.Lines.{bytes_after, key_in, number_in, party_in};
 ghost use Rattle.ab_key_text.specs.Reading.{secret_in, secret_text_in};
+ghost use Rattle.ab_scheme.specs.Schemes.{public_length};
 
 use crate::hex_bytes::bytes_in;
 use crate::secret::Secret;
-use ab_num::Party;
+use ab_num::{Party, Scheme};
+use ab_scheme::PublicKey;
 use ab_text::{after, word_number};
 
 /// What comes after a party.
@@ -68,7 +70,7 @@ pub(crate) fn named_party(line: &[u8]) -> Option<Party>
 
 /// A word, and `N` bytes.
 fn bytes_after<const N: usize>(line: &[u8], word: &[u8]) -> Option<[u8; N]>
-    requires { N ≤ 56 }
+    requires { N ≤ 60 }
     ensures { result ≡ bytes_after word.now N line.now }
 {
     bytes_in(after(line, word)?)
@@ -76,10 +78,36 @@ fn bytes_after<const N: usize>(line: &[u8], word: &[u8]) -> Option<[u8; N]>
 
 /// A word, a party and a key of `N` bytes.
 pub(crate) fn key_in<const N: usize>(line: &[u8], word: &[u8], p: Party) -> Option<[u8; N]>
-    requires { N ≤ 56 }
+    requires { N ≤ 60 }
     ensures { result ≡ key_in word.now p N line.now }
 {
     bytes_in(after_peer(line, word, p)?)
+}
+
+/// The word `public`, a party and a public key of one level.
+fn one_level_in(line: &[u8], p: Party) -> Option<PublicKey>
+    ensures { result ≡ key_in (codes "public ") p 56 line.now }
+{
+    let bytes = key_in(line, b"public ", p)?;
+    Some(PublicKey::one_level(bytes))
+}
+
+/// The word `public`, a party and a public key of two levels.
+fn two_levels_in(line: &[u8], p: Party) -> Option<PublicKey>
+    ensures { result ≡ key_in (codes "public ") p 60 line.now }
+{
+    let bytes: [u8; 60] = key_in(line, b"public ", p)?;
+    PublicKey::read(Scheme::Hss, &bytes)
+}
+
+/// The word `public`, a party and a public key of this scheme.
+pub(crate) fn public_in(line: &[u8], lms: Scheme, p: Party) -> Option<PublicKey>
+    ensures { result ≡ key_in (codes "public ") p (public_length lms) line.now }
+{
+    match lms {
+        Scheme::Lms(_) => one_level_in(line, p),
+        Scheme::Hss => two_levels_in(line, p),
+    }
 }
 
 /// The secret that a text spells.

@@ -5,15 +5,17 @@ ghost use Rattle.ab_text.specs.Lines.{lines_of};
 ghost use Rattle.ab_key_text.specs.Keys.{peers_in, replicas};
 ghost use Rattle.ab_key_text.specs.Lines.{Gives};
 ghost use Rattle.ab_key_text.specs.Reading.{IsKeyFault, keys_after, keys_at, keys_in, peers_at, publics_at, secret_at};
+ghost use Rattle.ab_scheme.specs.Schemes.{public_length};
 
 use crate::fault::{KeyFault, NodeFault};
 use crate::key_lines::{KeyLines, setting_of};
 use crate::keys::PartyKeys;
-use crate::lines::{key_at, secret_line_at};
+use crate::lines::{key_at, public_at, secret_line_at};
 use crate::peers::{peers_in, replicas};
 use crate::secret::Secret;
 use crate::shared::Shared;
-use ab_num::Party;
+use ab_num::{Party, Scheme};
+use ab_scheme::PublicKey;
 use ab_text::next_line;
 use std::alloc::Global;
 
@@ -77,15 +79,16 @@ fn peers_of<'a>(
     })
 }
 
-/// The public keys of these replicas, from line `first` on.
+/// The public keys of these replicas, which sign by this scheme, from line `first` on.
 pub fn publics_of<'a>(
     alloc: Global,
     text: &'a [u8],
+    lms: Scheme,
     parties: &[Party],
     first: u32,
-) -> Result<Read<'a, Vec<[u8; 56]>>, NodeFault>
+) -> Result<Read<'a, Vec<PublicKey>>, NodeFault>
     requires { first + length parties.now < 2 ^ 16 }
-    ensures reads { Gives (λ p. record { value = p.value.items; next = p.next; rest = lines_of p.rest.now }) result (publics_at parties.now [] first (lines_of text.now)) }
+    ensures reads { Gives (λ p. record { value = p.value.items; next = p.next; rest = lines_of p.rest.now }) result (publics_at (public_length lms) parties.now [] first (lines_of text.now)) }
     ensures few { IfOk result (λ p. p.next ≡ first + length parties.now) }
     ensures shorter { IfOk result (λ p. length p.rest.now ≤ length text.now) }
 {
@@ -93,7 +96,10 @@ pub fn publics_of<'a>(
     let mut next = first;
     let mut rest = text;
     for p in parties {
-        let (key, behind) = key_at(rest, b"public ", *p, next)?;
+        let (key, behind) = match public_at(rest, lms, *p, next) {
+            Ok(read) => read,
+            Err(fault) => return Err(fault),
+        };
         publics.push(key)?;
         next += 1;
         rest = behind;
@@ -120,7 +126,7 @@ fn keys_after(
     let others = peers_in(alloc, setting.cluster(), setting.me())?;
     let secret = secret_of(text, setting.me())?;
     let shared = peers_of(alloc, secret.rest, &others, secret.next)?;
-    let publics = publics_of(alloc, shared.rest, &replicas, shared.next)?;
+    let publics = publics_of(alloc, shared.rest, setting.scheme(), &replicas, shared.next)?;
     Ok(Read {
         value: setting.with(secret.value, shared.value, publics.value),
         next: publics.next,

@@ -2,14 +2,15 @@
 
 ghost use Rattle.std.specs.Prelude.{◌≡◌, ◌+◌, ◌++◌, ◌∷◌, [], IfOk, OnOk, flat_map, string_bytes};
 ghost use Rattle.ab_num.specs.declared.party.Party.TheVariants.{Replica};
-ghost use Rattle.ab_key_text.specs.Spelling.{cluster_lines, key_line, key_lines, name_lines, peer_lines, public_lines, secret_line, secret_lines};
+ghost use Rattle.ab_key_text.specs.Spelling.{cluster_lines, key_line, key_lines, keys_line, name_lines, peer_lines, public_lines, secret_line, secret_lines};
 ghost use Rattle.ab_text.specs.Texts.{text_of};
 
 use crate::keys::PartyKeys;
 use crate::secret::Secret;
 use crate::shared::Shared;
 use ab_num::{OutOfMemory, Party};
-use ab_text::{height_text, party_string, plan_text, service_text};
+use ab_scheme::PublicKey;
+use ab_text::{Version, party_string, plan_text, scheme_text, service_text, version_of};
 use std::alloc::{AllocError, Global};
 
 /// A line of a word, a party and a key.
@@ -22,10 +23,10 @@ fn key_string(alloc: Global, word: &str, p: Party, key: &[u8]) -> Result<String,
 }
 
 /// A line of a word, replica `r` and a key.
-fn public_string(alloc: Global, word: &str, r: usize, key: &[u8; 56]) -> Result<String, AllocError>
+fn public_string(alloc: Global, word: &str, r: usize, key: &PublicKey) -> Result<String, AllocError>
     ensures { IfOk result (λ s. string_bytes s ≡ key_line word.now (Replica r) key.now) }
 {
-    let digits = hex::encode(alloc, key)?;
+    let digits = hex::encode(alloc, key.as_slice())?;
     format!(in alloc; "{word}r{r} {digits}")
 }
 
@@ -36,6 +37,16 @@ fn secret_string(alloc: Global, secret: &Secret) -> Result<String, AllocError>
     let id = hex::encode(alloc, &secret.id())?;
     let seed = hex::encode(alloc, &secret.seed())?;
     format!(in alloc; "secret {id} {seed}")
+}
+
+/// The first line of a key text.
+fn keys_text(version: Version) -> &'static str
+    ensures { result.now ≡ keys_line version }
+{
+    match version {
+        Version::One => "keys 1",
+        Version::Two => "keys 2",
+    }
 }
 
 /// Adds a line.
@@ -68,7 +79,7 @@ impl PartyKeys {
         let party = format!(in alloc; "party {me}")?;
         let faulty = format!(in alloc; "f {f}")?;
         let count = format!(in alloc; "clients {clients}")?;
-        add_line(out, "keys 1")?;
+        add_line(out, keys_text(version_of(self.lms)))?;
         add_line(out, party.as_str())?;
         add_line(out, faulty.as_str())?;
         add_line(out, count.as_str())?;
@@ -81,7 +92,7 @@ impl PartyKeys {
     {
         add_line(out, plan_text(self.cluster.plan))?;
         add_line(out, service_text(self.service))?;
-        add_line(out, height_text(self.lms))
+        add_line(out, scheme_text(self.lms))
     }
 
     /// Adds the line of a replica's secret.

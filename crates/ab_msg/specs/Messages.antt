@@ -1,5 +1,5 @@
 -- Messages: which are of the grammar, and how they are spelled.
-use Rattle.std.specs.Prelude.{◌≡◌, ℕ, List, ◌++◌, length}
+use Rattle.std.specs.Prelude.{◌≡◌, ℕ, ◌≤◌, List, ◌++◌, length}
 use Rattle.ab_form.specs.Formats.{IsWithin, u8_bytes, u16_bytes, u32_bytes}
 use Rattle.ab_form.specs.Lists.{u8_list, AreCounted, spell_optional, FitsInside}
 use Rattle.ab_msg.specs.declared.content.Content.{Content}
@@ -45,7 +45,8 @@ IsMessage (msg.Commit content tag) = IsCommit content × (length tag ≡ 32)
 IsMessage (msg.ViewChange change) = IsProof change
 IsMessage (msg.NewView content tag changes) = IsNewView content × ((length tag ≡ 32) × AreCounted 1 7 IsProof changes)
 
--- a message but for the tags of its maker, which it gets as it is sealed. In a CHAIN there is room for the three that a position makes
+-- a message but for the tags of its maker, which it gets as it is sealed. In a CHAIN there is room for the three that a position makes, and a
+-- NEW-VIEW has the view changes of 2f + 1 replicas, so at most five
 abbrev pub IsDraft : Msg → Type 0
 IsDraft (msg.Req content tags) = IsReq content
 IsDraft (msg.Order content client_tag tag) = IsOrder content × (length client_tag ≡ 32)
@@ -59,7 +60,12 @@ IsDraft (msg.PrePrepare content tag offer) = IsPrePrepare content × IsOffer (sl
 IsDraft (msg.Prepare prepare) = IsSigned IsPrepare prepare
 IsDraft (msg.Commit content tag) = IsCommit content
 IsDraft (msg.ViewChange change) = IsProof change
-IsDraft (msg.NewView content tag changes) = IsNewView content × AreCounted 1 7 IsProof changes
+IsDraft (msg.NewView content tag changes) = IsNewView content × AreCounted 1 5 IsProof changes
+
+-- with no more view changes than a draft may have
+abbrev pub HasFewChanges : Msg → Type 0
+HasFewChanges (msg.NewView content tag changes) = length changes ≤ 5
+HasFewChanges _ = Unit {0}
 
 -- ---- spellings
 

@@ -7,12 +7,8 @@ use Rattle.std.proofs.lemmas.List.{get_or-set_same, length-map, length-set}
 use Rattle.std.proofs.lemmas.Option.{slice_get-get_or}
 use Rattle.ab_num.specs.declared.cluster.Cluster.{Cluster}
 use Rattle.ab_num.specs.declared.party.Party.TheVariants.{Replica}
-use Rattle.ab_num.specs.declared.plan.Height.{Height}
-use Rattle.ab_num.specs.declared.plan.Height.TheVariants.{Five, Ten}
 use Rattle.ab_num.specs.declared.plan.Kind.{Kind}
 use Rattle.ab_num.specs.Bounds.{IsInBounds}
-use Rattle.ab_lms.specs.Nodes.{levels}
-use Rattle.ab_lms.proofs.Signed.{length-lms_signature}
 use Rattle.ab_keys.specs.Keys.{is_party}
 use Rattle.ab_key_text.specs.Keys.{IsWhole, PartyKeys, Secret}
 use Rattle.ab_msg.specs.declared.content.Content.{Content}
@@ -22,6 +18,7 @@ use Rattle.ab_msg.specs.Fields.{IsSig}
 use Rattle.ab_sign.specs.declared.key.SignKey.{SignKey}
 use Rattle.ab_sign.specs.declared.key.SignKey.TheVariants as key
 use Rattle.ab_sign.specs.Signers.{leaves_of, pen_of, signature_at, signature_of}
+use Rattle.ab_sign.proofs.KeyLemmas.{signature_fits}
 use Rattle.ab_abs.specs.declared.seen.Seen.{Seen}
 use Rattle.ab_abs.specs.Ensembles.{Proto}
 use Rattle.ab_abs.specs.Messages.{Call}
@@ -48,10 +45,6 @@ use Rattle.ab_node.specs.Clients.{ClientMember, Does, first_client}
 
 -- ---- keys
 
-sig_fits : (lms : Height) (sig : List ℕ) → length sig ≡ 2188 + 32 * levels lms → IsSig sig
-sig_fits Five sig long = let e : length sig ≡ 2348 = long in rw e refl
-sig_fits Ten sig long = let e : length sig ≡ 2508 = long in rw e refl
-
 -- a replica's own key stands in its place
 own_there : (k : PartyKeys) (r : ℕ) (s : Secret) → k.me ≡ Replica r → k.secret ≡ Some s → r < length k.publics → slice_get (credentials_in k).keys r ≡ Some (own_key k.lms s)
 own_there k r s me secret lt =
@@ -67,7 +60,7 @@ own_there k r s me secret lt =
 own_signs : (k : PartyKeys) (r : ℕ) (s : Secret) → slice_get (credentials_in k).keys r ≡ Some (own_key k.lms s) → (content : Content) (n : ℕ) → IsSig (signature_of (credentials_in k).keys r n (spell_content content))
 own_signs k r s there content n =
     let text = spell_content content in
-    subst (λ (o : Option SignKey). IsSig (signature_at o n text)) (sym there) (sig_fits k.lms _ (length-lms_signature k.lms s.id s.seed n text))
+    subst (λ (o : Option SignKey). IsSig (signature_at o n text)) (sym there) (signature_fits k.lms s.id s.seed text n)
 
 pub whole_signs : (k : PartyKeys) (r : ℕ) → IsWhole k → k.me ≡ Replica r → IsTrue (is_party k.f k.clients k.me) → (content : Content) (n : ℕ) → IsSig (signature_of (credentials_in k).keys r n (spell_content content))
 whole_signs k r whole me party =

@@ -4,15 +4,15 @@ use Rattle.std.specs.Option.{option_map}
 use Rattle.std.specs.Result.{result_ok}
 use Rattle.ab_num.specs.declared.party.Party.{Party}
 use Rattle.ab_num.specs.declared.party.Party.TheVariants.{Replica, Client}
-use Rattle.ab_num.specs.declared.plan.Height.{Height}
+use Rattle.ab_num.specs.declared.plan.Scheme.{Scheme}
 use Rattle.ab_key_text.specs.Keys.{PartyKeys, Secret, ring_in}
 use Rattle.ab_msg.specs.declared.message.Msg.{Msg}
 use Rattle.ab_sign.specs.declared.key.SignKey.{SignKey}
 use Rattle.ab_sign.specs.declared.key.SignKey.TheVariants as key
 use Rattle.ab_party.specs.Credentials.{Credentials, opening_by}
 
-abbrev pub own_key : Height → Secret → SignKey
-own_key lms s = key.Secret (record { height = lms; id = s.id; seed = s.seed })
+abbrev pub own_key : Scheme → Secret → SignKey
+own_key lms s = key.Secret (record { scheme = lms; id = s.id; seed = s.seed })
 
 -- a replica's own secret stands in the place of its public key
 abbrev pub with_own : Party → Option SignKey → List SignKey → List SignKey

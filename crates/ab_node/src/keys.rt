@@ -10,9 +10,10 @@ ghost use Rattle.ab_node.specs.Keys.{credentials_in, opened, own_key, with_own};
 
 use ab_key_text::{PartyKeys, Secret};
 use ab_keys::KeyRing;
-use ab_num::{Height, OutOfMemory, Party};
+use ab_num::{OutOfMemory, Party, Scheme};
 use ab_party::Credentials;
-use ab_sign::{SecretKey, SignKey, Signers};
+use ab_scheme::{PublicKey, SecretKey};
+use ab_sign::{SignKey, Signers};
 use ab_wire::MsgRef;
 use std::alloc::Global;
 use std::marker::Model;
@@ -34,14 +35,14 @@ impl Model for Keys {
 }
 
 /// A replica's own key.
-fn own_key(lms: Height, secret: &Secret) -> SignKey
+fn own_key(lms: Scheme, secret: &Secret) -> SignKey
     ensures { result ≡ own_key lms secret.now }
 {
     SignKey::Secret(SecretKey::new(lms, secret.id(), secret.seed()))
 }
 
 /// The public keys of the replicas.
-fn public_keys(alloc: Global, publics: &[[u8; 56]]) -> Result<Vec<SignKey>, OutOfMemory>
+fn public_keys(alloc: Global, publics: &[PublicKey]) -> Result<Vec<SignKey>, OutOfMemory>
     ensures { IfOk result (λ v. v.items ≡ map Public publics.now) }
 {
     let mut keys = Vec::with_capacity(alloc, publics.len())?;
@@ -61,7 +62,7 @@ fn sign_keys(alloc: Global, keys: &PartyKeys) -> Result<Vec<SignKey>, OutOfMemor
         Party::Client(_) => Ok(list),
         Party::Replica(r) => match keys.secret() {
             Some(secret) => {
-                list[usize::from(r)] = own_key(keys.height(), secret);
+                list[usize::from(r)] = own_key(keys.scheme(), secret);
                 Ok(list)
             }
             None => Ok(list),

@@ -13,4 +13,4 @@ pub use cluster::Cluster;
 pub use cursor::Cur;
 pub use memory::OutOfMemory;
 pub use party::Party;
-pub use plan::{Height, Kind, Plan, ServiceName};
+pub use plan::{Height, Kind, Plan, Scheme, ServiceName};

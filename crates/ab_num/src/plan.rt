@@ -33,3 +33,10 @@ pub enum Height {
     Five,
     Ten,
 }
+
+/// How a replica signs: by one tree, or by trees of height ten in two levels.
+#[derive(Clone, Copy, Debug, PartialEq, Eq)]
+pub enum Scheme {
+    Lms(Height),
+    Hss,
+}

@@ -6,6 +6,8 @@ mod clients;
 #[cfg(test)]
 mod kept;
 #[cfg(test)]
+mod left;
+#[cfg(test)]
 mod members;
 #[cfg(test)]
 mod replicas;

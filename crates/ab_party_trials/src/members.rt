@@ -4,6 +4,7 @@ ghost use Rattle.std.specs.Prelude.{◌≡◌, ◌<◌, IfOk, IsTrue, replicate}
 ghost use Rattle.ab_num.specs.declared.plan.Plan.TheVariants.{Quorum as QuorumPlan};
 ghost use Rattle.ab_num.specs.declared.plan.ServiceName.TheVariants.{Kv as KvService};
 ghost use Rattle.ab_num.specs.declared.plan.Height.TheVariants.{Five};
+ghost use Rattle.ab_num.specs.declared.plan.Scheme.TheVariants.{Lms};
 ghost use Rattle.ab_keys.specs.Keys.{is_party};
 ghost use Rattle.ab_key_text.specs.Derived.{keys_of};
 
@@ -17,7 +18,7 @@ use ab_loop::{
 };
 use ab_msg::Packet;
 use ab_node::{ClientMember, ReplicaMember};
-use ab_num::{Cluster, Height, OutOfMemory, Party, Plan, ServiceName};
+use ab_num::{Cluster, Height, OutOfMemory, Party, Plan, Scheme, ServiceName};
 use ab_piece::cut;
 use ab_quorum::Quorum;
 use std::alloc::Global;
@@ -25,14 +26,21 @@ use std::alloc::Global;
 /// The keys of a party of a cluster of four replicas and one client.
 fn keys_for(alloc: Global, me: Party) -> Result<PartyKeys, OutOfMemory>
     requires { IsTrue (is_party 1 1 me) }
-    ensures { IfOk result (λ k. k ≡ keys_of 1 1 QuorumPlan KvService Five (replicate 32 0) me) }
+    ensures { IfOk result (λ k. k ≡ keys_of 1 1 QuorumPlan KvService (Lms Five) (replicate 32 0) me) }
 {
     let cluster = Cluster {
         f: 1,
         clients: 1,
         plan: Plan::Quorum,
     };
-    PartyKeys::derive(alloc, &cluster, ServiceName::Kv, Height::Five, &[0; 32], me)
+    PartyKeys::derive(
+        alloc,
+        &cluster,
+        ServiceName::Kv,
+        Scheme::Lms(Height::Five),
+        &[0; 32],
+        me,
+    )
 }
 
 fn client(alloc: Global) -> Result<ClientMember, OutOfMemory> {

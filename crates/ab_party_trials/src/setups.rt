@@ -2,7 +2,7 @@
 
 use ab_cast::{Place, Setup, faulty_parties_have_their_cores};
 use ab_keys::is_party;
-use ab_num::{Cluster, Height, Party, Plan};
+use ab_num::{Cluster, Height, Party, Plan, Scheme};
 
 /// The tag of the text from c0 to r1 under the keys of the seed of 32 zeros.
 const C0_TO_R1: [u8; 32] = [
@@ -21,7 +21,13 @@ fn setup(rt: &HostRuntime, first: (Party, u8), second: (Party, u8)) -> Option<Se
     if !is_party(&cluster, first.0) || !is_party(&cluster, second.0) {
         return None;
     }
-    Setup::new(rt.alloc(), &cluster, &[first, second], Height::Five).ok()
+    Setup::new(
+        rt.alloc(),
+        &cluster,
+        &[first, second],
+        Scheme::Lms(Height::Five),
+    )
+    .ok()
 }
 
 /// A party, the number of one of its cores, and where that core stands.

@@ -1,9 +1,9 @@
 -- Each event keeps a replica within the bounds of the grammar, and what it sends is of the grammar.
-use Rattle.std.proofs.Common.{◌≡◌, ℕ, zero, suc, ◌+◌, ◌*◌, ◌<◌, ◌≤◌, ◌==◌, Bool, true, false, Some, List, [], ◌∷◌, length, take, map, refl, sym, ap, ◌∙◌, subst, inl, inr, arith, length-append}
+use Rattle.std.proofs.Common.{◌≡◌, ℕ, zero, suc, ◌+◌, ◌*◌, ◌<◌, ◌≤◌, ◌==◌, Bool, true, false, Some, List, [], ◌∷◌, length, map, refl, sym, ap, ◌∙◌, subst, inl, inr, arith, length-append}
 use Rattle.std.specs.Prelude.{Contains, nat_lt, unwrap_or, if◌then◌else◌}
 use Rattle.std.specs.List.{filter}
 use Rattle.std.specs.Str.{bytes_eq}
-use Rattle.std.proofs.lemmas.List.{length-replicate}
+use Rattle.std.proofs.lemmas.List.{length-replicate, length-take-le}
 use Rattle.ab_num.specs.declared.cluster.Cluster.{Cluster}
 use Rattle.ab_num.specs.declared.party.Party.TheVariants.{Replica}
 use Rattle.ab_num.specs.Places.{limit_of}
@@ -42,7 +42,6 @@ use Rattle.ab_pbft_shelf.specs.declared.kept.Tagged.{Tagged}
 use Rattle.ab_pbft_shelf.specs.Shelves.{Shelf, view_of, proofs_for, certified_front, own_proof, entered, tags_of, without_maker}
 use Rattle.ab_pbft_shelf.specs.Posts.{Post, no_tag, offer_to, offer_message, lead_message, posts_all, sig_of}
 use Rattle.ab_pbft_drafts.specs.Bounds.{IsValueAt, AreCertsAt, AreBallots, HasTags, seat_of}
-use Rattle.ab_pbft_drafts.proofs.Lists.{some_taken, few_taken}
 use Rattle.ab_pbft_drafts.proofs.Ballots.{no_ballots}
 use Rattle.ab_pbft_drafts.proofs.Proofs.{proofs_put, proofs_left, as_many}
 use Rattle.ab_pbft_drafts.proofs.Certificates.{own_certs, own_formed}
@@ -141,12 +140,11 @@ module _ (c : Cluster) (i me : ℕ) (placed : IsInstance i) (owned : me < 3 * c.
             sent = was.sent;
           })
 
-      -- VIEW-CHANGEs for a view are kept as messages
-      some_proofs : (w : Work) (v : ℕ) → Stands w → quorum c.f ≤ length (of_view w.at.changes v) → 1 ≤ length (proofs_for c.f v (post_of w).shelf.proofs)
-      some_proofs w v was many =
-          let all = filter (λ p. view_of p == v) (post_of w).shelf.proofs in
-          let size : quorum c.f ≡ suc (2 * c.f) = omega arith in
-          subst (λ (n : ℕ). 1 ≤ length (take n all)) (sym size) (some_taken (2 * c.f) all (omega (arith, many, as_many v w.at.changes (post_of w).shelf.proofs was.held.proofs)))
+      -- a quorum of VIEW-CHANGEs for a view is kept as messages
+      length-proofs : (w : Work) (v : ℕ) → Stands w → quorum c.f ≤ length (of_view w.at.changes v) → length (proofs_for c.f v (post_of w).shelf.proofs) ≡ quorum c.f
+      length-proofs w v was many =
+          let kept = (post_of w).shelf.proofs in
+          length-take-le (quorum c.f) (filter (λ p. view_of p == v) kept) (omega (arith, many, as_many v w.at.changes kept was.held.proofs))
 
       said_on : (w : Work) (d : Doing) → Stands w → WhySaid seat e start w d → IsPosted c i (core_of w) w.at.peer.votes w.at.changes w.at.requests (posts_all by (told_in (d ∷ [])) (post_of w))
       said_on w d was (offered value room on why) =
@@ -155,22 +153,28 @@ module _ (c : Cluster) (i me : ℕ) (placed : IsInstance i) (owned : me < 3 * c.
           record {
             held = h;
             pen = was.pen;
-            sent = sent_more (3 * c.f + 1) me (offer_message by (post_of w).shelf (core_of w).view slot value) (post_of w).sent was.sent
-                (λ r. (of_slot c i me placed owned (core_of w).view slot value h.core.view room, offer_formed (post_of w).shelf slot value r h.entry h.tags (taken_at w value was on why)));
+            sent = sent_more c.f (3 * c.f + 1) me (offer_message by (post_of w).shelf (core_of w).view slot value) (post_of w).sent was.sent (λ r. record {
+              draft = (of_slot c i me placed owned (core_of w).view slot value h.core.view room, offer_formed (post_of w).shelf slot value r h.entry h.tags (taken_at w value was on why));
+              enough = tt;
+            });
           }
       said_on w d was (led many) =
           let h = was.held in
           let v = (core_of w).view in
           let kept = (post_of w).shelf.proofs in
           let all = filter (λ (p : Proof). view_of p == v) kept in
+          let many_proofs = length-proofs w v was many in
           let each = λ (p : Proof) (has : Contains (proofs_for c.f v kept) p). h.proofs.formed p (Contains-filter_cases (λ (q : Proof). view_of q == v) kept p (Contains-take (quorum c.f) all p has)).0 in
           record {
             held = h;
             pen = was.pen;
-            sent = sent_more (3 * c.f + 1) me (λ r. lead_message by (post_of w).shelf v) (post_of w).sent was.sent (λ r. (
-              ((omega arith, few_replicas c me owned), (placed, h.core.view)),
-              ((some_proofs w v was many, omega (arith, few_taken (quorum c.f) all, c.in_bounds.few_faulty)), all_of IsProof (proofs_for c.f v kept) each),
-            ));
+            sent = sent_more c.f (3 * c.f + 1) me (λ r. lead_message by (post_of w).shelf v) (post_of w).sent was.sent (λ r. record {
+              draft = (
+                ((omega arith, few_replicas c me owned), (placed, h.core.view)),
+                ((omega (arith, many_proofs), omega (arith, many_proofs, c.in_bounds.few_faulty)), all_of IsProof (proofs_for c.f v kept) each),
+              );
+              enough = many_proofs;
+            });
           }
 
       speaks_on : (w : Work) (d : Doing) → Stands w → WhySaid seat e start w d → Stands (does d w)
@@ -270,7 +274,7 @@ module _ (c : Cluster) (i me : ℕ) (placed : IsInstance i) (owned : me < 3 * c.
               tags = h.tags;
             };
             pen = was.pen;
-            sent = sent_more (3 * c.f + 1) me (λ r. msg.ViewChange own) p.sent was.sent (λ r. formed);
+            sent = sent_more c.f (3 * c.f + 1) me (λ r. msg.ViewChange own) p.sent was.sent (λ r. record { draft = formed; enough = tt });
           })
 
       asks_on : (m : Request) → e ≡ request m → Stands start → Stands (keep_request m start)

@@ -14,7 +14,6 @@ use Rattle.ab_msg.specs.declared.change.Proof.{Proof}
 use Rattle.ab_msg.specs.Fields.{IsInstance, IsWritten, IsSig}
 use Rattle.ab_msg.specs.Certs.{AreAborts, IsSigned, IsProof}
 use Rattle.ab_msg.specs.Contents.{IsAbort}
-use Rattle.ab_msg.specs.Messages.{IsDraft}
 use Rattle.ab_msg.specs.Pens.{Pen}
 use Rattle.ab_abs.specs.declared.entry.Entry.{Entry}
 use Rattle.ab_abs.specs.Messages.{Call, IsFormed}
@@ -30,7 +29,7 @@ use Rattle.ab_pbft_shelf.specs.declared.kept.Tagged.{Tagged}
 use Rattle.ab_pbft_shelf.specs.Shelves.{Shelf, maker_of, view_of, with_ballot, with_ballot_of, with_proof, with_tags}
 use Rattle.ab_pbft_shelf.specs.Posts.{Post}
 use Rattle.ab_pbft_shelf.specs.Signing.{Signing, puts, signing}
-use Rattle.ab_pbft_drafts.specs.Bounds.{IsBounded, IsInForm, HasTags, seat_of}
+use Rattle.ab_pbft_drafts.specs.Bounds.{IsBounded, IsInForm, HasQuorum, HasTags, IsSent, seat_of}
 use Rattle.ab_pbft_drafts.proofs.Ballots.{ballots_put, no_ballots}
 use Rattle.ab_pbft_drafts.proofs.Proofs.{proofs_put, no_proofs}
 use Rattle.ab_pbft_drafts.proofs.Certificates.{none_certified}
@@ -131,7 +130,7 @@ module _ (c : Cluster) (i me : ℕ) (placed : IsInstance i) (owned : me < 3 * c.
   here = record { cluster = c; order = record { seat = seat; memory = memory }; shelf = s; left = left }
 
   -- a call leaves it within bounds, and it sends what is of the grammar
-  pub call_on : (call : Call) → IsFormed call → IsInForm c i me (signing.after pen here call) × ((o : Out) → Contains (signing.sends pen here call) o → IsDraft o.msg)
+  pub call_on : (call : Call) → IsFormed call → IsInForm c i me (signing.after pen here call) × ((o : Out) → Contains (signing.sends pen here call) o → IsSent c.f o.msg)
   call_on call formed =
       let goes = event (read c i call) (puts c.f call (read c i call) s) (puts_are c i s call formed) (told_written c i call formed) in
       (record { base = base; written = written; cluster = refl; seated = refl; kept = goes.held }, goes.sent)
@@ -161,7 +160,7 @@ begun_in_form c i r e is = record {
 }
 
 abbrev GoesOn : Cluster → ℕ → ℕ → Pen → Signing → Call → Type 0
-GoesOn c i r pen q call = IsInForm c i r (signing.after pen q call) × ((o : Out) → Contains (signing.sends pen q call) o → IsDraft o.msg)
+GoesOn c i r pen q call = IsInForm c i r (signing.after pen q call) × ((o : Out) → Contains (signing.sends pen q call) o → IsSent c.f o.msg)
 
 call_within : (c : Cluster) (i r : ℕ) (pen : Pen) (q : Signing) (call : Call) → IsInstance i → r < 3 * c.f + 1 → SignsInForm pen → IsFormed call → IsInForm c i r q → GoesOn c i r pen q call
 call_within c i r pen q call placed owned signs formed is =
@@ -185,10 +184,18 @@ signing_in_form c i r q (by_call pen p call signs formed was) =
     let at = arises_placed c i r p was in
     (call_within c i r pen p call at.instance at.replica signs formed (signing_in_form c i r p was)).0
 
+signing_sends : (c : Cluster) (i r : ℕ) (pen : Pen) (q : Signing) (call : Call) → SignsInForm pen → ArisesAs signing c i r q → IsFormed call
+    → (o : Out) → Contains (signing.sends pen q call) o → IsSent c.f o.msg
+signing_sends c i r pen q call signs arises formed =
+    let at = arises_placed c i r q arises in
+    (call_within c i r pen q call at.instance at.replica signs formed (signing_in_form c i r q arises)).1
+
 pub signing_keeps_bytes : KeepsBytes signing pbft
 signing_keeps_bytes = record {
   written = λ c i r q arises. (signing_in_form c i r q arises).kept.core.executed;
-  drafts = λ c i r pen q call signs arises formed.
-      let at = arises_placed c i r q arises in
-      (call_within c i r pen q call at.instance at.replica signs formed (signing_in_form c i r q arises)).1;
+  drafts = λ c i r pen q call signs arises formed o has. (signing_sends c i r pen q call signs arises formed o has).draft;
 }
+
+pub signing_has_quorums : (c : Cluster) (i r : ℕ) (pen : Pen) (q : Signing) (call : Call) → SignsInForm pen → ArisesAs signing c i r q → IsFormed call
+    → (o : Out) → Contains (signing.sends pen q call) o → HasQuorum c.f o.msg
+signing_has_quorums c i r pen q call signs arises formed o has = (signing_sends c i r pen q call signs arises formed o has).enough

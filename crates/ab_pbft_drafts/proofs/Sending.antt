@@ -22,7 +22,6 @@ use Rattle.ab_msg.specs.declared.message.Out.{Out}
 use Rattle.ab_msg.specs.declared.value.Value.{Value}
 use Rattle.ab_msg.specs.Fields.{IsInstance, IsView}
 use Rattle.ab_msg.specs.Contents.{IsOfSlot}
-use Rattle.ab_msg.specs.Messages.{IsDraft}
 use Rattle.ab_msg.specs.Slots.{slot_digest}
 use Rattle.ab_abs.specs.FormLaws.{SignsInForm}
 use Rattle.ab_abs.specs.Values.{goes}
@@ -42,7 +41,7 @@ use Rattle.ab_slots.specs.Deeds.{deeds_of, prepared_in, told_in}
 use Rattle.ab_pbft_shelf.specs.declared.author.Author.{Author}
 use Rattle.ab_pbft_shelf.specs.Shelves.{certified_by}
 use Rattle.ab_pbft_shelf.specs.Posts.{Post, to_others, commit_message, ballot_by, sig_of, posts, posts_all}
-use Rattle.ab_pbft_drafts.specs.Bounds.{IsValueAt, IsCertAt, IsCore, IsBounded}
+use Rattle.ab_pbft_drafts.specs.Bounds.{IsValueAt, IsCertAt, IsCore, IsSent, IsBounded}
 use Rattle.ab_pbft_drafts.proofs.Ballots.{ballots_put, enough_signed}
 use Rattle.ab_pbft_drafts.proofs.Certificates.{length-slot_digest, certified_set}
 use Rattle.ab_pbft_drafts.proofs.Values.{written_executed}
@@ -62,23 +61,23 @@ oldest-last (y ∷ xs) x = ap (λ l. l ++ y ∷ []) (oldest-last xs x)
 
 -- ---- to the others
 
-others_draft : (n me : ℕ) (says : ℕ → Msg) → ((r : ℕ) → IsDraft (says r)) → (o : Out) → Contains (to_others n me says) o → IsDraft o.msg
-others_draft zero me says each o has = absurd (Contains-none o has)
-others_draft (suc n) me says each o has =
+others_sent : (f n me : ℕ) (says : ℕ → Msg) → ((r : ℕ) → IsSent f (says r)) → (o : Out) → Contains (to_others n me says) o → IsSent f o.msg
+others_sent f zero me says each o has = absurd (Contains-none o has)
+others_sent f (suc n) me says each o has =
     elim (Contains-append_cases (to_others n me says) (if n == me then [] else record { to = Replica n; msg = says n } ∷ []) o has) [
-      | inl before ↦ others_draft n me says each o before
+      | inl before ↦ others_sent f n me says each o before
       | inr last ↦ at (n == me) last
     ]
   where
-    at : (own : Bool) → Contains (if own then [] else record { to = Replica n; msg = says n } ∷ []) o → IsDraft o.msg
+    at : (own : Bool) → Contains (if own then [] else record { to = Replica n; msg = says n } ∷ []) o → IsSent f o.msg
     at true last = absurd (Contains-none o last)
-    at false last = subst (λ (z : Out). IsDraft z.msg) (Contains-one (record { to = Replica n; msg = says n }) o last) (each n)
+    at false last = subst (λ (z : Out). IsSent f z.msg) (Contains-one (record { to = Replica n; msg = says n }) o last) (each n)
 
-pub sent_more : (n me : ℕ) (says : ℕ → Msg) (sent : List Out) → ((o : Out) → Contains sent o → IsDraft o.msg) → ((r : ℕ) → IsDraft (says r)) → (o : Out) → Contains (sent ++ to_others n me says) o → IsDraft o.msg
-sent_more n me says sent before each o has =
+pub sent_more : (f n me : ℕ) (says : ℕ → Msg) (sent : List Out) → ((o : Out) → Contains sent o → IsSent f o.msg) → ((r : ℕ) → IsSent f (says r)) → (o : Out) → Contains (sent ++ to_others n me says) o → IsSent f o.msg
+sent_more f n me says sent before each o has =
     elim (Contains-append_cases sent (to_others n me says) o has) [
       | inl old ↦ before o old
-      | inr now ↦ others_draft n me says each o now
+      | inr now ↦ others_sent f n me says each o now
     ]
 
 pub limit_small : (c : Cluster) (i : ℕ) → limit_of c.plan i ≤ 16
@@ -109,7 +108,7 @@ own_author c i me = record { cluster = c; instance = i; me = me }
 pub record IsPosted (c : Cluster) (i : ℕ) (s : State Value) (votes : List (SlotVote (List ℕ))) (changes : List (Kept Value)) (requests : List Request) (p : Post) : Type 0 where
   pub held : IsBounded c.f (limit_of c.plan i) s votes changes requests p.shelf
   pub pen : SignsInForm p.pen
-  pub sent : (o : Out) → Contains p.sent o → IsDraft o.msg
+  pub sent : (o : Out) → Contains p.sent o → IsSent c.f o.msg
 
 -- what it has told by these steps, the newest first
 abbrev pub told_by : Author → List OrderStep → Post → Post
@@ -148,7 +147,8 @@ module _ (c : Cluster) (i me : ℕ) (placed : IsInstance i) (owned : me < 3 * c.
             tags = h.tags;
           };
           pen = was.pen;
-          sent = sent_more (3 * c.f + 1) me (λ r. msg.Prepare (record { maker = me; content = content; sig = sig })) p.sent was.sent (λ r. (refl, (of_slot s.view s.signed value core.view within, was.pen content p.pen.used)));
+          sent = sent_more c.f (3 * c.f + 1) me (λ r. msg.Prepare (record { maker = me; content = content; sig = sig })) p.sent was.sent
+              (λ r. record { draft = (refl, (of_slot s.view s.signed value core.view within, was.pen content p.pen.used)); enough = tt });
         }
 
     -- it prepares a slot
@@ -178,7 +178,8 @@ module _ (c : Cluster) (i me : ℕ) (placed : IsInstance i) (owned : me < 3 * c.
             tags = h.tags;
           };
           pen = was.pen;
-          sent = sent_more (3 * c.f + 1) me (λ r. commit_message by s.view s.prepared value) p.sent was.sent (λ r. of_slot s.view s.prepared value core.view (omega (arith, inside, core.few)));
+          sent = sent_more c.f (3 * c.f + 1) me (λ r. commit_message by s.view s.prepared value) p.sent was.sent
+              (λ r. record { draft = of_slot s.view s.prepared value core.view (omega (arith, inside, core.few)); enough = tt });
         })
 
     -- it executes a slot

@@ -4,11 +4,15 @@ use Rattle.ab_num.specs.declared.cluster.Cluster.{Cluster}
 use Rattle.ab_num.specs.Places.{limit_of}
 use Rattle.ab_hist.specs.declared.request.Request.{Request}
 use Rattle.ab_msg.specs.declared.change.Proof.{Proof}
+use Rattle.ab_msg.specs.declared.message.Msg.{Msg}
+use Rattle.ab_msg.specs.declared.message.Msg.TheVariants as msg
 use Rattle.ab_msg.specs.declared.value.Value.{Value}
 use Rattle.ab_msg.specs.declared.value.Value.TheVariants.{Base, Request as Order}
 use Rattle.ab_msg.specs.Fields.{IsView, IsRequest, IsWritten, IsSig}
 use Rattle.ab_msg.specs.Certs.{AreAborts, ArePrepares, IsProof}
+use Rattle.ab_msg.specs.Messages.{IsDraft}
 use Rattle.ab_abs.specs.Values.{list_of}
+use Rattle.ab_lock.specs.Quorums.{quorum}
 use Rattle.ab_lock.specs.Steps.{Cert, State, cert_at}
 use Rattle.ab_lock.specs.Votes.{SlotVote}
 use Rattle.ab_lock.specs.ViewChanges.{Kept}
@@ -84,6 +88,17 @@ pub record AreProofs (changes : List (Kept Value)) (proofs : List Proof) : Type 
 -- tags of 32 bytes
 abbrev pub HasTags : Tagged → Type 0
 HasTags t = (tag : ℕ × List ℕ) → Contains t.tags.items tag → length tag.1 ≡ 32
+
+-- ---- what is sent
+
+-- a NEW-VIEW has the view changes of one quorum
+abbrev pub HasQuorum : ℕ → Msg → Type 0
+HasQuorum f (msg.NewView content tag changes) = length changes ≡ quorum f
+HasQuorum f _ = Unit {0}
+
+pub record IsSent (f : ℕ) (m : Msg) : Type 0 where
+  pub draft : IsDraft m
+  pub enough : HasQuorum f m
 
 -- ---- all of it
 

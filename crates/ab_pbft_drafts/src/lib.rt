@@ -3,4 +3,4 @@
 
 mod laws;
 
-pub use laws::{replicas_keep_bytes, replicas_stay_in_form};
+pub use laws::{new_views_have_quorums, replicas_keep_bytes, replicas_stay_in_form};

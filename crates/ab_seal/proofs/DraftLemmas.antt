@@ -29,7 +29,7 @@ use Rattle.ab_msg.specs.Claims.{instance_of}
 use Rattle.ab_msg.specs.declared.chain_tags.TagBetween.{TagBetween}
 use Rattle.ab_msg.specs.Fields.{IsBetween, IsParty, IsTag, above, AreTags}
 use Rattle.ab_msg.specs.Contents.{spell_content}
-use Rattle.ab_msg.specs.Messages.{IsDraft, IsMessage}
+use Rattle.ab_msg.specs.Messages.{HasFewChanges, IsDraft, IsMessage}
 use Rattle.ab_seal.specs.Receivers.{is_in_front, is_receiver}
 use Rattle.ab_seal.specs.Sealing.{answer_tags, forward_tags, own_tags, reach_of, sealed, tag_for, tag_made, tags_at, tags_made, tagged}
 
@@ -190,7 +190,21 @@ tagged-message ring to (msg.PrePrepare content tag offer) bounds me h = ((h.0, l
 tagged-message ring to (msg.Prepare prepare) bounds me h = h
 tagged-message ring to (msg.Commit content tag) bounds me h = (h, length-tag_made ring to (spell_content content))
 tagged-message ring to (msg.ViewChange change) bounds me h = h
-tagged-message ring to (msg.NewView content tag changes) bounds me h = (h.0, (length-tag_made ring to (spell_content content), h.1))
+tagged-message ring to (msg.NewView content tag changes) bounds me h = (h.0, (length-tag_made ring to (spell_content content), ((h.1.0.0, omega (arith, h.1.0.1)), h.1.1)))
+
+tagged-few : (ring : Ring) (to : Party) (m : Msg) → IsDraft m → HasFewChanges (tagged ring to m)
+tagged-few ring to (msg.Req content tags) h = tt
+tagged-few ring to (msg.Order content client_tag tag) h = tt
+tagged-few ring to (msg.Resp content tag) h = tt
+tagged-few ring to (msg.Chain i m n d reply tags) h = tt
+tagged-few ring to (msg.Panic content tag) h = tt
+tagged-few ring to (msg.Abort abort) h = tt
+tagged-few ring to (msg.Init cert) h = tt
+tagged-few ring to (msg.PrePrepare content tag offer) h = tt
+tagged-few ring to (msg.Prepare prepare) h = tt
+tagged-few ring to (msg.Commit content tag) h = tt
+tagged-few ring to (msg.ViewChange change) h = tt
+tagged-few ring to (msg.NewView content tag changes) h = h.1.0.1
 
 pub length-sealed : (ring : Ring) (o : Out) → IsInBounds ring.f ring.clients → IsTrue (is_party ring.f ring.clients ring.me) → IsDraft o.msg → length (sealed ring o) ≤ 4194304
-length-sealed ring o bounds me draft = short-message (tagged ring o.to o.msg) (tagged-message ring o.to o.msg bounds me draft)
+length-sealed ring o bounds me draft = short-message (tagged ring o.to o.msg) (tagged-message ring o.to o.msg bounds me draft) (tagged-few ring o.to o.msg draft)

@@ -1,29 +1,28 @@
 -- The signature keys of a cluster's replicas, and what each of them signs.
-use Rattle.std.specs.Prelude.{ℕ, ◌+◌, ◌*◌, ◌^◌, List, [], map, Option, None, Some, slice_get}
+use Rattle.std.specs.Prelude.{ℕ, ◌+◌, ◌*◌, List, [], map, Option, None, Some, slice_get}
 use Rattle.std.specs.List.{range_with_len}
-use Rattle.ab_num.specs.declared.plan.Height.{Height}
-use Rattle.ab_lms.specs.Nodes.{levels}
-use Rattle.ab_lms.specs.Signatures.{lms_signature, public_key}
+use Rattle.ab_num.specs.declared.plan.Scheme.{Scheme}
 use Rattle.ab_keys.specs.Secrets.{tree_name, tree_seed}
 use Rattle.ab_msg.specs.Contents.{spell_content}
 use Rattle.ab_msg.specs.Pens.{Pen}
+use Rattle.ab_scheme.specs.Schemes.{public_by, signature_by, signatures_in}
 use Rattle.ab_sign.specs.declared.key.SignKey.{SignKey}
 use Rattle.ab_sign.specs.declared.key.SignKey.TheVariants.{Secret, Public}
 
 -- ---- one key
 
 abbrev pub public_in : SignKey → List ℕ
-public_in (Secret k) = public_key k.height k.id k.seed
+public_in (Secret k) = public_by k.scheme k.id k.seed
 public_in (Public bytes) = bytes
 
 -- how many signatures it can make: none without the secret
 abbrev pub leaves_in : SignKey → ℕ
-leaves_in (Secret k) = 2 ^ levels k.height
+leaves_in (Secret k) = signatures_in k.scheme
 leaves_in (Public bytes) = 0
 
--- its signature of a text by leaf n
+-- its signature number n, which is of a text
 abbrev pub signature_in : SignKey → ℕ → List ℕ → List ℕ
-signature_in (Secret k) n text = lms_signature k.height k.id k.seed n text
+signature_in (Secret k) n text = signature_by k.scheme k.id k.seed n text
 signature_in (Public bytes) n text = []
 
 -- ---- the keys of replicas, from replica 0 on
@@ -48,7 +47,7 @@ public_of keys r = public_at (slice_get keys r)
 abbrev pub leaves_of : List SignKey → ℕ → ℕ
 leaves_of keys r = leaves_at (slice_get keys r)
 
--- replica r's signature of a text by leaf n
+-- replica r's signature number n, which is of a text
 abbrev pub signature_of : List SignKey → ℕ → ℕ → List ℕ → List ℕ
 signature_of keys r n text = signature_at (slice_get keys r) n text
 
@@ -64,9 +63,9 @@ pub record Signing : Type 0 where
 
 -- ---- by a seed
 
-abbrev pub derived_key : Height → List ℕ → ℕ → SignKey
-derived_key lms seed r = Secret (record { height = lms; id = tree_name seed r; seed = tree_seed seed r })
+abbrev pub derived_key : Scheme → List ℕ → ℕ → SignKey
+derived_key scheme seed r = Secret (record { scheme = scheme; id = tree_name seed r; seed = tree_seed seed r })
 
 -- the keys of all replicas where f may be faulty
-abbrev pub derived_keys : ℕ → Height → List ℕ → List SignKey
-derived_keys f lms seed = map (derived_key lms seed) (range_with_len 0 (3 * f + 1))
+abbrev pub derived_keys : ℕ → Scheme → List ℕ → List SignKey
+derived_keys f scheme seed = map (derived_key scheme seed) (range_with_len 0 (3 * f + 1))

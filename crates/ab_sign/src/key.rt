@@ -1,17 +1,17 @@
 //! The signature key of one replica.
 
 ghost use Rattle.std.specs.Prelude.{◌≡◌, ◌<◌, IfOk};
-ghost use Rattle.ab_lms.specs.Signatures.{Verifies};
+ghost use Rattle.ab_scheme.specs.Schemes.{VerifiesBy};
 ghost use Rattle.ab_sign.specs.Signers.{leaves_in, public_in, signature_in};
 
-use crate::secret::SecretKey;
-use ab_num::{Height, OutOfMemory};
+use ab_num::OutOfMemory;
+use ab_scheme::{PublicKey, SecretKey, signatures};
 use std::alloc::Global;
 
 /// What is kept of a replica's key: the secret, or the public key alone.
 pub enum SignKey {
     Secret(SecretKey),
-    Public([u8; 56]),
+    Public(PublicKey),
 }
 
 // Written out, so that no crate above makes and proves it anew.
@@ -26,12 +26,12 @@ impl Drop for SignKey {
 
 impl SignKey {
     /// The public key.
-    pub fn public(&self) -> [u8; 56]
+    pub fn public(&self) -> PublicKey
         ensures { result ≡ public_in self.now }
     {
         match self {
             SignKey::Secret(key) => key.public(),
-            SignKey::Public(bytes) => *bytes,
+            SignKey::Public(key) => *key,
         }
     }
 
@@ -40,19 +40,16 @@ impl SignKey {
         ensures { result ≡ leaves_in self.now }
     {
         match self {
-            SignKey::Secret(key) => match key.height() {
-                Height::Five => 32,
-                Height::Ten => 1024,
-            },
+            SignKey::Secret(key) => signatures(key.scheme()),
             SignKey::Public(_) => 0,
         }
     }
 
-    /// The signature of `msg` by leaf `q`.
+    /// Its signature number `q`, which is of `msg`.
     pub fn sign_at(&self, alloc: Global, q: u64, msg: &[u8]) -> Result<Vec<u8>, OutOfMemory>
         requires { q < leaves_in self.now }
         ensures signature { IfOk result (λ v. v.items ≡ signature_in self.now q msg.now) }
-        ensures verifies { IfOk result (λ v. Verifies (public_in self.now) msg.now v.items) }
+        ensures verifies { IfOk result (λ v. VerifiesBy (public_in self.now) msg.now v.items) }
     {
         match self {
             SignKey::Secret(key) => key.sign_at(alloc, q, msg),

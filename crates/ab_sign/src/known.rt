@@ -1,17 +1,24 @@
 //! A bounded set of signatures that verify.
 
-ghost use Rattle.std.specs.Prelude.{◌≤◌, ◌+◌, ◌↔◌, IsTrue};
+ghost use Rattle.std.specs.Prelude.{◌≡◌, ◌≤◌, ◌+◌, ◌↔◌, IsTrue, length};
 ghost use Rattle.ab_lms.specs.Signatures.{Verifies};
+ghost use Rattle.ab_hss.specs.TwoLevels.{HssVerifies};
+ghost use Rattle.ab_scheme.specs.Schemes.{VerifiesBy};
 ghost use Rattle.ab_sign.specs.Kept.{bytes_in};
 
 use crate::sure::Sure;
+use ab_hss::has_two_levels;
 use ab_lms::verify;
 use ab_num::OutOfMemory;
+use ab_scheme::{PublicKey, verify_by};
 use indexmap::IndexMap;
 use std::alloc::Global;
 
 /// How many bytes of contents and signatures are held at most.
 const LIMIT: usize = 8_388_608;
+
+/// The bytes of a signature in two levels.
+const TWO_LEVELS: usize = 5076;
 
 /// Signatures that verify. A signature is found by the 32 bytes that its maker chose for it, so
 /// looking one up takes no longer the more there are. Where the bytes of contents and signatures would
@@ -29,11 +36,23 @@ impl Drop for Known {
     }
 }
 
-/// The value C of a signature, by which it is kept. Nothing is asked of it.
+/// The value C of the signature of the content, by which it is kept. In two levels it stands behind the
+/// signed key of the bottom, which is the same for 1,024 signatures. Nothing is asked of it.
 fn key_of(sig: &[u8]) -> Option<[u8; 32]> {
-    let behind = sig.get(8..)?;
+    let at = if sig.len() == TWO_LEVELS { 2576 } else { 8 };
+    let behind = sig.get(at..)?;
     let (key, _) = behind.split_first_chunk::<32>()?;
     Some(*key)
+}
+
+/// The public key of one level that these bytes are.
+fn one_level(bytes: &[u8]) -> PublicKey
+    requires { length bytes.now ≡ 56 }
+    ensures { result ≡ bytes.now }
+{
+    let mut own = [0; 56];
+    own.copy_from_slice(bytes);
+    PublicKey::one_level(own)
 }
 
 impl Known {
@@ -46,8 +65,8 @@ impl Known {
     }
 
     /// Whether the signature is known to verify.
-    pub fn has(&self, public: &[u8; 56], content: &[u8], sig: &[u8]) -> bool
-        ensures { IsTrue result → Verifies public.now content.now sig.now }
+    pub fn has(&self, public: &PublicKey, content: &[u8], sig: &[u8]) -> bool
+        ensures { IsTrue result → VerifiesBy public.now content.now sig.now }
     {
         let Some(key) = key_of(sig) else {
             return false;
@@ -59,36 +78,73 @@ impl Known {
     }
 
     /// Whether the signature verifies. It is computed only where it isn't known. No memory is taken.
-    pub fn verifies(&self, public: &[u8; 56], content: &[u8], sig: &[u8]) -> bool
-        ensures { IsTrue result ↔ Verifies public.now content.now sig.now }
+    pub fn verifies(&self, public: &PublicKey, content: &[u8], sig: &[u8]) -> bool
+        ensures { IsTrue result ↔ VerifiesBy public.now content.now sig.now }
     {
-        self.has(public, content, sig) || verify(public, content, sig)
+        self.has(public, content, sig) || verify_by(public.as_slice(), content, sig)
     }
 
     /// Whether the signature verifies. It is computed only where it isn't known, and then kept where
     /// there is memory for it.
-    pub fn check(&mut self, alloc: Global, public: &[u8; 56], content: &[u8], sig: &[u8]) -> bool
-        ensures { IsTrue result ↔ Verifies public.now content.now sig.now }
+    pub fn check(&mut self, alloc: Global, public: &PublicKey, content: &[u8], sig: &[u8]) -> bool
+        ensures { IsTrue result ↔ VerifiesBy public.now content.now sig.now }
     {
         if self.has(public, content, sig) {
             return true;
         }
-        if !verify(public, content, sig) {
+        if !self.computed(alloc, public.as_slice(), content, sig) {
             return false;
         }
         let _ = self.learn(alloc, public, content, sig);
         true
     }
 
+    /// Whether the top's key signed the bottom's, both of one level. It is computed only where it isn't
+    /// known, and then kept.
+    fn check_key(&mut self, alloc: Global, top: &[u8], key: &[u8], sig: &[u8]) -> bool
+        requires { length top.now ≡ 56 }
+        ensures { IsTrue result ↔ Verifies top.now key.now sig.now }
+    {
+        let public = one_level(top);
+        if self.has(&public, key, sig) {
+            return true;
+        }
+        if !verify(top, key, sig) {
+            return false;
+        }
+        let _ = self.learn(alloc, &public, key, sig);
+        true
+    }
+
+    /// Whether the signature verifies in two levels. The signed key of the bottom is the same for 1,024
+    /// signatures, so it is known for most of them.
+    fn computed_below(&mut self, alloc: Global, public: &[u8], content: &[u8], sig: &[u8]) -> bool
+        ensures { IsTrue result ↔ HssVerifies public.now content.now sig.now }
+    {
+        if !has_two_levels(public, sig) {
+            return false;
+        }
+        let key = &sig[2512..2568];
+        self.check_key(alloc, &public[4..60], key, &sig[4..2512])
+            && verify(key, content, &sig[2568..5076])
+    }
+
+    /// Whether the signature verifies, where it isn't known.
+    fn computed(&mut self, alloc: Global, public: &[u8], content: &[u8], sig: &[u8]) -> bool
+        ensures { IsTrue result ↔ VerifiesBy public.now content.now sig.now }
+    {
+        verify(public, content, sig) || self.computed_below(alloc, public, content, sig)
+    }
+
     /// Keeps a signature that verifies. Where memory is refused, it isn't kept.
     pub fn learn(
         &mut self,
         alloc: Global,
-        public: &[u8; 56],
+        public: &PublicKey,
         content: &[u8],
         sig: &[u8],
     ) -> Result<(), OutOfMemory>
-        requires { Verifies public.now content.now sig.now }
+        requires { VerifiesBy public.now content.now sig.now }
     {
         let Some(key) = key_of(sig) else {
             return Ok(());

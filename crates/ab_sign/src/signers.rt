@@ -2,15 +2,14 @@
 
 ghost use Rattle.std.specs.Prelude.{◌≡◌, ◌<◌, IfOk, slice_get};
 ghost use Rattle.std.specs.Option.{option_copied};
-ghost use Rattle.ab_lms.specs.Verified.{verified};
+ghost use Rattle.ab_scheme.specs.Schemes.{verified_by};
 ghost use Rattle.ab_sign.specs.Signers.{derived_key, derived_keys, leaves_of, public_of, signature_of};
 
 use crate::key::SignKey;
 use crate::known::Known;
-use crate::secret::SecretKey;
 use ab_keys::{tree_name, tree_seed};
-use ab_lms::verify;
-use ab_num::{Cluster, Height, OutOfMemory};
+use ab_num::{Cluster, OutOfMemory, Scheme};
+use ab_scheme::{PublicKey, SecretKey, verify_by};
 use std::alloc::Global;
 use std::cell::RefCell;
 use std::marker::Model;
@@ -35,10 +34,10 @@ impl Model for Signers {
 }
 
 /// The key that a seed gives to replica `r`.
-fn derived_key(lms: Height, seed: &[u8; 32], r: u8) -> SignKey
-    ensures { result ≡ derived_key lms seed.now r }
+fn derived_key(scheme: Scheme, seed: &[u8; 32], r: u8) -> SignKey
+    ensures { result ≡ derived_key scheme seed.now r }
 {
-    SignKey::Secret(SecretKey::new(lms, tree_name(seed, r), tree_seed(seed, r)))
+    SignKey::Secret(SecretKey::new(scheme, tree_name(seed, r), tree_seed(seed, r)))
 }
 
 impl Signers {
@@ -56,14 +55,14 @@ impl Signers {
     pub fn derive(
         alloc: Global,
         c: &Cluster,
-        lms: Height,
+        scheme: Scheme,
         seed: &[u8; 32],
     ) -> Result<Signers, OutOfMemory>
-        ensures { IfOk result (λ s. s ≡ derived_keys c.now.f lms seed.now) }
+        ensures { IfOk result (λ s. s ≡ derived_keys c.now.f scheme seed.now) }
     {
         let mut keys = Vec::with_capacity(alloc, usize::from(c.replicas()))?;
         'replicas: for r in 0..c.replicas() {
-            keys.push(derived_key(lms, seed, r))?;
+            keys.push(derived_key(scheme, seed, r))?;
         }
         Ok(Signers::of(alloc, keys))
     }
@@ -86,18 +85,18 @@ impl Signers {
     }
 
     /// Whether the signature verifies under a public key.
-    fn checks(&self, alloc: Global, public: &[u8; 56], text: &[u8], sig: &[u8]) -> bool
-        ensures { result ≡ verified public.now text.now sig.now }
+    fn checks(&self, alloc: Global, public: &PublicKey, text: &[u8], sig: &[u8]) -> bool
+        ensures { result ≡ verified_by public.now text.now sig.now }
     {
         match self.known.try_borrow_mut() {
             Ok(mut known) => known.check(alloc, public, text, sig),
-            Err(_) => verify(public, text, sig),
+            Err(_) => verify_by(public.as_slice(), text, sig),
         }
     }
 
     /// Whether it is replica `r`'s signature over the text. It is computed only where it isn't known.
     pub fn verifies(&self, alloc: Global, r: u8, text: &[u8], sig: &[u8]) -> bool
-        ensures { result ≡ verified (public_of self.now r) text.now sig.now }
+        ensures { result ≡ verified_by (public_of self.now r) text.now sig.now }
     {
         match self.key(r) {
             Some(key) => self.checks(alloc, &key.public(), text, sig),
@@ -105,7 +104,7 @@ impl Signers {
         }
     }
 
-    /// The signature of a text by leaf `q` of replica `r`. It is then known to verify.
+    /// Signature number `q` of replica `r`, which is of a text. It is then known to verify.
     pub fn sign_at(&self, alloc: Global, r: u8, q: u64, text: &[u8]) -> Result<Vec<u8>, OutOfMemory>
         requires { q < leaves_of self.now r }
         ensures { IfOk result (λ v. v.items ≡ signature_of self.now r q text.now) }

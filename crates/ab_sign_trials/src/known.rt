@@ -2,6 +2,7 @@
 
 use ab_lms::Signer;
 use ab_num::Height;
+use ab_scheme::PublicKey;
 use ab_sign::Known;
 use std::alloc::Global;
 use std::process::Abort;
@@ -11,14 +12,13 @@ fn expect_learned(
     rt: &impl Abort,
     alloc: Global,
     known: &mut Known,
-    public: &[u8; 56],
+    public: &PublicKey,
     sig: &[u8],
 ) {
     assert!(rt; !known.has(public, b"content", sig));
-    if known.verifies(public, b"content", sig) {
-        assert!(rt; known.learn(alloc, public, b"content", sig).is_ok());
-    }
+    assert!(rt; known.check(alloc, public, b"content", sig));
     assert!(rt; known.has(public, b"content", sig));
+    assert!(rt; known.verifies(public, b"content", sig));
     assert!(rt; !known.has(public, b"contents", sig));
 }
 
@@ -26,7 +26,7 @@ fn expect_learned(
 fn what_is_learned_is_known(rt: HostRuntime) {
     let alloc = rt.alloc();
     let mut signer = Signer::new(alloc, Height::Five, [7; 16], [9; 32]).expect(&rt, "memory");
-    let public = signer.public();
+    let public = PublicKey::one_level(signer.public());
     let signed = signer.sign(alloc, b"content");
     drop(signer);
     let sig = signed.expect(&rt, "memory");

@@ -1,4 +1,4 @@
-//! Tests of key rings, one-time signatures, trees, signers and signatures in two levels: apart from their crates, so that these aren't proved once more for them.
+//! Tests of key rings, one-time signatures, trees, signers, signatures in two levels and schemes: apart from their crates, so that these aren't proved once more for them.
 #![tactic(auto)]
 
 #[cfg(test)]
@@ -7,6 +7,8 @@ mod known;
 mod once;
 #[cfg(test)]
 mod rings;
+#[cfg(test)]
+mod schemes;
 #[cfg(test)]
 mod signers;
 #[cfg(test)]

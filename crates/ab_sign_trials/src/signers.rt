@@ -2,16 +2,18 @@
 
 use ab_check::Checker;
 use ab_keys::KeyRing;
-use ab_lms::verify;
 use ab_mac::hash;
 use ab_msg::{Content, Notary};
-use ab_num::{Cluster, Height, Party, Plan};
-use ab_sign::{Pen, SecretKey, SignKey, Signers, Verifier};
+use ab_num::{Cluster, Height, Party, Plan, Scheme};
+use ab_scheme::{SecretKey, verify_by};
+use ab_sign::{Pen, SignKey, Signers, Verifier};
 use ab_write::content_bytes;
 use std::alloc::Global;
 use std::process::Abort;
 
 const SEED: [u8; 32] = [0; 32];
+
+const FIVE: Scheme = Scheme::Lms(Height::Five);
 
 /// The digest of the empty base.
 const BASE: [u8; 32] = [
@@ -48,7 +50,7 @@ fn expect_first(rt: &impl Abort, alloc: Global, signers: &Signers, content: &Con
 #[test]
 fn signs_as_others_do(rt: HostRuntime) {
     let cluster = Cluster::new(1, 1, Plan::Backup).expect(&rt, "a cluster");
-    let signers = Signers::derive(rt.alloc(), &cluster, Height::Five, &SEED).expect(&rt, "memory");
+    let signers = Signers::derive(rt.alloc(), &cluster, FIVE, &SEED).expect(&rt, "memory");
     expect_first(&rt, rt.alloc(), &signers, &prepare(0));
 }
 
@@ -89,7 +91,7 @@ fn signed_and_checked(rt: HostRuntime) {
     let alloc = rt.alloc();
     let cluster = Cluster::new(1, 1, Plan::Backup).expect(&rt, "a cluster");
     let ring = KeyRing::derive(alloc, &cluster, &SEED, Party::Client(0)).expect(&rt, "memory");
-    let signers = Signers::derive(alloc, &cluster, Height::Five, &SEED).expect(&rt, "memory");
+    let signers = Signers::derive(alloc, &cluster, FIVE, &SEED).expect(&rt, "memory");
     expect_last(&rt, alloc, &signers, &ring, &prepare(1));
 }
 
@@ -104,10 +106,10 @@ fn expect_only(rt: &impl Abort, alloc: Global, signers: &Signers, sig: &[u8]) {
 #[test]
 fn public_keys_do_not_sign(rt: HostRuntime) {
     let alloc = rt.alloc();
-    let secret = SecretKey::new(Height::Five, [1; 16], SEED);
+    let secret = SecretKey::new(FIVE, [1; 16], SEED);
     let sig = secret.sign_at(alloc, 3, b"text").expect(&rt, "memory");
     let public = secret.public();
-    assert!(rt; verify(&public, b"text", &sig));
+    assert!(rt; verify_by(public.as_slice(), b"text", &sig));
     let mut keys = Vec::new(alloc);
     keys.push(SignKey::Public(public)).expect(&rt, "memory");
     expect_only(&rt, alloc, &Signers::of(alloc, keys), &sig);

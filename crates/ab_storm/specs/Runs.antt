@@ -3,6 +3,7 @@ use Rattle.std.specs.Prelude.{◌≡◌, ◌↔◌, ⊤, ℕ, zero, suc, Bool, I
 use Rattle.std.specs.List.{range_with_len}
 use Rattle.ab_num.specs.declared.cluster.Cluster.{Cluster}
 use Rattle.ab_num.specs.declared.plan.Height.TheVariants.{Ten}
+use Rattle.ab_num.specs.declared.plan.Scheme.TheVariants.{Lms}
 use Rattle.ab_text.specs.declared.event.Event.{Event}
 use Rattle.ab_text.specs.declared.line.Premise.TheVariants.{Held}
 use Rattle.ab_words.specs.Commands.{StormCommand}
@@ -46,7 +47,7 @@ drawn_events proto (suc n) s w = (drawn_at s w).0 ∷ drawn_behind (stepped prot
 
 -- a storm's cluster, in which no party is faulty
 abbrev pub storm_setup : Cluster → Setup
-storm_setup c = record { cluster = c; faulty = []; lms = Ten }
+storm_setup c = record { cluster = c; faulty = []; lms = Lms Ten }
 
 -- the storm of a seed before its first event
 abbrev pub storm_of : Cluster → ℕ → Storm

@@ -14,7 +14,7 @@ ghost use Rattle.ab_storm.specs.Drawn.{Draws};
 use crate::generator::Storm;
 use ab_abs::Protocol;
 use ab_cast::Setup;
-use ab_num::{Height, OutOfMemory};
+use ab_num::{Height, OutOfMemory, Scheme};
 use ab_svc::Service;
 use ab_text::{Event, Items};
 use ab_words::StormCommand;
@@ -165,7 +165,7 @@ pub fn storm<S: Service, P: Protocol<S>>(
     ensures replicas { IfOk result (λ s. length s.world.cast.replicas ≡ 3 * s.world.cast.setup.cluster.f + 1) }
     ensures cause { IfErr result (λ e. StormCause P.proto e asked.now) }
 {
-    let setup = Setup::new(alloc, asked.cluster(), &[], Height::Ten)?;
+    let setup = Setup::new(alloc, asked.cluster(), &[], Scheme::Lms(Height::Ten))?;
     storm_over(alloc, asked, setup)
 }
 

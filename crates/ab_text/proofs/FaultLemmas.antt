@@ -1,14 +1,15 @@
 -- A fault stays whatever comes after its line, so no schedule begins with the lines up to it.
 use Rattle.std.proofs.Common.{◌≡◌, ℕ, suc, ◌+◌, ◌≤◌, List, [], ◌∷◌, ◌++◌, Bool, true, false, Option, Some, None, Result, Ok, Err, length, take, codes, refl, sym, ap, ◌∙◌, subst, append_assoc, arith, inl, inr, ◌⊎◌, if◌then◌else◌, nat_le, ◌&&◌}
-use Rattle.std.specs.Str.{bytes_eq}
 use Rattle.ab_num.specs.declared.plan.Plan.{Plan}
 use Rattle.ab_num.specs.declared.plan.ServiceName.{ServiceName}
+use Rattle.ab_num.specs.declared.plan.Scheme.{Scheme}
 use Rattle.ab_text.specs.declared.fault.TextFault.{TextFault}
 use Rattle.ab_text.specs.declared.fault.TextFault.TheVariants.{BadLine, NoEnd}
+use Rattle.ab_text.specs.declared.version.Version.{Version}
 use Rattle.ab_text.specs.Lines.{lines_of}
-use Rattle.ab_text.specs.Heads.{◌>>=◌, Script, line_at, number_at, number_after, within, spelled_in, taken, name_at, plan_line, plans, service_line, services, lms_line, heights, head_at}
+use Rattle.ab_text.specs.Heads.{◌>>=◌, Script, number_at, number_after, within, spelled_in, taken, name_at, abstract_line, versions, plan_line, plans, service_line, services, lms_line, schemes_of, head_at}
 use Rattle.ab_text.specs.Schedules.{ReadsEvents, ReadsFaulty, ReadsText, Continues, Ends, with_event, with_faulty}
-use Rattle.ab_text.specs.Spelling.{schedule_lines, IsSpelled}
+use Rattle.ab_text.specs.Spelling.{IsSpelled}
 use Rattle.ab_text.specs.Faults.{BeginsNone}
 use Rattle.ab_text.proofs.HeadLemmas.{script, from2, from3, from4, from5, from6}
 use Rattle.ab_text.proofs.SpellingLemmas.{lines_read, spelled_read}
@@ -118,41 +119,24 @@ step_sticks {A} n g k step on (l ∷ ls) m h =
           here n m l ls (λ ks. After (g ks)) (same_bad m n stop) (λ other. subst After (sym (bad other)) stop)
     ]
 
-sticks6 : (f : ℕ) (p : Plan) (c : ℕ) (v : ServiceName) → Sticks 6 (from6 f p c v)
-sticks6 f p c v = step_sticks 6 (name_at lms_line heights 6) (λ h ls. Ok (script f p c v h, ls)) (name_step lms_line heights 6) (λ h ls m r. faulty_stuck ls 7 (script f p c v h) m r)
+sticks6 : (w : Version) (f : ℕ) (p : Plan) (c : ℕ) (v : ServiceName) → Sticks 6 (from6 w f p c v)
+sticks6 w f p c v = step_sticks 6 (name_at lms_line (schemes_of w) 6) (λ h ls. Ok (script f p c v h, ls)) (name_step lms_line (schemes_of w) 6) (λ h ls m r. faulty_stuck ls 7 (script f p c v h) m r)
 
-sticks5 : (f : ℕ) (p : Plan) (c : ℕ) → Sticks 5 (from5 f p c)
-sticks5 f p c = step_sticks 5 (name_at service_line services 5) (from6 f p c) (name_step service_line services 5) (sticks6 f p c)
+sticks5 : (w : Version) (f : ℕ) (p : Plan) (c : ℕ) → Sticks 5 (from5 w f p c)
+sticks5 w f p c = step_sticks 5 (name_at service_line services 5) (from6 w f p c) (name_step service_line services 5) (sticks6 w f p c)
 
-sticks4 : (f : ℕ) (p : Plan) → Sticks 4 (from4 f p)
-sticks4 f p = step_sticks 4 (number_at (codes "clients ") 1 16 4) (from5 f p) (number_step (codes "clients ") 1 16 4) (sticks5 f p)
+sticks4 : (w : Version) (f : ℕ) (p : Plan) → Sticks 4 (from4 w f p)
+sticks4 w f p = step_sticks 4 (number_at (codes "clients ") 1 16 4) (from5 w f p) (number_step (codes "clients ") 1 16 4) (sticks5 w f p)
 
-sticks3 : (f : ℕ) → Sticks 3 (from3 f)
-sticks3 f = step_sticks 3 (name_at plan_line plans 3) (from4 f) (name_step plan_line plans 3) (sticks4 f)
+sticks3 : (w : Version) (f : ℕ) → Sticks 3 (from3 w f)
+sticks3 w f = step_sticks 3 (name_at plan_line plans 3) (from4 w f) (name_step plan_line plans 3) (sticks4 w f)
 
-sticks2 : Sticks 2 from2
-sticks2 = step_sticks 2 (number_at (codes "f ") 1 2 2) from3 (number_step (codes "f ") 1 2 2) sticks3
-
-pub line_step : (form l : List ℕ) (n : ℕ) → ((ls : Rest) → line_at form n (l ∷ ls) ≡ Ok ls) ⊎ ((ls : Rest) → line_at form n (l ∷ ls) ≡ Err (BadLine n))
-line_step form l n = by (bytes_eq l form)
-  where
-    by : (b : Bool) → ((ls : Rest) → (if b then Ok ls else Err (BadLine n)) ≡ Ok ls) ⊎ ((ls : Rest) → (if b then Ok ls else Err (BadLine n)) ≡ Err (BadLine n))
-    by true = inl (λ ls. refl)
-    by false = inr (λ ls. refl)
+sticks2 : (w : Version) → Sticks 2 (from2 w)
+sticks2 w = step_sticks 2 (number_at (codes "f ") 1 2 2) (from3 w) (number_step (codes "f ") 1 2 2) (sticks3 w)
 
 head_sticks : Sticks 1 head_at
 unfolding head_at
-head_sticks [] m h = absurd (no_end m 1 h)
-head_sticks (l ∷ ls) m h =
-    let After : Result Rest TextFault → Type 0 = λ o. Continues (o >>= from2) (Err (BadLine m)) in
-    elim (line_step (codes "abstract 1") l 1) [
-      | inl good ↦
-          later 1 m l ls (λ ks. Continues (from2 ks) (Err (BadLine m))) (λ ks. After (line_at (codes "abstract 1") 1 ks))
-          (sticks2 ls m (subst After (good ls) h)) (λ ks v. subst After (sym (good ks)) v)
-      | inr bad ↦
-          let stop : failed (BadLine m) ≡ failed (BadLine 1) = subst After (bad ls) h in
-          here 1 m l ls (λ ks. After (line_at (codes "abstract 1") 1 ks)) (same_bad m 1 stop) (λ other. subst After (sym (bad other)) stop)
-    ]
+head_sticks = step_sticks 1 (name_at abstract_line versions 1) from2 (name_step abstract_line versions 1) sticks2
 
 -- ---- where the end is missing
 
@@ -185,30 +169,24 @@ step_counts {A} n g k step on (l ∷ ls) m h =
       | inr bad ↦ absurd (no_bad m n (subst After (bad ls) h))
     ]
 
-counts6 : (f : ℕ) (p : Plan) (c : ℕ) (v : ServiceName) → Counts 6 (from6 f p c v)
-counts6 f p c v = step_counts 6 (name_at lms_line heights 6) (λ h ls. Ok (script f p c v h, ls)) (name_step lms_line heights 6) (λ h ls m r. faulty_count ls 7 (script f p c v h) m r)
+counts6 : (w : Version) (f : ℕ) (p : Plan) (c : ℕ) (v : ServiceName) → Counts 6 (from6 w f p c v)
+counts6 w f p c v = step_counts 6 (name_at lms_line (schemes_of w) 6) (λ h ls. Ok (script f p c v h, ls)) (name_step lms_line (schemes_of w) 6) (λ h ls m r. faulty_count ls 7 (script f p c v h) m r)
 
-counts5 : (f : ℕ) (p : Plan) (c : ℕ) → Counts 5 (from5 f p c)
-counts5 f p c = step_counts 5 (name_at service_line services 5) (from6 f p c) (name_step service_line services 5) (counts6 f p c)
+counts5 : (w : Version) (f : ℕ) (p : Plan) (c : ℕ) → Counts 5 (from5 w f p c)
+counts5 w f p c = step_counts 5 (name_at service_line services 5) (from6 w f p c) (name_step service_line services 5) (counts6 w f p c)
 
-counts4 : (f : ℕ) (p : Plan) → Counts 4 (from4 f p)
-counts4 f p = step_counts 4 (number_at (codes "clients ") 1 16 4) (from5 f p) (number_step (codes "clients ") 1 16 4) (counts5 f p)
+counts4 : (w : Version) (f : ℕ) (p : Plan) → Counts 4 (from4 w f p)
+counts4 w f p = step_counts 4 (number_at (codes "clients ") 1 16 4) (from5 w f p) (number_step (codes "clients ") 1 16 4) (counts5 w f p)
 
-counts3 : (f : ℕ) → Counts 3 (from3 f)
-counts3 f = step_counts 3 (name_at plan_line plans 3) (from4 f) (name_step plan_line plans 3) (counts4 f)
+counts3 : (w : Version) (f : ℕ) → Counts 3 (from3 w f)
+counts3 w f = step_counts 3 (name_at plan_line plans 3) (from4 w f) (name_step plan_line plans 3) (counts4 w f)
 
-counts2 : Counts 2 from2
-counts2 = step_counts 2 (number_at (codes "f ") 1 2 2) from3 (number_step (codes "f ") 1 2 2) counts3
+counts2 : (w : Version) → Counts 2 (from2 w)
+counts2 w = step_counts 2 (number_at (codes "f ") 1 2 2) (from3 w) (number_step (codes "f ") 1 2 2) (counts3 w)
 
 head_counts : Counts 1 head_at
 unfolding head_at
-head_counts [] m h = let e = same_end m 1 h in omega (arith, e)
-head_counts (l ∷ ls) m h =
-    let After : Result Rest TextFault → Type 0 = λ o. Continues (o >>= from2) (Err (NoEnd m)) in
-    elim (line_step (codes "abstract 1") l 1) [
-      | inl good ↦ (let e = counts2 ls m (subst After (good ls) h) in omega (arith, e))
-      | inr bad ↦ absurd (no_bad m 1 (subst After (bad ls) h))
-    ]
+head_counts = step_counts 1 (name_at abstract_line versions 1) from2 (name_step abstract_line versions 1) counts2
 
 -- ---- what it says of schedules
 
@@ -243,9 +221,9 @@ bad_line text n h =
     let bad = bad_at (lines_of text) n h in (
       bad.low,
       bad.high,
-      λ s more schedule is.
-          let mine : Continues (head_at (schedule_lines s)) (Err (BadLine n)) = subst (λ x. Continues (head_at x) (Err (BadLine n))) (sym is) (bad.stays more) in
-          not_ok (BadLine n) s (lines_once (schedule_lines s) (Err (BadLine n)) (Ok s) mine (lines_read s schedule)),
+      λ s more spell.
+          let ls = take n (lines_of text) ++ more in
+          not_ok (BadLine n) s (lines_once ls (Err (BadLine n)) (Ok s) (bad.stays more) (lines_read ls s spell)),
     )
 
 pub missing_end : (text : List ℕ) (n : ℕ) → ReadsText text (Err (NoEnd n)) → (n ≡ length (lines_of text) + 1) × ((s : Script) → IsSpelled text s → ⊥)

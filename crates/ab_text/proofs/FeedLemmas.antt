@@ -11,19 +11,23 @@ use Rattle.ab_num.specs.declared.plan.Plan.{Plan}
 use Rattle.ab_num.specs.declared.plan.Plan.TheVariants.{AZyzzyva, Aliph, Quorum, ZLight, Chain, Backup}
 use Rattle.ab_num.specs.declared.plan.ServiceName.{ServiceName}
 use Rattle.ab_num.specs.declared.plan.ServiceName.TheVariants.{Echo, Kv}
-use Rattle.ab_num.specs.declared.plan.Height.{Height}
 use Rattle.ab_num.specs.declared.plan.Height.TheVariants.{Five, Ten}
+use Rattle.ab_num.specs.declared.plan.Scheme.{Scheme}
+use Rattle.ab_num.specs.declared.plan.Scheme.TheVariants.{Lms, Hss}
 use Rattle.ab_num.specs.Bounds.{IsInBounds}
 use Rattle.ab_text.specs.declared.event.Core.{Core}
 use Rattle.ab_text.specs.declared.event.Event.{Event}
 use Rattle.ab_text.specs.declared.event.Event.TheVariants.{Invoke, Deliver, Timeout, Inject}
+use Rattle.ab_text.specs.declared.version.Version.{Version}
+use Rattle.ab_text.specs.declared.version.Version.TheVariants.{One, Two}
 use Rattle.ab_text.specs.Cores.{Lacks, party_text, IsParty, twin_text, core_text, IsTwin, IsCore}
 use Rattle.ab_text.specs.EventLines.{IsEvent, IsCommand, delivery_text, event_line}
-use Rattle.ab_text.specs.Heads.{Script, plan_line, service_line, lms_line}
+use Rattle.ab_text.specs.Heads.{Script, abstract_line, plan_line, service_line, lms_line, version_of}
 use Rattle.ab_text.specs.Lines.{lines_of, onto_first}
 use Rattle.ab_text.specs.Schedules.{IsInside, faulty_line}
 use Rattle.ab_text.specs.Spelling.{AreFaulty, IsSchedule, IsSpelled, event_lines, faulty_lines, head_lines, schedule_lines}
 use Rattle.ab_text.proofs.CoreLemmas.{Lacks-party}
+use Rattle.ab_text.proofs.HeadLemmas.{allows_least}
 use Rattle.ab_text.proofs.HexLemmas.{encoded_lower}
 use Rattle.ab_text.proofs.PartLemmas.{Lacks-append, Lacks-cons, Lacks-decimal}
 use Rattle.ab_text.specs.Texts.{text_of, schedule_text}
@@ -120,6 +124,10 @@ no_feed_in_faulty f clients done (x ∷ faulty) events few small next good =
 
 -- ---- the head
 
+no_feed_in_version : (w : Version) → HasNoFeed (abstract_line w)
+no_feed_in_version One = tested (codes "abstract 1") refl
+no_feed_in_version Two = tested (codes "abstract 2") refl
+
 pub no_feed_in_plan : (p : Plan) → HasNoFeed (plan_line p)
 no_feed_in_plan AZyzzyva = tested (codes "plan azyzzyva") refl
 no_feed_in_plan Aliph = tested (codes "plan aliph") refl
@@ -132,23 +140,24 @@ pub no_feed_in_service : (v : ServiceName) → HasNoFeed (service_line v)
 no_feed_in_service Echo = tested (codes "service echo") refl
 no_feed_in_service Kv = tested (codes "service kv") refl
 
-pub no_feed_in_height : (h : Height) → HasNoFeed (lms_line h)
-no_feed_in_height Five = tested (codes "lms 5") refl
-no_feed_in_height Ten = tested (codes "lms 10") refl
+pub no_feed_in_scheme : (h : Scheme) → HasNoFeed (lms_line h)
+no_feed_in_scheme (Lms Five) = tested (codes "lms 5") refl
+no_feed_in_scheme (Lms Ten) = tested (codes "lms 10") refl
+no_feed_in_scheme Hss = tested (codes "lms 20") refl
 
 -- a word and a small number
 numbered : (word : List ℕ) (n : ℕ) → has_no_feed word ≡ true → n ≤ 16 → HasNoFeed (word ++ decimal n)
 numbered word n none few = Lacks-append 10 word (decimal n) (tested word none) (Lacks-decimal 10 n (omega arith) (omega (arith, few)))
 
-no_feed_in_head : (s : Script) → IsInBounds s.f s.clients → HaveNoFeed (head_lines s)
-no_feed_in_head s bounds =
+no_feed_in_head : (w : Version) (s : Script) → IsInBounds s.f s.clients → HaveNoFeed (head_lines w s)
+no_feed_in_head w s bounds =
     let few = bounds.few_faulty in (
-      tested (codes "abstract 1") refl,
+      no_feed_in_version w,
       (
         numbered (codes "f ") s.f refl (omega (arith, few)),
         (
           no_feed_in_plan s.plan,
-          (numbered (codes "clients ") s.clients refl bounds.few_clients, (no_feed_in_service s.service, (no_feed_in_height s.lms, tt))),
+          (numbered (codes "clients ") s.clients refl bounds.few_clients, (no_feed_in_service s.service, (no_feed_in_scheme s.lms, tt))),
         ),
       ),
     )
@@ -158,4 +167,10 @@ no_feed_in_head s bounds =
 pub text_spells : (s : Script) → IsSchedule s → IsSpelled (schedule_text s) s
 text_spells s good =
     let body = no_feed_in_faulty s.f s.clients [] s.faulty s.events good.bounds.few_faulty good.bounds.few_clients good.faulty good.events in
-    record { schedule = good; lines = lines_of-text_of (schedule_lines s) (both (head_lines s) (faulty_lines s.faulty s.events) (no_feed_in_head s good.bounds) body) }
+    let w = version_of s.lms in
+    record {
+      schedule = good;
+      version = w;
+      allows = allows_least s.lms;
+      lines = lines_of-text_of (schedule_lines w s) (both (head_lines w s) (faulty_lines s.faulty s.events) (no_feed_in_head w s good.bounds) body);
+    }

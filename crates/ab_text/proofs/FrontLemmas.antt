@@ -7,20 +7,23 @@ use Rattle.ab_num.specs.declared.plan.Plan.{Plan}
 use Rattle.ab_num.specs.declared.plan.Plan.TheVariants.{Quorum}
 use Rattle.ab_num.specs.declared.plan.ServiceName.{ServiceName}
 use Rattle.ab_num.specs.declared.plan.ServiceName.TheVariants.{Echo}
-use Rattle.ab_num.specs.declared.plan.Height.{Height}
 use Rattle.ab_num.specs.declared.plan.Height.TheVariants.{Five}
+use Rattle.ab_num.specs.declared.plan.Scheme.{Scheme}
+use Rattle.ab_num.specs.declared.plan.Scheme.TheVariants.{Lms}
 use Rattle.ab_num.specs.Bounds.{IsInBounds}
 use Rattle.ab_text.specs.declared.event.Event.{Event}
 use Rattle.ab_text.specs.declared.fault.TextFault.{TextFault}
 use Rattle.ab_text.specs.declared.fault.TextFault.TheVariants.{BadLine, NoEnd, OutOfMemory}
+use Rattle.ab_text.specs.declared.version.Version.{Version}
+use Rattle.ab_text.specs.declared.version.Version.TheVariants.{One}
 use Rattle.ab_text.specs.Lines.{lines_of}
 use Rattle.ab_text.specs.EventLines.{event_line, IsEvent}
-use Rattle.ab_text.specs.Heads.{◌>>=◌, Script, number_at, name_at, plan_line, plans, service_line, services, lms_line, heights, head_at}
+use Rattle.ab_text.specs.Heads.{◌>>=◌, Script, number_at, name_at, abstract_line, versions, plan_line, plans, service_line, services, lms_line, schemes_of, head_at}
 use Rattle.ab_text.specs.Schedules.{ReadsEvents, ReadsFaulty, ReadsText, Continues, with_event, with_faulty}
-use Rattle.ab_text.specs.Spelling.{schedule_lines, head_lines, event_lines, faulty_lines, AreFaulty, IsSchedule}
+use Rattle.ab_text.specs.Spelling.{Allows, head_lines, event_lines, faulty_lines, AreFaulty, Spell}
 use Rattle.ab_text.specs.Faults.{BeginsSome}
-use Rattle.ab_text.proofs.HeadLemmas.{Rest, script, from2, from3, from4, from5, from6, number_is, name_is, line_is}
-use Rattle.ab_text.proofs.FaultLemmas.{failed, not_ok, IsStep, number_step, name_step, line_step}
+use Rattle.ab_text.proofs.HeadLemmas.{Rest, script, from2, from3, from4, from5, from6, number_is, name_is, scheme_allowed, allows_one}
+use Rattle.ab_text.proofs.FaultLemmas.{failed, not_ok, IsStep, number_step, name_step}
 
 -- the fault is that of line n, which is there or missing
 abbrev IsOfLine : TextFault → ℕ → Type 0
@@ -113,17 +116,20 @@ body_front (l ∷ ls) n s e m at (inr (inr (bad, h))) = at_once n m (l ∷ ls) l
 
 -- ---- the head
 
--- the lines of a schedule are these and then the rest
+-- these lines and then the rest are those of a schedule
 abbrev Completes : Rest → Rest → Type 0
-Completes before rest = (s : Script) × IsSchedule s × (schedule_lines s ≡ before ++ rest)
+Completes before rest = (s : Script) × Spell (before ++ rest) s
 
 -- before line n stand these lines
 abbrev Fronts : ℕ → (Rest → Result (Script × Rest) TextFault) → Rest → Type 0
 Fronts n read before = (ls : Rest) (e : TextFault) (m : ℕ) → IsOfLine e m → Continues (read ls) (Err e) → IsFront n m ls (Completes before)
 
 -- a head alone, and the last lines
-bare_schedule : (f : ℕ) (p : Plan) (c : ℕ) (v : ServiceName) (h : Height) → IsInBounds f c → IsSchedule (script f p c v h)
-bare_schedule f p c v h bounds = record { bounds = bounds; faulty = tt; events = tt }
+bare_schedule : (w : Version) (f : ℕ) (p : Plan) (c : ℕ) (v : ServiceName) (h : Scheme) (ls : Rest) → IsInBounds f c → Allows w h → ls ≡ head_lines w (script f p c v h) ++ last → Completes [] ls
+bare_schedule w f p c v h ls bounds allows is = (
+  script f p c v h,
+  record { schedule = record { bounds = bounds; faulty = tt; events = tt }; version = w; allows = allows; lines = is },
+)
 
 step_front : {A : Type 0} (spell : A → List ℕ) (n : ℕ) (g : Rest → Result (A × Rest) TextFault) (k : A → Rest → Result (Script × Rest) TextFault) (before after : Rest)
     → IsStep n g → Completes before after
@@ -139,7 +145,7 @@ step_front {A} spell n g k before after step whole says (l ∷ ls) e m at h =
           let said = says (l ∷ ls) ls x (good ls) in
           let line : l ≡ spell x = ap (λ t. get_or t 0 []) said.0 in
           one_more n m l ls (Completes (before ++ spell x ∷ [])) (Completes before) (said.1 ls e m at (subst After (good ls) h))
-          (λ rest all. (all.0, all.1, all.2 ∙ append_assoc before (spell x ∷ []) rest ∙ ap (λ t. before ++ t ∷ rest) (sym line)))
+          (λ rest all. (all.0, subst (λ ks. Spell ks all.0) (append_assoc before (spell x ∷ []) rest ∙ ap (λ t. before ++ t ∷ rest) (sym line)) all.1))
       | inr bad ↦
           let stop : failed e ≡ failed (BadLine n) = subst After (bad ls) h in
           at_once n m (l ∷ ls) after (Completes before) (of_line e (BadLine n) n m stop refl at) whole
@@ -160,20 +166,20 @@ in_bounds f c few low high = record { some_faulty = few.0; few_faulty = few.1; s
 one_client : (f : ℕ) → AreFew f → IsInBounds f 1
 one_client f few = in_bounds f 1 few (omega arith) (omega arith)
 
-abbrev before3 : ℕ → Rest
-before3 f = codes "abstract 1" ∷ f_line f ∷ []
+abbrev before3 : Version → ℕ → Rest
+before3 w f = abstract_line w ∷ f_line f ∷ []
 
-abbrev before4 : ℕ → Plan → Rest
-before4 f p = codes "abstract 1" ∷ f_line f ∷ plan_line p ∷ []
+abbrev before4 : Version → ℕ → Plan → Rest
+before4 w f p = abstract_line w ∷ f_line f ∷ plan_line p ∷ []
 
-abbrev before5 : ℕ → Plan → ℕ → Rest
-before5 f p c = codes "abstract 1" ∷ f_line f ∷ plan_line p ∷ clients_line c ∷ []
+abbrev before5 : Version → ℕ → Plan → ℕ → Rest
+before5 w f p c = abstract_line w ∷ f_line f ∷ plan_line p ∷ clients_line c ∷ []
 
-abbrev before6 : ℕ → Plan → ℕ → ServiceName → Rest
-before6 f p c v = codes "abstract 1" ∷ f_line f ∷ plan_line p ∷ clients_line c ∷ service_line v ∷ []
+abbrev before6 : Version → ℕ → Plan → ℕ → ServiceName → Rest
+before6 w f p c v = abstract_line w ∷ f_line f ∷ plan_line p ∷ clients_line c ∷ service_line v ∷ []
 
-fronts7 : (f : ℕ) (p : Plan) (c : ℕ) (v : ServiceName) (h : Height) → IsInBounds f c → Fronts 7 (λ ls. Ok (script f p c v h, ls)) (head_lines (script f p c v h))
-fronts7 f p c v h bounds ls e m at r =
+fronts7 : (w : Version) (f : ℕ) (p : Plan) (c : ℕ) (v : ServiceName) (h : Scheme) → IsInBounds f c → Allows w h → Fronts 7 (λ ls. Ok (script f p c v h, ls)) (head_lines w (script f p c v h))
+fronts7 w f p c v h bounds allows ls e m at r =
     let body = body_front ls 7 (script f p c v h) e m at r in
     let whole = body.whole in
     record {
@@ -184,59 +190,57 @@ fronts7 f p c v h bounds ls e m at r =
       place = body.place;
       whole = (
         record { f = f; clients = c; plan = p; service = v; lms = h; faulty = whole.faulty; events = whole.events },
-        record { bounds = bounds; faulty = whole.next; events = whole.good },
-        ap (λ t. head_lines (script f p c v h) ++ t) (sym whole.lines),
+        record {
+          schedule = record { bounds = bounds; faulty = whole.next; events = whole.good };
+          version = w;
+          allows = allows;
+          lines = ap (λ t. head_lines w (script f p c v h) ++ t) whole.lines;
+        },
       );
     }
 
-fronts6 : (f : ℕ) (p : Plan) (c : ℕ) (v : ServiceName) → IsInBounds f c → Fronts 6 (from6 f p c v) (before6 f p c v)
-fronts6 f p c v bounds = step_front lms_line 6 (name_at lms_line heights 6) (λ h ls. Ok (script f p c v h, ls)) (before6 f p c v) (lms_line Five ∷ last) (name_step lms_line heights 6)
-    (script f p c v Five, bare_schedule f p c v Five bounds, refl) (λ ls rest h is. (name_is lms_line heights 6 ls rest h is, fronts7 f p c v h bounds))
+abbrev five : Scheme
+five = Lms Five
 
-fronts5 : (f : ℕ) (p : Plan) (c : ℕ) → IsInBounds f c → Fronts 5 (from5 f p c) (before5 f p c)
-fronts5 f p c bounds = step_front service_line 5 (name_at service_line services 5) (from6 f p c) (before5 f p c) (service_line Echo ∷ lms_line Five ∷ last) (name_step service_line services 5)
-    (script f p c Echo Five, bare_schedule f p c Echo Five bounds, refl) (λ ls rest v is. (name_is service_line services 5 ls rest v is, fronts6 f p c v bounds))
+fronts6 : (w : Version) (f : ℕ) (p : Plan) (c : ℕ) (v : ServiceName) → IsInBounds f c → Fronts 6 (from6 w f p c v) (before6 w f p c v)
+fronts6 w f p c v bounds = step_front lms_line 6 (name_at lms_line (schemes_of w) 6) (λ h ls. Ok (script f p c v h, ls)) (before6 w f p c v) (lms_line five ∷ last) (name_step lms_line (schemes_of w) 6)
+    (bare_schedule w f p c v five _ bounds (allows_one w Five) refl)
+    (λ ls rest h is. (name_is lms_line (schemes_of w) 6 ls rest h is, fronts7 w f p c v h bounds (scheme_allowed w 6 ls rest h is)))
 
-fronts4 : (f : ℕ) (p : Plan) → AreFew f → Fronts 4 (from4 f p) (before4 f p)
-fronts4 f p few = step_front clients_line 4 (number_at (codes "clients ") 1 16 4) (from5 f p) (before4 f p) (clients_line 1 ∷ service_line Echo ∷ lms_line Five ∷ last) (number_step (codes "clients ") 1 16 4)
-    (script f p 1 Echo Five, bare_schedule f p 1 Echo Five (one_client f few), refl)
-    (λ ls rest c is. let n = number_is (codes "clients ") 1 16 4 ls rest c is in (n.0, fronts5 f p c (in_bounds f c few n.1 n.2)))
+fronts5 : (w : Version) (f : ℕ) (p : Plan) (c : ℕ) → IsInBounds f c → Fronts 5 (from5 w f p c) (before5 w f p c)
+fronts5 w f p c bounds = step_front service_line 5 (name_at service_line services 5) (from6 w f p c) (before5 w f p c) (service_line Echo ∷ lms_line five ∷ last) (name_step service_line services 5)
+    (bare_schedule w f p c Echo five _ bounds (allows_one w Five) refl) (λ ls rest v is. (name_is service_line services 5 ls rest v is, fronts6 w f p c v bounds))
 
-fronts3 : (f : ℕ) → AreFew f → Fronts 3 (from3 f) (before3 f)
-fronts3 f few = step_front plan_line 3 (name_at plan_line plans 3) (from4 f) (before3 f) (plan_line Quorum ∷ clients_line 1 ∷ service_line Echo ∷ lms_line Five ∷ last) (name_step plan_line plans 3)
-    (script f Quorum 1 Echo Five, bare_schedule f Quorum 1 Echo Five (one_client f few), refl) (λ ls rest p is. (name_is plan_line plans 3 ls rest p is, fronts4 f p few))
+fronts4 : (w : Version) (f : ℕ) (p : Plan) → AreFew f → Fronts 4 (from4 w f p) (before4 w f p)
+fronts4 w f p few = step_front clients_line 4 (number_at (codes "clients ") 1 16 4) (from5 w f p) (before4 w f p) (clients_line 1 ∷ service_line Echo ∷ lms_line five ∷ last) (number_step (codes "clients ") 1 16 4)
+    (bare_schedule w f p 1 Echo five _ (one_client f few) (allows_one w Five) refl)
+    (λ ls rest c is. let n = number_is (codes "clients ") 1 16 4 ls rest c is in (n.0, fronts5 w f p c (in_bounds f c few n.1 n.2)))
+
+fronts3 : (w : Version) (f : ℕ) → AreFew f → Fronts 3 (from3 w f) (before3 w f)
+fronts3 w f few = step_front plan_line 3 (name_at plan_line plans 3) (from4 w f) (before3 w f) (plan_line Quorum ∷ clients_line 1 ∷ service_line Echo ∷ lms_line five ∷ last) (name_step plan_line plans 3)
+    (bare_schedule w f Quorum 1 Echo five _ (one_client f few) (allows_one w Five) refl) (λ ls rest p is. (name_is plan_line plans 3 ls rest p is, fronts4 w f p few))
 
 abbrev rest2 : Rest
-rest2 = f_line 1 ∷ plan_line Quorum ∷ clients_line 1 ∷ service_line Echo ∷ lms_line Five ∷ last
+rest2 = f_line 1 ∷ plan_line Quorum ∷ clients_line 1 ∷ service_line Echo ∷ lms_line five ∷ last
 
-some_schedule : Completes [] (codes "abstract 1" ∷ rest2)
-some_schedule = (script 1 Quorum 1 Echo Five, bare_schedule 1 Quorum 1 Echo Five (one_client 1 (omega arith, omega arith)), refl)
+some_schedule : (w : Version) → Completes [] (abstract_line w ∷ rest2)
+some_schedule w = bare_schedule w 1 Quorum 1 Echo five _ (one_client 1 (omega arith, omega arith)) (allows_one w Five) refl
 
-fronts2 : Fronts 2 from2 (codes "abstract 1" ∷ [])
-fronts2 = step_front f_line 2 (number_at (codes "f ") 1 2 2) from3 (codes "abstract 1" ∷ []) rest2 (number_step (codes "f ") 1 2 2)
-    some_schedule (λ ls rest f is. let n = number_is (codes "f ") 1 2 2 ls rest f is in (n.0, fronts3 f (n.1, n.2)))
+fronts2 : (w : Version) → Fronts 2 (from2 w) (abstract_line w ∷ [])
+fronts2 w = step_front f_line 2 (number_at (codes "f ") 1 2 2) (from3 w) (abstract_line w ∷ []) rest2 (number_step (codes "f ") 1 2 2)
+    (some_schedule w) (λ ls rest f is. let n = number_is (codes "f ") 1 2 2 ls rest f is in (n.0, fronts3 w f (n.1, n.2)))
 
 head_fronts : Fronts 1 head_at []
 unfolding head_at
-head_fronts [] e m at h = at_once 1 m [] (codes "abstract 1" ∷ rest2) (Completes []) (of_line e (NoEnd 1) 1 m h refl at) some_schedule
-head_fronts (l ∷ ls) e m at h =
-    let After : Result Rest TextFault → Type 0 = λ o. Continues (o >>= from2) (Err e) in
-    elim (line_step (codes "abstract 1") l 1) [
-      | inl good ↦
-          let line : l ≡ codes "abstract 1" = ap (λ t. get_or t 0 []) (line_is (codes "abstract 1") 1 (l ∷ ls) ls (good ls)) in
-          one_more 1 m l ls (Completes (codes "abstract 1" ∷ [])) (Completes []) (fronts2 ls e m at (subst After (good ls) h))
-          (λ rest all. (all.0, all.1, all.2 ∙ ap (λ t. t ∷ rest) (sym line)))
-      | inr bad ↦
-          let stop : failed e ≡ failed (BadLine 1) = subst After (bad ls) h in
-          at_once 1 m (l ∷ ls) (codes "abstract 1" ∷ rest2) (Completes []) (of_line e (BadLine 1) 1 m stop refl at) some_schedule
-    ]
+head_fronts = step_front abstract_line 1 (name_at abstract_line versions 1) from2 [] (abstract_line One ∷ rest2) (name_step abstract_line versions 1)
+    (some_schedule One) (λ ls rest w is. (name_is abstract_line versions 1 ls rest w is, fronts2 w))
 
 front_begins : (ls : Rest) (e : TextFault) (m : ℕ) → IsOfLine e m → Continues (head_at ls) (Err e) → BeginsSome (take (m - 1) ls)
 front_begins ls e m at h =
     let f = head_fronts ls e m at h in
     let place : m - 1 ≡ length f.front = (let p = f.place in omega (arith, p)) in
     let front : take (m - 1) ls ≡ f.front = (λ j. take (place j) (f.split j)) ∙ take-append_seam f.front f.back in
-    (f.whole.0, f.more, f.whole.1, f.whole.2 ∙ ap (λ x. x ++ f.more) (sym front))
+    (f.whole.0, f.more, subst (λ x. Spell (x ++ f.more) f.whole.0) (sym front) f.whole.1)
 
 -- the lines before a fault begin a schedule
 pub bad_front : (text : List ℕ) (n : ℕ) → ReadsText text (Err (BadLine n)) → BeginsSome (take (n - 1) (lines_of text))

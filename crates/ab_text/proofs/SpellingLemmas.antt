@@ -9,8 +9,8 @@ use Rattle.ab_text.specs.Lines.{lines_of}
 use Rattle.ab_text.specs.EventLines.{IsEvent}
 use Rattle.ab_text.specs.Heads.{Script, head_at}
 use Rattle.ab_text.specs.Schedules.{ReadsEvents, ReadsFaulty, ReadsText, Continues, with_event, with_faulty}
-use Rattle.ab_text.specs.Spelling.{head_lines, event_lines, faulty_lines, schedule_lines, AreFaulty, IsSchedule, IsSpelled}
-use Rattle.ab_text.proofs.HeadLemmas.{head_is, head_reads}
+use Rattle.ab_text.specs.Spelling.{head_lines, event_lines, faulty_lines, schedule_lines, AreFaulty, IsSchedule, IsSpelled, Spell}
+use Rattle.ab_text.proofs.HeadLemmas.{head_is, head_reads, script}
 
 abbrev Rest : Type 0
 Rest = List (List ℕ)
@@ -126,18 +126,25 @@ text_spelled text s (Ok (head', rest)) is h =
     let whole : s ≡ record head' { faulty = r.0; events = r.1 } = body.whole ∙ (λ j. record head' { faulty = no_faulty j; events = no_events j }) in
     let next : AreFaulty head'.f head'.clients [] r.0 = subst (λ x. AreFaulty head'.f head'.clients x r.0) head.faulty body.faulty_are_next in
     subst (IsSpelled text) (sym whole)
-    (record { schedule = record { bounds = head.bounds; faulty = next; events = body.events_have_lines }; lines = head.lines ∙ ap (λ t. head_lines head' ++ t) body.lines })
+    (record {
+      schedule = record { bounds = head.bounds; faulty = next; events = body.events_have_lines };
+      version = head.version;
+      allows = head.allows;
+      lines = head.lines ∙ ap (λ t. head_lines head.version head' ++ t) body.lines;
+    })
 
 -- what is read is spelled so
 pub read_spelled : (text : List ℕ) (s : Script) → ReadsText text (Ok s) → IsSpelled text s
 read_spelled text s h = text_spelled text s (head_at (lines_of text)) refl h
 
 -- the lines of a schedule are read
-pub lines_read : (s : Script) → IsSchedule s → Continues (head_at (schedule_lines s)) (Ok s)
-lines_read s schedule =
-    subst (λ o. Continues o (Ok s)) (sym (head_reads s (faulty_lines s.faulty s.events) schedule.bounds))
+pub lines_read : (ls : Rest) (s : Script) → Spell ls s → Continues (head_at ls) (Ok s)
+lines_read ls s spell =
+    let schedule = spell.schedule in
+    let read : head_at ls ≡ Ok (script s.f s.plan s.clients s.service s.lms, faulty_lines s.faulty s.events) = ap head_at spell.lines ∙ head_reads spell.version s (faulty_lines s.faulty s.events) schedule.bounds spell.allows in
+    subst (λ o. Continues o (Ok s)) (sym read)
     (body_read s.faulty s.events 7 (record s { faulty = []; events = [] }) schedule.faulty schedule.events)
 
 -- what is spelled so is read
 pub spelled_read : (text : List ℕ) (s : Script) → IsSpelled text s → ReadsText text (Ok s)
-spelled_read text s spelled = subst (λ ls. Continues (head_at ls) (Ok s)) (sym spelled.lines) (lines_read s spelled.schedule)
+spelled_read text s spelled = lines_read (lines_of text) s spelled

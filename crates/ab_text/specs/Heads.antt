@@ -6,11 +6,14 @@ use Rattle.ab_num.specs.declared.plan.Plan.{Plan}
 use Rattle.ab_num.specs.declared.plan.Plan.TheVariants.{AZyzzyva, Aliph, Quorum, ZLight, Chain, Backup}
 use Rattle.ab_num.specs.declared.plan.ServiceName.{ServiceName}
 use Rattle.ab_num.specs.declared.plan.ServiceName.TheVariants.{Echo, Kv}
-use Rattle.ab_num.specs.declared.plan.Height.{Height}
 use Rattle.ab_num.specs.declared.plan.Height.TheVariants.{Five, Ten}
+use Rattle.ab_num.specs.declared.plan.Scheme.{Scheme}
+use Rattle.ab_num.specs.declared.plan.Scheme.TheVariants.{Lms, Hss}
 use Rattle.ab_text.specs.declared.event.Event.{Event}
 use Rattle.ab_text.specs.declared.fault.TextFault.{TextFault}
 use Rattle.ab_text.specs.declared.fault.TextFault.TheVariants.{BadLine, NoEnd, OutOfMemory}
+use Rattle.ab_text.specs.declared.version.Version.{Version}
+use Rattle.ab_text.specs.declared.version.Version.TheVariants.{One, Two}
 use Rattle.ab_text.specs.Numbers.{number_of}
 
 -- a schedule as plain values
@@ -19,9 +22,16 @@ pub record Script : Type 0 where
   pub clients : ℕ
   pub plan : Plan
   pub service : ServiceName
-  pub lms : Height
+  pub lms : Scheme
   pub faulty : List (Party × ℕ)
   pub events : List Event
+
+abbrev pub abstract_line : Version → List ℕ
+abstract_line One = codes "abstract 1"
+abstract_line Two = codes "abstract 2"
+
+abbrev pub versions : List Version
+versions = One ∷ Two ∷ []
 
 abbrev pub plan_line : Plan → List ℕ
 plan_line AZyzzyva = codes "plan azyzzyva"
@@ -41,22 +51,34 @@ service_line Kv = codes "service kv"
 abbrev pub services : List ServiceName
 services = Echo ∷ Kv ∷ []
 
-abbrev pub lms_line : Height → List ℕ
-lms_line Five = codes "lms 5"
-lms_line Ten = codes "lms 10"
+abbrev pub lms_line : Scheme → List ℕ
+lms_line (Lms Five) = codes "lms 5"
+lms_line (Lms Ten) = codes "lms 10"
+lms_line Hss = codes "lms 20"
 
-abbrev pub heights : List Height
-heights = Five ∷ Ten ∷ []
+abbrev pub one_level : List Scheme
+one_level = Lms Five ∷ Lms Ten ∷ []
+
+abbrev pub two_levels : List Scheme
+two_levels = Hss ∷ []
+
+abbrev pub schemes : List Scheme
+schemes = Lms Five ∷ Lms Ten ∷ Hss ∷ []
+
+-- what a schedule that begins so may name
+abbrev pub schemes_of : Version → List Scheme
+schemes_of One = one_level
+schemes_of Two = schemes
+
+-- the least first line that has the scheme
+abbrev pub version_of : Scheme → Version
+version_of (Lms height) = One
+version_of Hss = Two
 
 infixl 10 ◌>>=◌
 abbrev pub ◌>>=◌ : {A B : Type 0} → Result A TextFault → (A → Result B TextFault) → Result B TextFault
 (Ok x) >>= f = f x
 (Err e) >>= f = Err e
-
--- line n has this form
-abbrev pub line_at : List ℕ → ℕ → List (List ℕ) → Result (List (List ℕ)) TextFault
-line_at form n [] = Err (NoEnd n)
-line_at form n (l ∷ ls) = if bytes_eq l form then Ok ls else Err (BadLine n)
 
 -- the one of these whose line this is
 unfoldable pub spelled_in : {A : Type 0} → (A → List ℕ) → List A → List ℕ → Option A
@@ -97,12 +119,12 @@ number_at word low high n (l ∷ ls) = within low high n ls (number_after word l
 -- what the head sets up, and the lines after it
 unfoldable pub head_at : List (List ℕ) → Result (Script × List (List ℕ)) TextFault
 head_at ls = do
-  name ← line_at (codes "abstract 1") 1 ls
-  f ← number_at (codes "f ") 1 2 2 name
+  version ← name_at abstract_line versions 1 ls
+  f ← number_at (codes "f ") 1 2 2 version.1
   plan ← name_at plan_line plans 3 f.1
   clients ← number_at (codes "clients ") 1 16 4 plan.1
   service ← name_at service_line services 5 clients.1
-  lms ← name_at lms_line heights 6 service.1
+  lms ← name_at lms_line (schemes_of version.0) 6 service.1
   Ok (record { f = f.0; clients = clients.0; plan = plan.0; service = service.0; lms = lms.0; faulty = []; events = [] }, lms.1)
 
 -- what a function returned, seen by view, is what reading gives, unless memory ran out

@@ -3,15 +3,19 @@ use Rattle.std.specs.Prelude.{◌≡◌, ℕ, List, [], ◌∷◌, ◌++◌, map
 use Rattle.std.specs.List.{AllByRecursion}
 use Rattle.ab_num.specs.declared.party.Party.{Party}
 use Rattle.ab_num.specs.Bounds.{IsInBounds}
+use Rattle.ab_num.specs.declared.plan.Scheme.{Scheme}
+use Rattle.ab_num.specs.declared.plan.Scheme.TheVariants.{Lms, Hss}
 use Rattle.ab_text.specs.declared.event.Event.{Event}
+use Rattle.ab_text.specs.declared.version.Version.{Version}
+use Rattle.ab_text.specs.declared.version.Version.TheVariants.{One, Two}
 use Rattle.ab_text.specs.Lines.{lines_of}
 use Rattle.ab_text.specs.EventLines.{event_line, IsEvent}
-use Rattle.ab_text.specs.Heads.{Script, plan_line, service_line, lms_line}
+use Rattle.ab_text.specs.Heads.{Script, abstract_line, plan_line, service_line, lms_line}
 use Rattle.ab_text.specs.Schedules.{faulty_line, IsNextFaulty}
 
-abbrev pub head_lines : Script → List (List ℕ)
-head_lines s =
-    codes "abstract 1" ∷ (codes "f " ++ decimal s.f) ∷ plan_line s.plan ∷ (codes "clients " ++ decimal s.clients)
+abbrev pub head_lines : Version → Script → List (List ℕ)
+head_lines version s =
+    abstract_line version ∷ (codes "f " ++ decimal s.f) ∷ plan_line s.plan ∷ (codes "clients " ++ decimal s.clients)
     ∷ service_line s.service ∷ lms_line s.lms ∷ []
 
 abbrev pub event_lines : List Event → List (List ℕ)
@@ -20,8 +24,8 @@ event_lines events = map event_line events ++ codes "end" ∷ []
 abbrev pub faulty_lines : List (Party × ℕ) → List Event → List (List ℕ)
 faulty_lines faulty events = map faulty_line faulty ++ codes "run" ∷ event_lines events
 
-abbrev pub schedule_lines : Script → List (List ℕ)
-schedule_lines s = head_lines s ++ faulty_lines s.faulty s.events
+abbrev pub schedule_lines : Version → Script → List (List ℕ)
+schedule_lines version s = head_lines version s ++ faulty_lines s.faulty s.events
 
 -- each may come next after those before it
 abbrev pub AreFaulty : ℕ → ℕ → List (Party × ℕ) → List (Party × ℕ) → Type 0
@@ -34,7 +38,18 @@ pub record IsSchedule (s : Script) : Type 0 where
   pub faulty : AreFaulty s.f s.clients [] s.faulty
   pub events : AllByRecursion IsEvent s.events
 
--- the lines of the text are those of the schedule
-pub record IsSpelled (text : List ℕ) (s : Script) : Type 0 where
+-- a first line goes with each scheme of one level, and the second one with all
+abbrev pub Allows : Version → Scheme → Type 0
+Allows version (Lms height) = Unit {0}
+Allows One Hss = ⊥
+Allows Two Hss = Unit {0}
+
+-- These lines are a schedule's. Where the scheme has one level it has two spellings, since nothing keeps the first line
+pub record Spell (ls : List (List ℕ)) (s : Script) : Type 0 where
   pub schedule : IsSchedule s
-  pub lines : lines_of text ≡ schedule_lines s
+  pub version : Version
+  pub allows : Allows version s.lms
+  pub lines : ls ≡ schedule_lines version s
+
+abbrev pub IsSpelled : List ℕ → Script → Type 0
+IsSpelled text s = Spell (lines_of text) s

@@ -2,7 +2,7 @@
 
 ghost use Rattle.std.specs.Prelude.{◌≡◌, ◌<◌, ◌≤◌, [], length, IfOk};
 ghost use Rattle.ab_text.specs.Lines.{lines_of};
-ghost use Rattle.ab_text.specs.Heads.{Gives, line_at, number_at, name_at, head_at, number_after, spelled_in, plan_line, plans, service_line, services, lms_line, heights};
+ghost use Rattle.ab_text.specs.Heads.{Gives, number_at, name_at, head_at, number_after, spelled_in, abstract_line, versions, plan_line, plans, service_line, services, lms_line, one_level, schemes, schemes_of, two_levels, version_of as least_version};
 ghost use Rattle.ab_text.specs.Settings.{set_up};
 
 use crate::fault::TextFault;
@@ -10,24 +10,8 @@ use crate::head_lines::{HeadLines, cluster_of};
 use crate::lines::next_line;
 use crate::numbers::number;
 use crate::parts::after;
-use ab_num::{Height, Plan, ServiceName};
-
-/// What comes after line `n`, which has this form.
-fn fixed<'a>(text: &'a [u8], form: &[u8], n: u32) -> Result<&'a [u8], TextFault>
-    ensures reads { Gives (λ rest. lines_of rest.now) result (line_at form.now n (lines_of text.now)) }
-    ensures shorter { IfOk result (λ rest. length rest.now ≤ length text.now) }
-{
-    match next_line(text) {
-        None => Err(TextFault::NoEnd(n)),
-        Some((line, rest)) => {
-            if line == form {
-                Ok(rest)
-            } else {
-                Err(TextFault::BadLine(n))
-            }
-        }
-    }
-}
+use crate::version::Version;
+use ab_num::{Height, Plan, Scheme, ServiceName};
 
 /// The number after a word.
 pub fn word_number(line: &[u8], word: &[u8]) -> Option<u64>
@@ -64,6 +48,40 @@ fn numbered<'a>(
                 }
             }
         },
+    }
+}
+
+/// The first line of a schedule.
+pub(crate) fn version_text(version: Version) -> &'static str
+    ensures { result.now ≡ abstract_line version }
+{
+    match version {
+        Version::One => "abstract 1",
+        Version::Two => "abstract 2",
+    }
+}
+
+/// The version that a first line names.
+#[tactic(auto, unfolding(crate::specs::Heads::spelled_in))]
+fn version_in(line: &[u8]) -> Option<Version>
+    ensures { result ≡ spelled_in abstract_line versions line.now }
+{
+    if line == b"abstract 1".as_slice() {
+        return Some(Version::One);
+    }
+    if line == b"abstract 2".as_slice() {
+        return Some(Version::Two);
+    }
+    None
+}
+
+/// The least version that has the scheme.
+pub fn version_of(scheme: Scheme) -> Version
+    ensures { result ≡ least_version scheme }
+{
+    match scheme {
+        Scheme::Lms(_) => Version::One,
+        Scheme::Hss => Version::Two,
     }
 }
 
@@ -131,28 +149,81 @@ pub fn service_in(line: &[u8]) -> Option<ServiceName>
     None
 }
 
-/// The line that names a height.
-pub fn height_text(lms: Height) -> &'static str
+/// The line that names a scheme.
+pub fn scheme_text(lms: Scheme) -> &'static str
     ensures { result.now ≡ lms_line lms }
 {
     match lms {
-        Height::Five => "lms 5",
-        Height::Ten => "lms 10",
+        Scheme::Lms(Height::Five) => "lms 5",
+        Scheme::Lms(Height::Ten) => "lms 10",
+        Scheme::Hss => "lms 20",
     }
 }
 
-/// The height that a line names.
+/// The scheme of one level that a line names.
 #[tactic(auto, unfolding(crate::specs::Heads::spelled_in))]
-pub fn height_in(line: &[u8]) -> Option<Height>
-    ensures { result ≡ spelled_in lms_line heights line.now }
+pub fn one_level_in(line: &[u8]) -> Option<Scheme>
+    ensures { result ≡ spelled_in lms_line one_level line.now }
 {
     if line == b"lms 5".as_slice() {
-        return Some(Height::Five);
+        return Some(Scheme::Lms(Height::Five));
     }
     if line == b"lms 10".as_slice() {
-        return Some(Height::Ten);
+        return Some(Scheme::Lms(Height::Ten));
     }
     None
+}
+
+/// The scheme of two levels, if a line names it.
+#[tactic(auto, unfolding(crate::specs::Heads::spelled_in))]
+pub fn two_levels_in(line: &[u8]) -> Option<Scheme>
+    ensures { result ≡ spelled_in lms_line two_levels line.now }
+{
+    if line == b"lms 20".as_slice() {
+        return Some(Scheme::Hss);
+    }
+    None
+}
+
+/// The scheme that a line names.
+#[tactic(auto, unfolding(crate::specs::Heads::spelled_in))]
+pub fn scheme_in(line: &[u8]) -> Option<Scheme>
+    ensures { result ≡ spelled_in lms_line schemes line.now }
+{
+    if line == b"lms 5".as_slice() {
+        return Some(Scheme::Lms(Height::Five));
+    }
+    if line == b"lms 10".as_slice() {
+        return Some(Scheme::Lms(Height::Ten));
+    }
+    if line == b"lms 20".as_slice() {
+        return Some(Scheme::Hss);
+    }
+    None
+}
+
+/// The scheme that a line names in a schedule of this version.
+fn scheme_with(version: Version, line: &[u8]) -> Option<Scheme>
+    ensures { result ≡ spelled_in lms_line (schemes_of version) line.now }
+{
+    match version {
+        Version::One => one_level_in(line),
+        Version::Two => scheme_in(line),
+    }
+}
+
+/// The version in line `n`, and what comes after that line.
+fn version_at(text: &[u8], n: u32) -> Result<(Version, &[u8]), TextFault>
+    ensures reads { Gives (λ p. (p.0, lines_of p.1.now)) result (name_at abstract_line versions n (lines_of text.now)) }
+    ensures shorter { IfOk result (λ p. length p.1.now ≤ length text.now) }
+{
+    match next_line(text) {
+        None => Err(TextFault::NoEnd(n)),
+        Some((line, rest)) => match version_in(line) {
+            None => Err(TextFault::BadLine(n)),
+            Some(version) => Ok((version, rest)),
+        },
+    }
 }
 
 /// The plan in line `n`, and what comes after that line.
@@ -183,16 +254,16 @@ fn service_at(text: &[u8], n: u32) -> Result<(ServiceName, &[u8]), TextFault>
     }
 }
 
-/// The height in line `n`, and what comes after that line.
-fn height_at(text: &[u8], n: u32) -> Result<(Height, &[u8]), TextFault>
-    ensures reads { Gives (λ p. (p.0, lines_of p.1.now)) result (name_at lms_line heights n (lines_of text.now)) }
+/// The scheme in line `n` of a schedule of this version, and what comes after that line.
+fn scheme_at(version: Version, text: &[u8], n: u32) -> Result<(Scheme, &[u8]), TextFault>
+    ensures reads { Gives (λ p. (p.0, lines_of p.1.now)) result (name_at lms_line (schemes_of version) n (lines_of text.now)) }
     ensures shorter { IfOk result (λ p. length p.1.now ≤ length text.now) }
 {
     match next_line(text) {
         None => Err(TextFault::NoEnd(n)),
-        Some((line, rest)) => match height_in(line) {
+        Some((line, rest)) => match scheme_with(version, line) {
             None => Err(TextFault::BadLine(n)),
-            Some(height) => Ok((height, rest)),
+            Some(scheme) => Ok((scheme, rest)),
         },
     }
 }
@@ -203,12 +274,12 @@ pub(crate) fn head_of(text: &[u8]) -> Result<(HeadLines, &[u8]), TextFault>
     ensures reads { Gives (λ p. (set_up p.0 [], lines_of p.1.now)) result (head_at (lines_of text.now)) }
     ensures shorter { IfOk result (λ p. length p.1.now ≤ length text.now) }
 {
-    let rest = fixed(text, b"abstract 1", 1)?;
+    let (version, rest) = version_at(text, 1)?;
     let (f, rest) = numbered(rest, b"f ", 1, 2, 2)?;
     let (plan, rest) = plan_at(rest, 3)?;
     let (clients, rest) = numbered(rest, b"clients ", 1, 16, 4)?;
     let (service, rest) = service_at(rest, 5)?;
-    let (lms, rest) = height_at(rest, 6)?;
+    let (lms, rest) = scheme_at(version, rest, 6)?;
     let cluster = cluster_of(f as u8, clients as u16, plan);
     let setting = HeadLines {
         cluster,

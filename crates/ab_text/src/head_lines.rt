@@ -3,14 +3,14 @@
 ghost use Rattle.std.specs.Prelude.{◌≡◌};
 ghost use Rattle.ab_num.specs.Bounds.{IsInBounds};
 
-use ab_num::{Cluster, Height, Plan, ServiceName};
+use ab_num::{Cluster, Plan, Scheme, ServiceName};
 
-/// A cluster, its service and the height of its signers' trees.
+/// A cluster, its service and how its replicas sign.
 #[derive(Clone, Copy)]
 pub(crate) struct HeadLines {
     pub(crate) cluster: Cluster,
     pub(crate) service: ServiceName,
-    pub(crate) lms: Height,
+    pub(crate) lms: Scheme,
 }
 
 /// The cluster of these numbers, which are within its bounds.

@@ -1,15 +1,16 @@
 //! The lines of the head, and of faulty parties.
 
 ghost use Rattle.std.specs.Prelude.{◌≡◌, ◌++◌, ◌∷◌, [], IfOk, OnOk, codes, decimal, map, string_bytes};
-ghost use Rattle.ab_text.specs.Heads.{plan_line};
+ghost use Rattle.ab_text.specs.Heads.{abstract_line, plan_line, version_of as least_version};
 ghost use Rattle.ab_text.specs.Schedules.{faulty_line, script_of};
 ghost use Rattle.ab_text.specs.Spelling.{head_lines};
 ghost use Rattle.ab_text.specs.Texts.{text_of};
 
-use crate::head::{height_text, plan_text, service_text};
+use crate::head::{plan_text, scheme_text, service_text, version_of, version_text};
 use crate::line_writing::add_line;
 use crate::report::party_string;
 use crate::schedule::Head;
+use crate::version::Version;
 use ab_num::{Cluster, OutOfMemory, Party};
 use std::alloc::{AllocError, Global};
 
@@ -26,25 +27,30 @@ fn clients_string(alloc: Global, clients: u16) -> Result<String, AllocError>
 }
 
 /// Adds the first four lines.
-fn add_cluster(out: &mut Vec<u8>, alloc: Global, cluster: &Cluster) -> Result<(), OutOfMemory>
-    ensures { OnOk result (out.new.items ≡ out.old.items ++ text_of (codes "abstract 1" ∷ (codes "f " ++ decimal cluster.now.f) ∷ plan_line cluster.now.plan ∷ (codes "clients " ++ decimal cluster.now.clients) ∷ [])) }
+fn add_cluster(
+    out: &mut Vec<u8>,
+    alloc: Global,
+    version: Version,
+    cluster: &Cluster,
+) -> Result<(), OutOfMemory>
+    ensures { OnOk result (out.new.items ≡ out.old.items ++ text_of (abstract_line version ∷ (codes "f " ++ decimal cluster.now.f) ∷ plan_line cluster.now.plan ∷ (codes "clients " ++ decimal cluster.now.clients) ∷ [])) }
 {
     let f = f_string(alloc, cluster.f)?;
     let clients = clients_string(alloc, cluster.clients)?;
-    add_line(out, b"abstract 1")?;
+    add_line(out, version_text(version).as_bytes())?;
     add_line(out, f.as_bytes())?;
     add_line(out, plan_text(cluster.plan).as_bytes())?;
     add_line(out, clients.as_bytes())?;
     Ok(())
 }
 
-/// Adds the six lines of the head.
+/// Adds the six lines of the head, the first with the least version that has the scheme.
 pub(crate) fn add_head(out: &mut Vec<u8>, alloc: Global, head: &Head) -> Result<(), OutOfMemory>
-    ensures { OnOk result (out.new.items ≡ out.old.items ++ text_of (head_lines (script_of head.now []))) }
+    ensures { OnOk result (out.new.items ≡ out.old.items ++ text_of (head_lines (least_version head.now.lms) (script_of head.now []))) }
 {
-    add_cluster(out, alloc, &head.cluster)?;
+    add_cluster(out, alloc, version_of(head.lms), &head.cluster)?;
     add_line(out, service_text(head.service).as_bytes())?;
-    add_line(out, height_text(head.lms).as_bytes())
+    add_line(out, scheme_text(head.lms).as_bytes())
 }
 
 /// The line of a faulty party and the number of its twins.

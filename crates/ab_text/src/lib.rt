@@ -21,13 +21,17 @@ mod parts;
 mod reading;
 mod report;
 mod schedule;
+mod version;
 mod writing;
 
 pub use cores::party_of;
 pub use event::{Core, Event};
 pub use event_lines::command_of;
 pub use fault::TextFault;
-pub use head::{height_in, height_text, plan_in, plan_text, service_in, service_text, word_number};
+pub use head::{
+    one_level_in, plan_in, plan_text, scheme_in, scheme_text, service_in, service_text,
+    two_levels_in, version_of, word_number,
+};
 pub use head_lines::cluster_of;
 pub use items::Items;
 pub use laws::{written_is_read, written_is_spelled};
@@ -40,4 +44,5 @@ pub use reading::{
 };
 pub use report::{party_string, write_end, write_log, write_premise, write_seen};
 pub use schedule::{Head, Schedule};
+pub use version::Version;
 pub use writing::write_schedule;

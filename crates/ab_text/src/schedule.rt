@@ -2,14 +2,14 @@
 
 use crate::event::Event;
 use crate::items::Items;
-use ab_num::{Cluster, Height, Party, ServiceName};
+use ab_num::{Cluster, Party, Scheme, ServiceName};
 
 /// What a cluster is set up with, and how many twins each faulty party has.
 #[derive(Debug, Drop)]
 pub struct Head {
     pub cluster: Cluster,
     pub service: ServiceName,
-    pub lms: Height,
+    pub lms: Scheme,
     pub faulty: Items<(Party, u8)>,
 }
 

@@ -5,7 +5,7 @@ use ab_key_text::{
     spelled_nodes_are_read,
 };
 use ab_keys::{KeyRing, is_party};
-use ab_num::{Cluster, Height, Party, Plan, ServiceName};
+use ab_num::{Cluster, Height, Party, Plan, Scheme, ServiceName};
 use std::alloc::Global;
 use std::process::Abort;
 
@@ -101,7 +101,7 @@ fn expect_r6(rt: &impl Abort, alloc: Global, keys: &PartyKeys, c: &Cluster) {
     assert!(rt; keys.me() == Party::Replica(6));
     assert!(rt; *keys.cluster() == *c);
     assert!(rt; keys.service() == ServiceName::Kv);
-    assert!(rt; keys.height() == Height::Five);
+    assert!(rt; keys.scheme() == Scheme::Lms(Height::Five));
 }
 
 /// The tag of a text for c2 by the ring of these keys.
@@ -118,14 +118,90 @@ fn derived_text(rt: HostRuntime) {
     if !is_party(&c, me) {
         panic!(rt; "a party");
     }
-    let keys = PartyKeys::derive(alloc, &c, ServiceName::Kv, Height::Five, &SEED, me).expect(
-        &rt, "memory",
-    );
+    let five = Scheme::Lms(Height::Five);
+    let keys = PartyKeys::derive(alloc, &c, ServiceName::Kv, five, &SEED, me).expect(&rt, "memory");
     expect_r6(&rt, alloc, &keys, &c);
     let tag = tag_by(&rt, alloc, &keys);
     drop(keys);
     let ring = KeyRing::derive(alloc, &c, &SEED, me).expect(&rt, "memory");
     assert!(rt; tag == ring.tag_for(Party::Client(2), b"put a 1"));
+}
+
+/// The text in which each first of a pair is replaced by the second, at its first place.
+fn all_altered(alloc: Global, text: &str, pairs: &[(&str, &str)]) -> Option<String> {
+    let mut out = String::from_str(alloc, text).ok()?;
+    for (old, new) in pairs {
+        out = altered(alloc, out.as_str(), old, new)?;
+    }
+    Some(out)
+}
+
+/// The keys of c0 where the replicas sign by two levels: the public key of the top stands behind the number of levels.
+fn two_levels(alloc: Global) -> Option<String> {
+    let pairs = [
+        ("keys 1\n", "keys 2\n"),
+        ("lms 10\n", "lms 20\n"),
+        ("public r0 00000006", "public r0 0000000200000006"),
+        ("public r1 00000006", "public r1 0000000200000006"),
+        ("public r2 00000006", "public r2 0000000200000006"),
+        ("public r3 00000006", "public r3 0000000200000006"),
+    ];
+    all_altered(alloc, OF_C0, &pairs)
+}
+
+#[test]
+fn derived_in_two_levels(rt: HostRuntime) {
+    let alloc = rt.alloc();
+    let c = Cluster::new(1, 1, Plan::Quorum).expect(&rt, "in bounds");
+    let me = Party::Client(0);
+    if !is_party(&c, me) {
+        panic!(rt; "a party");
+    }
+    let keys = PartyKeys::derive(alloc, &c, ServiceName::Kv, Scheme::Hss, &SEED, me).expect(
+        &rt, "memory",
+    );
+    assert!(rt; keys.scheme() == Scheme::Hss);
+    let text = two_levels(alloc).expect(&rt, "memory");
+    expect_text(&rt, alloc, &keys, text.as_str());
+    expect_read(&rt, alloc, text.as_str());
+}
+
+#[test]
+fn bad_lines_in_two_levels(rt: HostRuntime) {
+    let alloc = rt.alloc();
+    let text = two_levels(alloc).expect(&rt, "memory");
+    let cases = [
+        ("keys 2\n", "keys 3\n", 1),
+        ("keys 2\n", "keys 1\n", 7),
+        ("lms 20\n", "lms 10\n", 7),
+        ("lms 20\n", "lms 5\n", 7),
+        ("public r0 00000002", "public r0 ", 16),
+    ];
+    for (old, new, n) in cases {
+        let other = altered(alloc, text.as_str(), old, new).expect(&rt, "memory");
+        assert!(rt; fault_of(alloc, other.as_str()) == Some(KeyFault::BadLine(n)));
+    }
+    expect_fault(
+        &rt,
+        alloc,
+        "public r3 00000006",
+        "public r3 0000000200000006",
+        Some(KeyFault::BadLine(19)),
+    );
+    expect_fault(
+        &rt,
+        alloc,
+        "keys 1\n",
+        "keys 2\n",
+        Some(KeyFault::BadLine(7)),
+    );
+    expect_fault(
+        &rt,
+        alloc,
+        "lms 10\n",
+        "lms 20\n",
+        Some(KeyFault::BadLine(7)),
+    );
 }
 
 /// The text is read, and written as it was.

@@ -2,7 +2,7 @@
 
 ghost use Rattle.std.specs.Prelude.{◌<◌};
 
-use ab_num::{Height, OutOfMemory, Party, Plan, ServiceName};
+use ab_num::{Height, OutOfMemory, Party, Plan, Scheme, ServiceName};
 use ab_text::{
     Breach, Core, Event, Head, Items, Line, OpenCause, Premise, TextFault, fault_is_first,
     one_reading, read_is_in_form, read_is_spelled, read_schedule, spelled_is_read, write_end,
@@ -70,6 +70,42 @@ fn heads(rt: HostRuntime) {
             fault_in(alloc, &rt, text.as_bytes()) == Some(fault),
             "{text}"
         );
+    }
+}
+
+/// The scheme of a schedule with this first line and this line `lms`, or what is wrong with it.
+fn scheme_by(alloc: Global, first: &str, lms: &str) -> Option<Result<Scheme, TextFault>> {
+    let text = format!(in alloc;
+        "{first}\nf 1\nplan quorum\nclients 2\nservice echo\n{lms}\nrun\nend\n"
+    ).ok()?;
+    if text.len() > 1000 {
+        return None;
+    }
+    Some(match read_schedule(alloc, text.as_bytes()) {
+        Ok(schedule) => Ok(schedule.head.lms),
+        Err(fault) => Err(fault),
+    })
+}
+
+#[test]
+fn versions(rt: HostRuntime) {
+    let five = Scheme::Lms(Height::Five);
+    let ten = Scheme::Lms(Height::Ten);
+    let cases = [
+        ("abstract 1", "lms 5", Ok(five)),
+        ("abstract 1", "lms 10", Ok(ten)),
+        ("abstract 1", "lms 20", Err(TextFault::BadLine(6))),
+        ("abstract 2", "lms 5", Ok(five)),
+        ("abstract 2", "lms 10", Ok(ten)),
+        ("abstract 2", "lms 20", Ok(Scheme::Hss)),
+        ("abstract 2", "lms 15", Err(TextFault::BadLine(6))),
+        ("abstract 2", "lms 020", Err(TextFault::BadLine(6))),
+        ("abstract 3", "lms 20", Err(TextFault::BadLine(1))),
+        ("abstract 02", "lms 20", Err(TextFault::BadLine(1))),
+    ];
+    for (first, lms, read) in cases {
+        let found = scheme_by(rt.alloc(), first, lms).expect(&rt, "memory");
+        assert!(rt; found == read, "{first} {lms}");
     }
 }
 
@@ -158,7 +194,7 @@ fn lines(rt: HostRuntime) {
 fn expect_head(rt: &impl Abort, head: &Head) {
     let cluster = &head.cluster;
     assert!(rt; (cluster.f, cluster.clients, cluster.plan) == (1, 1, Plan::Quorum));
-    assert!(rt; (head.service, head.lms) == (ServiceName::Echo, Height::Five));
+    assert!(rt; (head.service, head.lms) == (ServiceName::Echo, Scheme::Lms(Height::Five)));
     assert!(rt; head.faulty.as_slice().len() == 0);
 }
 

@@ -1,6 +1,6 @@
 //! Words that are a command, and words that are none.
 
-use ab_num::{Height, Party, Plan, ServiceName};
+use ab_num::{Height, Party, Plan, Scheme, ServiceName};
 use ab_words::{Command, command_in};
 
 const ZERO: &str = "0000000000000000000000000000000000000000000000000000000000000000";
@@ -115,7 +115,7 @@ fn keys(rt: HostRuntime) {
             assert!(rt; asked.party() == Party::Replica(3));
             assert!(rt; asked.cluster().plan == Plan::Quorum);
             assert!(rt; asked.service() == ServiceName::Kv);
-            assert!(rt; asked.height() == Height::Ten);
+            assert!(rt; asked.scheme() == Scheme::Lms(Height::Ten));
             assert!(rt; *asked.seed() == [0; 32]);
         }
         _ => panic!(rt; "a command"),
@@ -124,6 +124,8 @@ fn keys(rt: HostRuntime) {
         (12, "r4"),
         (12, "c1"),
         (8, "5"),
+        (8, "20"),
+        (8, "15"),
         (10, "00"),
         (2, "plan quorum"),
     ] {
@@ -134,8 +136,37 @@ fn keys(rt: HostRuntime) {
         let taken = command_in(rt.alloc(), &other)
             .expect(&rt, "memory")
             .is_some();
-        assert!(rt; taken == (word == "5"));
+        assert!(rt; taken == (word == "5" || word == "20"));
     }
+}
+
+/// The scheme of the cluster that these words ask for.
+fn cluster_scheme(rt: &HostRuntime, lms: &str) -> Option<Scheme> {
+    let words = [
+        "cluster",
+        "--plan=aliph",
+        "--f=1",
+        "--service=kv",
+        "--lms",
+        lms,
+        "--seed",
+        ZERO,
+        "--base=9000",
+        "--wait=10",
+        "--turns=100",
+    ];
+    match command_in(rt.alloc(), &words).ok()? {
+        Some(Command::Cluster(asked)) => Some(asked.scheme()),
+        _ => None,
+    }
+}
+
+#[test]
+fn clusters(rt: HostRuntime) {
+    let five = Scheme::Lms(Height::Five);
+    assert!(rt; cluster_scheme(&rt, "5") == Some(five));
+    assert!(rt; cluster_scheme(&rt, "20") == Some(Scheme::Hss));
+    assert!(rt; cluster_scheme(&rt, "2") == None);
 }
 
 /// Whether the words are a node with this journal.

@@ -10,14 +10,14 @@ use Rattle.hex.specs.Hex.{decode_pairs}
 use Rattle.ab_num.specs.declared.party.Party.{Party}
 use Rattle.ab_num.specs.declared.plan.Plan.{Plan}
 use Rattle.ab_num.specs.declared.plan.ServiceName.{ServiceName}
-use Rattle.ab_num.specs.declared.plan.Height.{Height}
+use Rattle.ab_num.specs.declared.plan.Scheme.{Scheme}
 use Rattle.ab_text.specs.Cores.{Lacks}
-use Rattle.ab_text.specs.Heads.{spelled_in, plans, services, heights}
+use Rattle.ab_text.specs.Heads.{spelled_in, plans, services, schemes}
 use Rattle.ab_text.specs.Numbers.{is_number, number_of as number_text}
 use Rattle.ab_text.proofs.PartLemmas.{Lacks-decimal}
 use Rattle.ab_key_text.specs.Hex.{bytes_in, in_lower_case}
 use Rattle.ab_key_text.specs.Lines.{bounded, party_in}
-use Rattle.ab_words.specs.Values.{plan_name, service_name, height_name, named, number_in}
+use Rattle.ab_words.specs.Values.{plan_name, service_name, scheme_name, named, number_in}
 
 -- what takes no text with a dash in front takes plain texts alone
 plain-by : {B : Type 0} (read : List ℕ → Option B) → ((cs : List ℕ) → read (45 ∷ cs) ≡ None) → (v : List ℕ) (y : B) → read v ≡ Some y → strip_byte 45 v ≡ None
@@ -41,12 +41,12 @@ no-service cs = refl
 pub service-plain : (v : List ℕ) (y : ServiceName) → spelled_in service_name services v ≡ Some y → strip_byte 45 v ≡ None
 service-plain = plain-by (spelled_in service_name services) no-service
 
-no-height : (cs : List ℕ) → spelled_in height_name heights (45 ∷ cs) ≡ None
+no-scheme : (cs : List ℕ) → spelled_in scheme_name schemes (45 ∷ cs) ≡ None
 unfolding spelled_in
-no-height cs = refl
+no-scheme cs = refl
 
-pub height-plain : (v : List ℕ) (y : Height) → spelled_in height_name heights v ≡ Some y → strip_byte 45 v ≡ None
-height-plain = plain-by (spelled_in height_name heights) no-height
+pub scheme-plain : (v : List ℕ) (y : Scheme) → spelled_in scheme_name schemes v ≡ Some y → strip_byte 45 v ≡ None
+scheme-plain = plain-by (spelled_in scheme_name schemes) no-scheme
 
 no-party : (cs : List ℕ) → party_in (45 ∷ cs) ≡ None
 no-party cs = refl

@@ -7,7 +7,7 @@ ghost use Rattle.ab_words.specs.Options.{cluster_options, keys_options, node_opt
 ghost use Rattle.ab_words.specs.Uses.{texts};
 
 use crate::command::{ClusterCommand, Command, KeysCommand, NodeCommand, StormCommand};
-use crate::names::{height_named, plan_named, service_named};
+use crate::names::{plan_named, scheme_named, service_named};
 use crate::options::{
     BASE, CLIENTS, CLUSTER, EVENTS, F, KEYS, LMS, NODE, PARTY, PLAN, SEED, SERVICE, STORM, TURNS,
     WAIT, WHY,
@@ -30,7 +30,7 @@ fn keys_in(uses: &Uses<'_>) -> Option<KeysCommand>
     let f = number_of(uses, F, 1, 2)? as u8;
     let clients = number_of(uses, CLIENTS, 1, 16)? as u16;
     let service = service_named(uses.value_of(SERVICE)?)?;
-    let lms = height_named(uses.value_of(LMS)?)?;
+    let lms = scheme_named(uses.value_of(LMS)?)?;
     let seed = bytes_in(uses.value_of(SEED)?)?;
     let party = party_in(uses.value_of(PARTY)?)?;
     let cluster = cluster_of(f, clients, plan);
@@ -89,7 +89,7 @@ fn cluster_in(uses: &Uses<'_>) -> Option<ClusterCommand>
     let plan = plan_named(uses.value_of(PLAN)?)?;
     let f = number_of(uses, F, 1, 2)? as u8;
     let service = service_named(uses.value_of(SERVICE)?)?;
-    let lms = height_named(uses.value_of(LMS)?)?;
+    let lms = scheme_named(uses.value_of(LMS)?)?;
     let key_seed = bytes_in(uses.value_of(SEED)?)?;
     let first_port = number_of(uses, BASE, 1, 65000)? as u16;
     let wait = number_of(uses, WAIT, 1, 60000)? as u16;

@@ -1,6 +1,7 @@
 use Rattle.std.proofs.Common.{◌≡◌, ℕ, List, [], ◌∷◌, ◌++◌, codes, map, ap, ◌∙◌}
 use Rattle.ab_num.proofs.Lists.{five_parts}
 use Rattle.ab_text.specs.EventLines.{event_line}
+use Rattle.ab_text.specs.Heads.{version_of}
 use Rattle.ab_text.specs.Schedules.{faulty_line, script_of}
 use Rattle.ab_text.specs.Spelling.{head_lines}
 use Rattle.ab_text.specs.Texts.{text_of}
@@ -10,7 +11,7 @@ use Rattle.ab_text.proofs.writing.write_schedule.Goals as goal
 pub returns : goal.returns
 returns c =
     let s = c.args.schedule.now in
-    let head : List (List ℕ) = head_lines (script_of s.head []) in
+    let head : List (List ℕ) = head_lines (version_of s.head.lms) (script_of s.head []) in
     let faulty : List (List ℕ) = map faulty_line s.head.faulty in
     let run : List (List ℕ) = codes "run" ∷ [] in
     let events : List (List ℕ) = map event_line s.events in
