@@ -3,7 +3,7 @@
 
 usage: audit_input.py KEYS [TRACE..]
 
-KEYS is the key text of any party of the cluster, or the text that sets up its node: f, the height and the public keys are taken from it.
+KEYS is the key text of any party of the cluster, or the text that sets up its node: f, the line `lms` and the public keys are taken from it.
 A TRACE is what a node wrote with `--trace`, or any schedule: the bytes of each line `inject` are a message. Each message stands in the
 input once, in the order in which it first came. Without a TRACE the traces come from standard input. The input goes to standard output:
 
@@ -13,9 +13,9 @@ import sys
 
 
 def parts(text):
-    """The lines of a key text that an audit has too: f, the height and the public keys."""
+    """The lines of a key text that an audit has too: f, the line `lms` and the public keys."""
     lines = text.splitlines()
-    if lines[:1] != ["keys 1"]:
+    if lines[:1] not in (["keys 1"], ["keys 2"]):
         sys.exit("audit_input: the first file is no key text")
     return [line for word in ("f ", "lms ", "public ") for line in lines if line.startswith(word)]
 

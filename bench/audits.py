@@ -18,7 +18,9 @@ import two_levels as lms
 from programs import TOP, parser_of
 
 HEIGHTS = {5: 5, 6: 10}
-LENGTHS = (2348, 2508)
+LENGTHS = (2348, 2508, 5076)
+# The bytes of a public key in two levels, whose trees have height 10.
+TWO_LEVELS = 60
 
 
 class Bad(Exception):
@@ -209,9 +211,12 @@ def statements_of(data):
 
 
 def verifies(key, text, sig):
-    """Section 5.4.2 of RFC 8554 for the height that the key names."""
-    lms.TREE_TYPE, lms.H = int.from_bytes(key[:4], "big"), HEIGHTS.get(int.from_bytes(key[:4], "big"), 0)
+    """Section 5.4.2 of RFC 8554 for the height that the key names, or section 6.3 for a key in two levels."""
+    lms.TREE_TYPE = 6 if len(key) == TWO_LEVELS else int.from_bytes(key[:4], "big")
+    lms.H = HEIGHTS.get(lms.TREE_TYPE, 0)
     lms.SIG_LEN = 4 + lms.ONCE_LEN + 4 + lms.N * lms.H
+    if len(key) == TWO_LEVELS:
+        return lms.two_level_verifies(key, text, sig)
     return lms.H and lms.verifies(key, text, sig)
 
 

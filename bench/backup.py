@@ -1,12 +1,13 @@
 #!/usr/bin/env python3
 """Times replays of Backup alone: 16 clients invoke at once, again and again, and every packet is delivered in its order.
 
-usage: backup.py [COMMITS..]
+usage: backup.py [--lms H] [COMMITS..]
 
 A Backup takes at most 16 requests, so each round of the 16 clients needs an instance of its own: the replicas have stopped,
 answer with their ABORTs, and the clients carry their requests into the next instance. The words say how many commits there are at
 least; without words it times 200, 400 and 800. Prints, for each, the events, the seconds, events per second and the peak memory of the
-program. A replica can sign 1,024 times, once for each slot and once for each ABORT, which is enough for some 900.
+program. With trees of height 10, as without `--lms`, a replica can sign 1,024 times, once for each slot and once for each ABORT, which is
+enough for some 900. With `--lms 20` it signs in two levels, and the bound of its log is met first: 1,024 requests.
 
 How many packets a round sends is learned from the program, round by round, which takes some minutes."""
 
@@ -31,10 +32,10 @@ def invoke_at_once(made, clients=CLIENTS):
         made.invoke(f"c{client}", f"put k{client} v{made.requests + 1}")
 
 
-def begun():
+def begun(lms):
     """The first four instances take 1, 2, 4 and 8 requests, so that the first round of 16 needs a fifth, whose other 15 places
     are filled by a second round. From then on each round is an instance."""
-    made = Schedule(head("backup", clients=CLIENTS))
+    made = Schedule(head("backup", clients=CLIENTS, lms=lms))
     invoke_at_once(made)
     drain(made)
     for _ in range(4):
@@ -49,12 +50,13 @@ def begun():
 def main():
     parser = parser_of(__doc__)
     parser.add_argument("commits", nargs="*", type=int, default=[200, 400, 800])
-    counts = sorted(parser.parse_args().commits)
+    parser.add_argument("--lms", type=int, choices=(5, 10, 20), default=10)
+    asked = parser.parse_args()
     need("abstract_bft")
-    made = begun()
+    made = begun(asked.lms)
     invoke_at_once(made)
     packets = drain(made)
-    for commits in counts:
+    for commits in sorted(asked.commits):
         while made.requests < commits:
             invoke_at_once(made)
             made.deliver(packets)

@@ -1,11 +1,12 @@
 #!/usr/bin/env python3
 """Runs a cluster of nodes over UDP on this machine, and replays what they did, or times them.
 
-usage: cluster.py [--plan P] [--clients N] [--commands N] [--wait W] [--base B] [--lms H] [--stop R@N] [--noise] [--quiet]
+usage: cluster.py [--plan P] [--clients N] [--commands N] [--length L] [--wait W] [--base B] [--lms H] [--stop R@N] [--noise] [--quiet]
 
-Four replicas of the plan P (quorum) are started. When all of them listen, so are N clients (1), each with so many commands (1,000), one
-after the other; a cluster takes 1,024 requests in its life. Ports begin at B (where they are free). With `--stop r1@100` replica r1 is
-killed once 100 commands are answered, and with `--noise` random datagrams go to every port meanwhile.
+Four replicas of the plan P (quorum) are started. When all of them listen, so are N clients (1), each with so many commands (1,000) of
+L bytes or more (0; 128 at most), one after the other; a cluster takes 1,024 requests in its life. Ports begin at B (where they are free).
+With `--stop r1@100` replica r1 is killed once 100 commands are answered, and with `--noise` random datagrams go to every port meanwhile.
+It tells how many datagrams the system dropped at each port, since they came faster than they were taken.
 
 All nodes append their traces to one file, each a line before it sends what comes of it, so the lines of the file are a schedule in
 which nothing is taken before it was sent. That is replayed. `--quiet` leaves out traces and the replay: so nodes are timed. The time is
@@ -140,6 +141,13 @@ class Cluster:
         said = {party: node.communicate()[1].decode() for party, node in self.nodes.items()}
         return {party: node.returncode for party, node in self.nodes.items()}, said
 
+    def dropped(self):
+        """How many datagrams the system dropped at the port of each node that runs, if any."""
+        rows = [line.split() for line in pathlib.Path("/proc/net/udp").read_text().splitlines()[1:]]
+        drops = {int(row[1].partition(":")[2], 16): int(row[-1]) for row in rows}
+        ports = {party: self.asked.base + int(party[1:]) + 100 * party.startswith("c") for party in self.running()}
+        return {party: drops[port] for party, port in ports.items() if drops.get(port)}
+
     def lines_of(self, *words):
         """Its lines that begin with one of these words."""
         return [line for line in self.lines.read_bytes().splitlines() if line.split(b" ")[0] in words]
@@ -270,11 +278,16 @@ class Trouble:
             self.sender.sendto(data, (HOST, port))
 
 
+def command_of(asked, client, number):
+    """A client's command, of at least the bytes that are asked for."""
+    return (b"put k%d_%d v%d" % (client, number % 50, number)).ljust(asked.length, b"x")
+
+
 def run(cluster, asked):
     """Lets the clients' commands be answered, and returns the seconds that took, from when all replicas listened."""
     replicas, clients = [f"r{r}" for r in range(REPLICAS)], [f"c{c}" for c in range(asked.clients)]
     for c, client in enumerate(clients):
-        cluster.set_up(client, [b"put k%d_%d v%d" % (c, n % 50, n) for n in range(asked.commands)])
+        cluster.set_up(client, [command_of(asked, c, n) for n in range(asked.commands)])
     for replica in replicas:
         cluster.set_up(replica)
         cluster.start(replica, 1_000_000_000, asked.wait)
@@ -325,6 +338,7 @@ def options():
     parser.add_argument("--plan", default="quorum")
     parser.add_argument("--clients", type=int, default=1)
     parser.add_argument("--commands", type=int, default=1000)
+    parser.add_argument("--length", type=int, default=0)
     parser.add_argument("--wait", type=int, default=200)
     parser.add_argument("--base", type=int)
     parser.add_argument("--lms", default="10")
@@ -343,12 +357,13 @@ def main():
         cluster = Cluster(folder, asked)
         try:
             seconds = run(cluster, asked)
-            running = cluster.running()
+            running, dropped = cluster.running(), cluster.dropped()
         finally:
             statuses, said = cluster.stop()
         answered = len(cluster.replies())
         told = f"{answered} of {asked.commands * asked.clients} commands answered in {seconds:.3f} s"
         print(f"{told}, {answered / seconds:.0f} a second, {'without' if asked.quiet else 'with'} traces")
+        print(f"datagrams that the system dropped: {dropped}")
         print(f"nodes said: {[f'{party}: {text.strip()}' for party, text in said.items() if text]}")
         faults = [*faults_of(asked, running, statuses, answered), *([] if asked.quiet else compared(cluster))]
     print("\n".join(faults), end="\n" if faults else "")

@@ -149,7 +149,7 @@ def killed(plan, asked):
 
 def timed(plan, asked, with_journals):
     """How many commands a second one client has answered, and the bytes of journals a command."""
-    asked = told_of(plan, asked, clients=1, commands=asked.timed, wait=1000, quiet=True, stop=None, noise=False)
+    asked = told_of(plan, asked, clients=1, commands=asked.timed, wait=1000, length=0, quiet=True, stop=None, noise=False)
     with tempfile.TemporaryDirectory(dir=asked.folder) as folder:
         nodes = cluster.Cluster(folder, asked)
         if with_journals:

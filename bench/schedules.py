@@ -8,7 +8,8 @@ from programs import ran
 def head(plan, f=1, clients=1, service="kv", lms=10, faulty=()):
     """The lines before the events, with some that declare parties faulty."""
     settings = [f"f {f}", f"plan {plan}", f"clients {clients}", f"service {service}", f"lms {lms}"]
-    return ["abstract 1", *settings, *faulty, "run"]
+    version = 2 if int(lms) == 20 else 1
+    return [f"abstract {version}", *settings, *faulty, "run"]
 
 
 def deliveries(packets):

@@ -7,7 +7,8 @@ The script has RFC 8554's algorithms for LMOTS_SHA256_N32_W4 and LMS_SHA256_M32_
 of bottom keys as docs/FORMATS.md states them. It reads the key, the public key and the digests of signatures from the tests of
 `ab_hss`, makes those signatures itself, and tells which differ. It verifies each by section 6.3, and sees that none verifies with a bit
 turned in the bottom public key. It also verifies the signature that the standard's appendix F has in its test case 2, by the key of
-height 10. All take some five seconds; the status is 1 if something differs."""
+height 10, and makes the ABORT of `rows/hostile/an_abort_is_forged_two_levels` and the public keys of
+`rows/keys/a_client_of_quorum_two_levels`. All take some fifteen seconds; the status is 1 if something differs."""
 
 import hashlib
 import re
@@ -17,6 +18,8 @@ from functools import cache
 from programs import TOP, parser_of
 
 TESTS = TOP / "crates" / "ab_sign_trials" / "src"
+FORGED = TOP / "rows" / "hostile" / "an_abort_is_forged_two_levels.sched"
+KEYS = TOP / "rows" / "keys" / "a_client_of_quorum_two_levels.out"
 # The parameters of LMOTS_SHA256_N32_W4 and LMS_SHA256_M32_H10, and their type codes.
 N, W, P, LS, H = 32, 4, 67, 4, 10
 ONCE_TYPE, TREE_TYPE = 3, 6
@@ -150,10 +153,26 @@ def turned(sig):
     return sig[:at] + bytes([sig[at] ^ 1]) + sig[at + 1 :]
 
 
+def key_of(replica):
+    """The name and the seed of a replica's key, from the seed of zeros."""
+    text = bytes(32) + u8(0) + u16(replica)
+    return sha(u8(3), text)[:16], sha(u8(4), text)
+
+
+def forged():
+    """The ABORT of r3 that the row injects: what is signed, and the signature behind its length."""
+    message = bytes.fromhex(re.search(r"^inject c0 06(\w+)$", FORGED.read_text(), re.MULTILINE).group(1))
+    return message[:10], message[12:]
+
+
 def checks():
     """Yields what is looked at, and whether it is so."""
     standard = texts_of(TESTS / "standard.rt")
     yield "the standard's signature", verifies(standard["PUBLIC"], standard["MESSAGE"], standard["SIGNATURE"])
+    content, sig = forged()
+    yield "the row's forged ABORT", sig == two_level_signature(*key_of(3), 0, content)
+    publics = [bytes.fromhex(key) for key in re.findall(r"^public r\d (\w+)$", KEYS.read_text(), re.MULTILINE)]
+    yield "the row's public keys", publics == [u32(2) + public(*key_of(r)) for r in range(4)]
     tests = TESTS / "two_levels.rt"
     given = arrays_of(tests)
     name, seed = given["ID"], given["SEED"]
