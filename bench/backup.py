@@ -7,7 +7,8 @@ A Backup takes at most 16 requests, so each round of the 16 clients needs an ins
 answer with their ABORTs, and the clients carry their requests into the next instance. The words say how many commits there are at
 least; without words it times 200, 400 and 800. Prints, for each, the events, the seconds, events per second and the peak memory of the
 program. With trees of height 10, as without `--lms`, a replica can sign 1,024 times, once for each slot and once for each ABORT, which is
-enough for some 900. With `--lms 20` it signs in two levels, and the bound of its log is met first: 1,024 requests.
+enough for some 900. With `--lms 20` it signs in two levels and goes on, until the bytes of
+all packets reach the limit of a replay.
 
 How many packets a round sends is learned from the program, round by round, which takes some minutes."""
 
