@@ -113,7 +113,7 @@ pub fn read_audit(alloc: Global, text: &[u8]) -> Result<AuditText, NodeFault>
     let rest = named(text)?;
     let (f, rest) = number_at(rest, b"f ", 1, 2, 2)?;
     let (lms, rest) = scheme_at(rest)?;
-    let cluster = cluster_of(f as u8, 1, Plan::Quorum);
+    let cluster = cluster_of(f as u8, 1, Plan::Quorum, 0);
     let replicas = replicas(alloc, &cluster)?;
     let publics = publics_of(alloc, rest, lms, &replicas, 4)?;
     let front = Front {

@@ -36,25 +36,25 @@ fn cursor_stays_where_too_few_are_left(rt: HostRuntime) {
 
 #[test]
 fn plans_say_kind_and_limit(rt: HostRuntime) {
-    let azyzzyva = Cluster::new(1, 16, Plan::AZyzzyva).expect(&rt, "in bounds");
+    let azyzzyva = Cluster::new(1, 16, Plan::AZyzzyva, 0).expect(&rt, "in bounds");
     assert!(rt; azyzzyva.kind(1) == Kind::ZLight);
     assert!(rt; azyzzyva.kind(2) == Kind::Backup);
     assert!(rt; azyzzyva.replicas() == 4);
     assert!(rt; azyzzyva.limit(2) == 1);
     assert!(rt; azyzzyva.limit(8) == 8);
     assert!(rt; azyzzyva.limit(4294967294) == 16);
-    let aliph = Cluster::new(2, 1, Plan::Aliph).expect(&rt, "in bounds");
+    let aliph = Cluster::new(2, 1, Plan::Aliph, 0).expect(&rt, "in bounds");
     assert!(rt; aliph.kind(1) == Kind::Quorum);
     assert!(rt; aliph.kind(2) == Kind::Chain);
     assert!(rt; aliph.kind(3) == Kind::Backup);
     assert!(rt; aliph.limit(6) == 2);
-    assert!(rt; Cluster::new(3, 1, Plan::Aliph) == None);
-    assert!(rt; Cluster::new(1, 17, Plan::Aliph) == None);
+    assert!(rt; Cluster::new(3, 1, Plan::Aliph, 0) == None);
+    assert!(rt; Cluster::new(1, 17, Plan::Aliph, 0) == None);
 }
 
 #[test]
 fn positions_begin_at_the_primary(rt: HostRuntime) {
-    let cluster = Cluster::new(1, 1, Plan::Chain).expect(&rt, "in bounds");
+    let cluster = Cluster::new(1, 1, Plan::Chain, 0).expect(&rt, "in bounds");
     assert!(rt; cluster.primary(1) == 0);
     assert!(rt; cluster.primary(6) == 1);
     assert!(rt; cluster.at_position(6, 1) == 1);

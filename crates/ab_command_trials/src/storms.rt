@@ -50,14 +50,14 @@ fn none() -> [bool; 16] {
 
 #[test]
 fn first_event_of_seed_zero_is_a_timeout(rt: HostRuntime) {
-    let cluster = Cluster::new(1, 1, Plan::Quorum).expect(&rt, "no cluster");
+    let cluster = Cluster::new(1, 1, Plan::Quorum, 0).expect(&rt, "no cluster");
     let mut storm = Storm::new(0, &cluster);
     assert!(rt; is_timeout(&storm.next(0, &only(0)), Party::Replica(0)));
 }
 
 #[test]
 fn storms_of_seven_replicas(rt: HostRuntime) {
-    let cluster = Cluster::new(2, 16, Plan::Aliph).expect(&rt, "no cluster");
+    let cluster = Cluster::new(2, 16, Plan::Aliph, 0).expect(&rt, "no cluster");
     let mut storm = Storm::new(20, &cluster);
     assert!(rt; is_put(&storm.next(0, &only(3)), 3, b"put k0 v478"));
     assert!(rt; is_timeout(&storm.next(0, &none()), Party::Client(4)));
@@ -70,7 +70,7 @@ fn storms_of_seven_replicas(rt: HostRuntime) {
 
 #[test]
 fn packets_come_again(rt: HostRuntime) {
-    let cluster = Cluster::new(2, 16, Plan::Aliph).expect(&rt, "no cluster");
+    let cluster = Cluster::new(2, 16, Plan::Aliph, 0).expect(&rt, "no cluster");
     let mut storm = Storm::new(11, &cluster);
     assert!(rt; is_put(&storm.next(0, &only(3)), 3, b"put k1 v143"));
     assert!(rt; is_timeout(&storm.next(0, &none()), Party::Client(14)));

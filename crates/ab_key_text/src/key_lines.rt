@@ -85,14 +85,14 @@ pub(crate) fn setting_of(text: &[u8]) -> Result<(KeyLines, &[u8]), NodeFault>
     let (me, rest) = party_at(rest, 2)?;
     let (f, rest) = number_at(rest, b"f ", 1, 2, 3)?;
     let (clients, rest) = number_at(rest, b"clients ", 1, 16, 4)?;
-    let size = cluster_of(f as u8, clients as u16, Plan::Quorum);
+    let size = cluster_of(f as u8, clients as u16, Plan::Quorum, 0);
     if !is_party(&size, me) {
         return Err(NodeFault::BadLine(2));
     }
     let (plan, rest) = plan_at(rest, 5)?;
     let (service, rest) = service_at(rest, 6)?;
     let (lms, rest) = scheme_at(rest, version, 7)?;
-    let cluster = cluster_of(f as u8, clients as u16, plan);
+    let cluster = cluster_of(f as u8, clients as u16, plan, 0);
     Ok((
         KeyLines {
             me,

@@ -6,23 +6,25 @@ ghost use Rattle.ab_num.specs.Places.{at_position_of, backups_before, kind_of, l
 
 use crate::plan::{Kind, Plan};
 
-/// How many replicas may be faulty, how many clients there are, and the plan.
+/// How many replicas may be faulty, how many clients there are, the plan, and after how many requests a checkpoint is due (0: never).
 #[derive(Clone, Copy, Debug, PartialEq, Eq)]
 pub struct Cluster {
     pub f: u8,
     pub clients: u16,
     pub plan: Plan,
+    pub every: u16,
     pub ghost in_bounds: { IsInBounds f clients },
+    pub ghost is_dense: { every ≤ 128 },
 }
 
 impl Cluster {
     /// The cluster of these numbers, if they are in bounds.
-    pub fn new(f: u8, clients: u16, plan: Plan) -> Option<Cluster>
-        ensures variant { IsSome result ↔ IsInBounds f clients }
-        ensures made { IfSome result (λ c. (c.f ≡ f) × (c.clients ≡ clients) × (c.plan ≡ plan)) }
+    pub fn new(f: u8, clients: u16, plan: Plan, every: u16) -> Option<Cluster>
+        ensures variant { IsSome result ↔ IsInBounds f clients × (every ≤ 128) }
+        ensures made { IfSome result (λ c. (c.f ≡ f) × (c.clients ≡ clients) × (c.plan ≡ plan) × (c.every ≡ every)) }
     {
-        if f >= 1 && f <= 2 && clients >= 1 && clients <= 16 {
-            Some(Cluster { f, clients, plan })
+        if f >= 1 && f <= 2 && clients >= 1 && clients <= 16 && every <= 128 {
+            Some(Cluster { f, clients, plan, every })
         } else {
             None
         }

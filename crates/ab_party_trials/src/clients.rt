@@ -104,7 +104,7 @@ fn asks(alloc: Global, client: &mut Client, command: &[u8]) -> Result<(usize, us
 
 /// The first client of four replicas.
 fn client_of(alloc: Global, plan: Plan) -> Option<Client> {
-    let c = Cluster::new(1, 2, plan)?;
+    let c = Cluster::new(1, 2, plan, 0)?;
     Some(Client::new(alloc, &c, 0))
 }
 

@@ -126,7 +126,7 @@ fn forged(
 #[test]
 fn a_claim_that_nobody_made_is_forged(rt: HostRuntime) {
     let alloc = rt.alloc();
-    let k = Cluster::new(1, 1, Plan::Chain).expect(&rt, "a cluster");
+    let k = Cluster::new(1, 1, Plan::Chain, 0).expect(&rt, "a cluster");
     let me = Party::Replica(1);
     if !is_party(&k, me) {
         panic!(rt; "a party");

@@ -94,7 +94,7 @@ fn cluster_tells(alloc: Global, cluster: &Cluster) -> bool
 #[test]
 fn logs_of_instances_that_were_left(rt: HostRuntime) {
     let alloc = rt.alloc();
-    let done = match Cluster::new(1, 1, Plan::Quorum) {
+    let done = match Cluster::new(1, 1, Plan::Quorum, 0) {
         Some(cluster) => cluster_tells(alloc, &cluster),
         None => false,
     };

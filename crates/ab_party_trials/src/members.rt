@@ -32,6 +32,7 @@ fn keys_for(alloc: Global, me: Party) -> Result<PartyKeys, OutOfMemory>
         f: 1,
         clients: 1,
         plan: Plan::Quorum,
+        every: 0,
     };
     PartyKeys::derive(
         alloc,

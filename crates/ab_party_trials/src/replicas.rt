@@ -197,7 +197,7 @@ fn enters<P: Protocol<Echo>>(alloc: Global, c: &Cluster) -> Option<bool>
 #[test]
 fn an_abort_is_signed_once(rt: HostRuntime) {
     let alloc = rt.alloc();
-    let done = match Cluster::new(1, 4, Plan::Quorum) {
+    let done = match Cluster::new(1, 4, Plan::Quorum, 0) {
         Some(c) => aborts_once::<Null<Echo>>(alloc, &c),
         None => None,
     };
@@ -207,7 +207,7 @@ fn an_abort_is_signed_once(rt: HostRuntime) {
 #[test]
 fn an_event_is_spent(rt: HostRuntime) {
     let alloc = rt.alloc();
-    let done = match Cluster::new(1, 4, Plan::Quorum) {
+    let done = match Cluster::new(1, 4, Plan::Quorum, 0) {
         Some(c) => is_spent::<Null<Echo>>(alloc, &c),
         None => None,
     };
@@ -217,7 +217,7 @@ fn an_event_is_spent(rt: HostRuntime) {
 #[test]
 fn a_certificate_leads_on(rt: HostRuntime) {
     let alloc = rt.alloc();
-    let done = match Cluster::new(1, 4, Plan::Quorum) {
+    let done = match Cluster::new(1, 4, Plan::Quorum, 0) {
         Some(c) => enters::<Null<Echo>>(alloc, &c),
         None => None,
     };

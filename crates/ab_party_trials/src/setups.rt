@@ -12,7 +12,7 @@ const C0_TO_R1: [u8; 32] = [
 
 /// Four replicas and two clients.
 fn cluster() -> Option<Cluster> {
-    Cluster::new(1, 2, Plan::Quorum)
+    Cluster::new(1, 2, Plan::Quorum, 0)
 }
 
 /// The setup in which these two parties are faulty.

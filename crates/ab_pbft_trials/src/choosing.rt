@@ -148,7 +148,7 @@ fn the_highest_view_is_chosen(rt: HostRuntime) {
         drop(found);
         assert!(rt; is_wanted, "{k} {three:?}");
     }
-    let cluster = Cluster::new(1, 3, Plan::Backup).expect(&rt, "a cluster");
+    let cluster = Cluster::new(1, 3, Plan::Backup, 0).expect(&rt, "a cluster");
     assert!(rt; (cluster.limit(1), cluster.limit(2)) == (1, 2));
 }
 

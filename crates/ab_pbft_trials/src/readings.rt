@@ -129,7 +129,7 @@ fn is_change(
 #[test]
 fn what_is_of_others_tells_nothing(rt: HostRuntime) {
     let alloc = rt.alloc();
-    let c = Cluster::new(1, 1, Plan::Backup).expect(&rt, "a cluster");
+    let c = Cluster::new(1, 1, Plan::Backup, 0).expect(&rt, "a cluster");
     let ours = told_by(&rt, alloc, &c, 1, Prepare(3, 0, 1));
     let is_ours = matches!(
         &ours,
@@ -149,7 +149,7 @@ fn what_is_of_others_tells_nothing(rt: HostRuntime) {
 #[test]
 fn a_base_stands_in_slot_0(rt: HostRuntime) {
     let alloc = rt.alloc();
-    let c = Cluster::new(1, 1, Plan::Backup).expect(&rt, "a cluster");
+    let c = Cluster::new(1, 1, Plan::Backup, 0).expect(&rt, "a cluster");
     let first = told_by(&rt, alloc, &c, 1, Offer(0, 0, 0));
     let empty = match &first {
         Reading::PrePrepareBase { by: 0, base, .. } => base.len() == 0,
@@ -166,14 +166,14 @@ fn a_base_stands_in_slot_0(rt: HostRuntime) {
 #[test]
 fn a_certificate_gives_its_history(rt: HostRuntime) {
     let alloc = rt.alloc();
-    let c = Cluster::new(1, 1, Plan::Quorum).expect(&rt, "a cluster");
+    let c = Cluster::new(1, 1, Plan::Quorum, 0).expect(&rt, "a cluster");
     assert!(rt; base_len(&rt, alloc, &c, 1, &[0, 1, 2]) == Some(1));
 }
 
 #[test]
 fn what_is_no_certificate_gives_nothing(rt: HostRuntime) {
     let alloc = rt.alloc();
-    let c = Cluster::new(1, 1, Plan::Quorum).expect(&rt, "a cluster");
+    let c = Cluster::new(1, 1, Plan::Quorum, 0).expect(&rt, "a cluster");
     assert!(rt; base_len(&rt, alloc, &c, 1, &[]) == None);
     assert!(rt; base_len(&rt, alloc, &c, 1, &[0, 1]) == None);
     assert!(rt; base_len(&rt, alloc, &c, 1, &[0, 1, 1]) == None);
@@ -184,7 +184,7 @@ fn what_is_no_certificate_gives_nothing(rt: HostRuntime) {
 #[test]
 fn a_view_change_names_replicas_of_the_cluster(rt: HostRuntime) {
     let alloc = rt.alloc();
-    let c = Cluster::new(1, 1, Plan::Backup).expect(&rt, "a cluster");
+    let c = Cluster::new(1, 1, Plan::Backup, 0).expect(&rt, "a cluster");
     assert!(rt; is_change(&rt, alloc, &c, stating(alloc, 2, 0, &BASE_DIGEST, &[3])));
     assert!(rt; !is_change(&rt, alloc, &c, stating(alloc, 2, 0, &BASE_DIGEST, &[4])));
     assert!(rt; is_change(&rt, alloc, &c, stating_two(alloc, &[3], &[0, 1])));
@@ -195,7 +195,7 @@ fn a_view_change_names_replicas_of_the_cluster(rt: HostRuntime) {
 #[test]
 fn a_new_view_rests_on_view_changes(rt: HostRuntime) {
     let alloc = rt.alloc();
-    let c = Cluster::new(1, 1, Plan::Backup).expect(&rt, "a cluster");
+    let c = Cluster::new(1, 1, Plan::Backup, 0).expect(&rt, "a cluster");
     assert!(rt; is_other(told(&rt, alloc, &c, 1, leading(alloc, 4))));
     let entered = told(&rt, alloc, &c, 1, leading(alloc, 3));
     let count = match &entered {

@@ -130,7 +130,7 @@ fn keeps_rules<S: Service, P: Protocol<S>>(alloc: Global, c: &Cluster) -> Result
 
 #[test]
 fn the_first_position_answers(rt: HostRuntime) {
-    let kept = match Cluster::new(1, 4, Plan::Chain) {
+    let kept = match Cluster::new(1, 4, Plan::Chain, 0) {
         Some(c) => passes::<Kv, Chain<Kv>>(rt.alloc(), &c, 0, &REQUEST, &TO_SECOND),
         None => Ok(false),
     };
@@ -139,7 +139,7 @@ fn the_first_position_answers(rt: HostRuntime) {
 
 #[test]
 fn the_second_position_passes_on(rt: HostRuntime) {
-    let kept = match Cluster::new(1, 4, Plan::Chain) {
+    let kept = match Cluster::new(1, 4, Plan::Chain, 0) {
         Some(c) => passes::<Kv, Chain<Kv>>(rt.alloc(), &c, 1, &TO_SECOND, &REQUEST),
         None => Ok(false),
     };
@@ -148,7 +148,7 @@ fn the_second_position_passes_on(rt: HostRuntime) {
 
 #[test]
 fn the_last_position_answers_the_client(rt: HostRuntime) {
-    let kept = match Cluster::new(1, 4, Plan::Chain) {
+    let kept = match Cluster::new(1, 4, Plan::Chain, 0) {
         Some(c) => passes::<Kv, Chain<Kv>>(rt.alloc(), &c, 3, &TO_LAST, &TO_SECOND),
         None => Ok(false),
     };
@@ -157,7 +157,7 @@ fn the_last_position_answers_the_client(rt: HostRuntime) {
 
 #[test]
 fn the_last_position_refuses_another_reply(rt: HostRuntime) {
-    let kept = match Cluster::new(1, 4, Plan::Chain) {
+    let kept = match Cluster::new(1, 4, Plan::Chain, 0) {
         Some(c) => refuses::<Echo, Chain<Echo>>(rt.alloc(), &c, 3, &TO_LAST),
         None => Ok(false),
     };
@@ -166,7 +166,7 @@ fn the_last_position_refuses_another_reply(rt: HostRuntime) {
 
 #[test]
 fn it_has_the_rules_of_its_kind(rt: HostRuntime) {
-    let kept = match Cluster::new(1, 4, Plan::Chain) {
+    let kept = match Cluster::new(1, 4, Plan::Chain, 0) {
         Some(c) => keeps_rules::<Echo, Chain<Echo>>(rt.alloc(), &c),
         None => Ok(false),
     };

@@ -55,7 +55,7 @@ fn chooses(alloc: Global, c: &Cluster) -> Result<bool, OutOfMemory>
 
 #[test]
 fn each_kind_has_its_protocol(rt: HostRuntime) {
-    let chosen = match Cluster::new(1, 4, Plan::Aliph) {
+    let chosen = match Cluster::new(1, 4, Plan::Aliph, 0) {
         Some(c) => chooses(rt.alloc(), &c),
         None => Ok(false),
     };

@@ -98,7 +98,7 @@ fn keeps_rules<P: Protocol<Echo>>(alloc: Global, c: &Cluster) -> Result<bool, Ou
 
 #[test]
 fn the_primary_orders(rt: HostRuntime) {
-    let kept = match Cluster::new(1, 4, Plan::ZLight) {
+    let kept = match Cluster::new(1, 4, Plan::ZLight, 0) {
         Some(c) => orders::<ZLight<Echo>>(rt.alloc(), &c),
         None => Ok(false),
     };
@@ -107,7 +107,7 @@ fn the_primary_orders(rt: HostRuntime) {
 
 #[test]
 fn the_others_follow(rt: HostRuntime) {
-    let kept = match Cluster::new(1, 4, Plan::ZLight) {
+    let kept = match Cluster::new(1, 4, Plan::ZLight, 0) {
         Some(c) => follows::<ZLight<Echo>>(rt.alloc(), &c),
         None => Ok(false),
     };
@@ -116,7 +116,7 @@ fn the_others_follow(rt: HostRuntime) {
 
 #[test]
 fn it_has_the_rules_of_its_kind(rt: HostRuntime) {
-    let kept = match Cluster::new(1, 4, Plan::ZLight) {
+    let kept = match Cluster::new(1, 4, Plan::ZLight, 0) {
         Some(c) => keeps_rules::<ZLight<Echo>>(rt.alloc(), &c),
         None => Ok(false),
     };

@@ -33,7 +33,7 @@ fn rests<P: Protocol<Echo>>(alloc: Global, c: &Cluster) -> Result<bool, OutOfMem
 
 #[test]
 fn null_rests(rt: HostRuntime) {
-    let kept = match Cluster::new(1, 4, Plan::Aliph) {
+    let kept = match Cluster::new(1, 4, Plan::Aliph, 0) {
         Some(c) => rests::<Null<Echo>>(rt.alloc(), &c),
         None => Ok(false),
     };

@@ -66,7 +66,7 @@ fn keeps_rules<P: Protocol<Echo>>(alloc: Global, c: &Cluster) -> Result<bool, Ou
 
 #[test]
 fn quorum_answers_until_it_is_stopped(rt: HostRuntime) {
-    let kept = match Cluster::new(1, 4, Plan::Quorum) {
+    let kept = match Cluster::new(1, 4, Plan::Quorum, 0) {
         Some(c) => keeps_rules::<Quorum<Echo>>(rt.alloc(), &c),
         None => Ok(false),
     };

@@ -156,7 +156,7 @@ fn passes_all<S: Service, P: Protocol<S>>(
 
 #[test]
 fn one_may_be_faulty(rt: HostRuntime) {
-    let kept = match Cluster::new(1, 4, Plan::Chain) {
+    let kept = match Cluster::new(1, 4, Plan::Chain, 0) {
         Some(c) => passes_all::<Kv, Chain<Kv>>(rt.alloc(), &c, 3, &OF_ONE),
         None => Ok(false),
     };
@@ -165,7 +165,7 @@ fn one_may_be_faulty(rt: HostRuntime) {
 
 #[test]
 fn two_may_be_faulty(rt: HostRuntime) {
-    let kept = match Cluster::new(2, 4, Plan::Chain) {
+    let kept = match Cluster::new(2, 4, Plan::Chain, 0) {
         Some(c) => passes_all::<Kv, Chain<Kv>>(rt.alloc(), &c, 5, &OF_TWO),
         None => Ok(false),
     };
@@ -204,7 +204,7 @@ fn refuses<S: Service, P: Protocol<S>>(alloc: Global, c: &Cluster) -> Result<boo
 
 #[test]
 fn another_history_is_not_logged(rt: HostRuntime) {
-    let kept = match Cluster::new(1, 4, Plan::Chain) {
+    let kept = match Cluster::new(1, 4, Plan::Chain, 0) {
         Some(c) => refuses::<Kv, Chain<Kv>>(rt.alloc(), &c),
         None => Ok(false),
     };

@@ -100,7 +100,7 @@ fn answers_two<S: Service, P: Protocol<S>>(alloc: Global, c: &Cluster) -> Option
 
 #[test]
 fn a_backup_answers_what_is_ordered(rt: HostRuntime) {
-    let kept = match Cluster::new(1, 4, Plan::Backup) {
+    let kept = match Cluster::new(1, 4, Plan::Backup, 0) {
         Some(c) => answers_two::<Echo, Backup<Echo, Solo>>(rt.alloc(), &c).expect(&rt, "memory"),
         None => false,
     };

@@ -169,7 +169,7 @@ type Row = (u8, u32, &'static [u16]);
 
 /// How long the history of these ABORTs in instance 1 is, or what is wrong with them, where one replica may be faulty.
 fn answer(alloc: Global, plan: Plan, rows: &[Row]) -> Result<Option<Verdict>, OutOfMemory> {
-    let Some(c) = Cluster::new(1, 1, plan) else {
+    let Some(c) = Cluster::new(1, 1, plan, 0) else {
         return Ok(None);
     };
     let mut bytes = Vec::new(alloc);

@@ -28,7 +28,7 @@ const R0_TO_R3: [u8; 32] = [
 
 /// Four replicas and two clients.
 fn cluster() -> Option<Cluster> {
-    Cluster::new(1, 2, Plan::Quorum)
+    Cluster::new(1, 2, Plan::Quorum, 0)
 }
 
 #[test]

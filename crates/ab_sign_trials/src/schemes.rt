@@ -103,7 +103,7 @@ fn expect_last(rt: &impl Abort, alloc: Global, signers: &Signers) {
 #[test]
 fn replicas_sign_in_two_levels(rt: HostRuntime) {
     let alloc = rt.alloc();
-    let cluster = Cluster::new(1, 1, Plan::Backup).expect(&rt, "a cluster");
+    let cluster = Cluster::new(1, 1, Plan::Backup, 0).expect(&rt, "a cluster");
     let derived = Signers::derive(alloc, &cluster, Scheme::Hss, &SEED).expect(&rt, "memory");
     expect_last(&rt, alloc, &derived);
     let secret = SecretKey::new(Scheme::Hss, ID, SEED);

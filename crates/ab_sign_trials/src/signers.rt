@@ -49,7 +49,7 @@ fn expect_first(rt: &impl Abort, alloc: Global, signers: &Signers, content: &Con
 
 #[test]
 fn signs_as_others_do(rt: HostRuntime) {
-    let cluster = Cluster::new(1, 1, Plan::Backup).expect(&rt, "a cluster");
+    let cluster = Cluster::new(1, 1, Plan::Backup, 0).expect(&rt, "a cluster");
     let signers = Signers::derive(rt.alloc(), &cluster, FIVE, &SEED).expect(&rt, "memory");
     expect_first(&rt, rt.alloc(), &signers, &prepare(0));
 }
@@ -89,7 +89,7 @@ fn expect_last(rt: &impl Abort, alloc: Global, signers: &Signers, ring: &KeyRing
 #[test]
 fn signed_and_checked(rt: HostRuntime) {
     let alloc = rt.alloc();
-    let cluster = Cluster::new(1, 1, Plan::Backup).expect(&rt, "a cluster");
+    let cluster = Cluster::new(1, 1, Plan::Backup, 0).expect(&rt, "a cluster");
     let ring = KeyRing::derive(alloc, &cluster, &SEED, Party::Client(0)).expect(&rt, "memory");
     let signers = Signers::derive(alloc, &cluster, FIVE, &SEED).expect(&rt, "memory");
     expect_last(&rt, alloc, &signers, &ring, &prepare(1));

@@ -280,7 +280,7 @@ pub(crate) fn head_of(text: &[u8]) -> Result<(HeadLines, &[u8]), TextFault>
     let (clients, rest) = numbered(rest, b"clients ", 1, 16, 4)?;
     let (service, rest) = service_at(rest, 5)?;
     let (lms, rest) = scheme_at(version, rest, 6)?;
-    let cluster = cluster_of(f as u8, clients as u16, plan);
+    let cluster = cluster_of(f as u8, clients as u16, plan, 0);
     let setting = HeadLines {
         cluster,
         service,

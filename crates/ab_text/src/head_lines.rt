@@ -14,11 +14,13 @@ pub(crate) struct HeadLines {
 }
 
 /// The cluster of these numbers, which are within its bounds.
-pub fn cluster_of(f: u8, clients: u16, plan: Plan) -> Cluster
-    requires { IsInBounds f clients }
+pub fn cluster_of(f: u8, clients: u16, plan: Plan, every: u16) -> Cluster
+    requires bounds { IsInBounds f clients }
+    requires dense { every ≤ 128 }
     ensures f { result.f ≡ f }
     ensures clients { result.clients ≡ clients }
     ensures plan { result.plan ≡ plan }
+    ensures every { result.every ≡ every }
 {
-    Cluster { f, clients, plan }
+    Cluster { f, clients, plan, every }
 }

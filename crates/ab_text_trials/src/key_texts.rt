@@ -113,7 +113,7 @@ fn tag_by(rt: &impl Abort, alloc: Global, keys: &PartyKeys) -> Option<[u8; 32]> 
 #[test]
 fn derived_text(rt: HostRuntime) {
     let alloc = rt.alloc();
-    let c = Cluster::new(2, 3, Plan::Aliph).expect(&rt, "in bounds");
+    let c = Cluster::new(2, 3, Plan::Aliph, 0).expect(&rt, "in bounds");
     let me = Party::Replica(6);
     if !is_party(&c, me) {
         panic!(rt; "a party");
@@ -152,7 +152,7 @@ fn two_levels(alloc: Global) -> Option<String> {
 #[test]
 fn derived_in_two_levels(rt: HostRuntime) {
     let alloc = rt.alloc();
-    let c = Cluster::new(1, 1, Plan::Quorum).expect(&rt, "in bounds");
+    let c = Cluster::new(1, 1, Plan::Quorum, 0).expect(&rt, "in bounds");
     let me = Party::Client(0);
     if !is_party(&c, me) {
         panic!(rt; "a party");

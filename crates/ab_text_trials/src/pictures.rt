@@ -57,7 +57,7 @@ fn lines(alloc: Global) -> Result<Vec<Line>, OutOfMemory> {
 fn picture(alloc: Global) -> Option<Picture> {
     let events = events(alloc).ok()?;
     let lines = lines(alloc).ok()?;
-    let cluster = Cluster::new(1, 1, Plan::Quorum)?;
+    let cluster = Cluster::new(1, 1, Plan::Quorum, 0)?;
     let parcels = [
         SentPacket {
             to: Party::Replica(0),

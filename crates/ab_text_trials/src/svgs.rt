@@ -48,7 +48,7 @@ fn picture(alloc: Global) -> Result<Picture, Fail>
 {
     let events = events(alloc)?;
     let lines = lines(alloc)?;
-    let cluster = Cluster::new(1, 1, Plan::Quorum).ok_or("bounds")?;
+    let cluster = Cluster::new(1, 1, Plan::Quorum, 0).ok_or("bounds")?;
     let parcels = [SentPacket {
         to: Party::Replica(0),
         code: 1,

@@ -37,7 +37,7 @@ const CHAIN: [u8; 54] = [
 
 /// Why bytes don't open at a party of a cluster of four replicas and one client.
 fn fault(alloc: Global, me: Party, right: bool, bytes: &[u8]) -> Option<OpenFault> {
-    let k = Cluster::new(1, 1, Plan::Chain)?;
+    let k = Cluster::new(1, 1, Plan::Chain, 0)?;
     if !is_party(&k, me) {
         return None;
     }
@@ -63,7 +63,7 @@ fn a_chain_wants_a_reply_at_its_client(rt: HostRuntime) {
 #[test]
 fn what_is_checked_of_a_chain_is_told(rt: HostRuntime) {
     let alloc = rt.alloc();
-    let k = Cluster::new(1, 1, Plan::Chain).expect(&rt, "a cluster");
+    let k = Cluster::new(1, 1, Plan::Chain, 0).expect(&rt, "a cluster");
     let me = Party::Replica(1);
     if !is_party(&k, me) {
         panic!(rt; "a party");

@@ -33,7 +33,7 @@ fn keys_in(uses: &Uses<'_>) -> Option<KeysCommand>
     let lms = scheme_named(uses.value_of(LMS)?)?;
     let seed = bytes_in(uses.value_of(SEED)?)?;
     let party = party_in(uses.value_of(PARTY)?)?;
-    let cluster = cluster_of(f, clients, plan);
+    let cluster = cluster_of(f, clients, plan, 0);
     if is_party(&cluster, party) {
         Some(KeysCommand::new(cluster, service, lms, seed, party))
     } else {
@@ -52,7 +52,7 @@ fn storm_in(uses: &Uses<'_>) -> Option<StormCommand>
     let clients = number_of(uses, CLIENTS, 1, 16)? as u16;
     let seed = number_of(uses, SEED, 0, u64::MAX)?;
     let events = number_of(uses, EVENTS, 0, 100000)? as u32;
-    let cluster = cluster_of(f, clients, plan);
+    let cluster = cluster_of(f, clients, plan, 0);
     Some(StormCommand {
         cluster,
         seed,
@@ -94,7 +94,7 @@ fn cluster_in(uses: &Uses<'_>) -> Option<ClusterCommand>
     let first_port = number_of(uses, BASE, 1, 65000)? as u16;
     let wait = number_of(uses, WAIT, 1, 60000)? as u16;
     let turns = number_of(uses, TURNS, 1, 1000000000)? as u32;
-    let cluster = cluster_of(f, 1, plan);
+    let cluster = cluster_of(f, 1, plan, 0);
     Some(ClusterCommand {
         cluster,
         service,
