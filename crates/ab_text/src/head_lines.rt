@@ -1,6 +1,6 @@
 //! What the head of a schedule sets up, but for faulty parties.
 
-ghost use Rattle.std.specs.Prelude.{◌≡◌};
+ghost use Rattle.std.specs.Prelude.{◌≡◌, ◌≤◌};
 ghost use Rattle.ab_num.specs.Bounds.{IsInBounds};
 
 use ab_num::{Cluster, Plan, Scheme, ServiceName};
