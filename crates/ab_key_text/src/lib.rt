@@ -3,7 +3,6 @@
 
 mod derive;
 mod fault;
-mod hex_bytes;
 mod key_lines;
 mod keys;
 mod laws;
@@ -18,7 +17,6 @@ mod shared;
 mod writing;
 
 pub use fault::{KeyFault, NodeFault};
-pub use hex_bytes::bytes_in;
 pub use keys::PartyKeys;
 pub use laws::{
     derived_keys_are_in_form, fault_is_first, keys_are_whole, read_is_spelled, spelled_is_read,

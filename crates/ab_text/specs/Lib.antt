@@ -3,6 +3,7 @@ pub mod Lines
 pub mod Numbers
 pub mod Cores
 pub mod HexDigits
+pub mod HexBytes
 pub mod EventLines
 pub mod Heads
 pub mod Settings

@@ -4,12 +4,12 @@ use Rattle.ab_num.specs.declared.party.Party.{Party}
 use Rattle.ab_num.specs.declared.party.Party.TheVariants.{Replica, Client}
 use Rattle.ab_text.specs.declared.event.Event.{Event}
 use Rattle.ab_text.specs.declared.fault.TextFault.{TextFault}
-use Rattle.ab_text.specs.declared.fault.TextFault.TheVariants.{BadLine, NoEnd, OutOfMemory}
+use Rattle.ab_text.specs.declared.fault.TextFault.TheVariants.{BadLine, NoEnd, NotBuilt, OutOfMemory}
 use Rattle.ab_text.specs.declared.schedule.Head.{Head}
 use Rattle.ab_text.specs.Lines.{lines_of}
 use Rattle.ab_text.specs.Cores.{party_text}
 use Rattle.ab_text.specs.EventLines.{event_line, IsEvent}
-use Rattle.ab_text.specs.Heads.{Script, head_at}
+use Rattle.ab_text.specs.Heads.{Front, Script, head_at}
 
 abbrev pub script_of : Head → List Event → Script
 script_of h events = record {
@@ -18,6 +18,8 @@ script_of h events = record {
   plan = h.cluster.plan;
   service = h.service;
   lms = h.lms;
+  every = h.cluster.every;
+  seed = h.seed;
   faulty = h.faulty;
   events = events;
 }
@@ -88,12 +90,12 @@ ReadsFaulty n s (l ∷ ls) r =
 
 -- ---- the whole text
 
--- after six lines of the head
-abbrev pub Continues : Result (Script × List (List ℕ)) TextFault → Result Script TextFault → Type 0
+-- after the lines of the head
+abbrev pub Continues : Result Front TextFault → Result Script TextFault → Type 0
 Continues (Err e) r = r ≡ Err e
-Continues (Ok p) r = ReadsFaulty 7 p.0 p.1 r
+Continues (Ok front) r = ReadsFaulty front.next front.script front.rest r
 
--- what a text gives: a schedule, or the first line that is out of form or missing
+-- what a text gives: a schedule, or the first line that is out of form, missing or not built
 abbrev pub ReadsText : List ℕ → Result Script TextFault → Type 0
 ReadsText text r = Continues (head_at (lines_of text)) r
 
@@ -102,3 +104,4 @@ abbrev pub FaultOf : TextFault → (Result Script TextFault → Type 0) → Type
 FaultOf OutOfMemory Reads = Unit {0}
 FaultOf (BadLine n) Reads = Reads (Err (BadLine n))
 FaultOf (NoEnd n) Reads = Reads (Err (NoEnd n))
+FaultOf (NotBuilt n) Reads = Reads (Err (NotBuilt n))

@@ -12,6 +12,8 @@ set_up s faulty = record {
   plan = s.cluster.plan;
   service = s.service;
   lms = s.lms;
+  every = s.cluster.every;
+  seed = s.seed;
   faulty = faulty;
   events = [];
 }

@@ -9,4 +9,4 @@ text_of ls = flat_map (λ l. l ++ 10 ∷ []) ls
 
 -- with the least first line
 abbrev pub schedule_text : Script → List ℕ
-schedule_text s = text_of (schedule_lines (version_of s.lms) s)
+schedule_text s = text_of (schedule_lines (version_of s) s)

@@ -12,6 +12,9 @@ pub enum TextFault {
     /// The text ends before this line, which is wanted.
     #[error("the text ends before line {0}")]
     NoEnd(u32),
+    /// The line asks for what isn't built.
+    #[error("what line {0} asks for is not built")]
+    NotBuilt(u32),
     #[error("out of memory")]
     OutOfMemory,
 }

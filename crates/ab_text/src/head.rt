@@ -2,11 +2,12 @@
 
 ghost use Rattle.std.specs.Prelude.{◌≡◌, ◌<◌, ◌≤◌, [], length, IfOk};
 ghost use Rattle.ab_text.specs.Lines.{lines_of};
-ghost use Rattle.ab_text.specs.Heads.{Gives, number_at, name_at, head_at, number_after, spelled_in, abstract_line, versions, plan_line, plans, service_line, services, lms_line, one_level, schemes, schemes_of, two_levels, version_of as least_version};
+ghost use Rattle.ab_text.specs.Heads.{Gives, number_at, name_at, head_at, number_after, spelled_in, abstract_line, versions, plan_line, plans, service_line, services, lms_line, one_level, schemes, schemes_of, two_levels, version_with};
 ghost use Rattle.ab_text.specs.Settings.{set_up};
 
 use crate::fault::TextFault;
 use crate::head_lines::{HeadLines, cluster_of};
+use crate::later_lines::{every_at, head_count, seed_with};
 use crate::lines::next_line;
 use crate::numbers::number;
 use crate::parts::after;
@@ -24,7 +25,7 @@ pub fn word_number(line: &[u8], word: &[u8]) -> Option<u64>
 }
 
 /// The number in line `n`, after its word, and what comes after that line.
-fn numbered<'a>(
+pub(crate) fn numbered<'a>(
     text: &'a [u8],
     word: &[u8],
     low: u64,
@@ -58,12 +59,14 @@ pub(crate) fn version_text(version: Version) -> &'static str
     match version {
         Version::One => "abstract 1",
         Version::Two => "abstract 2",
+        Version::Three => "abstract 3",
+        Version::Four => "abstract 4",
     }
 }
 
 /// The version that a first line names.
 #[tactic(auto, unfolding(crate::specs::Heads::spelled_in))]
-fn version_in(line: &[u8]) -> Option<Version>
+pub(crate) fn version_in(line: &[u8]) -> Option<Version>
     ensures { result ≡ spelled_in abstract_line versions line.now }
 {
     if line == b"abstract 1".as_slice() {
@@ -72,12 +75,18 @@ fn version_in(line: &[u8]) -> Option<Version>
     if line == b"abstract 2".as_slice() {
         return Some(Version::Two);
     }
+    if line == b"abstract 3".as_slice() {
+        return Some(Version::Three);
+    }
+    if line == b"abstract 4".as_slice() {
+        return Some(Version::Four);
+    }
     None
 }
 
 /// The least version that has the scheme.
-pub fn version_of(scheme: Scheme) -> Version
-    ensures { result ≡ least_version scheme }
+pub(crate) fn version_with(scheme: Scheme) -> Version
+    ensures { result ≡ version_with scheme }
 {
     match scheme {
         Scheme::Lms(_) => Version::One,
@@ -208,7 +217,7 @@ fn scheme_with(version: Version, line: &[u8]) -> Option<Scheme>
 {
     match version {
         Version::One => one_level_in(line),
-        Version::Two => scheme_in(line),
+        Version::Two | Version::Three | Version::Four => scheme_in(line),
     }
 }
 
@@ -268,11 +277,12 @@ fn scheme_at(version: Version, text: &[u8], n: u32) -> Result<(Scheme, &[u8]), T
     }
 }
 
-/// What six lines set up, and what comes after them.
+/// What the lines of the head set up, and what comes after them.
 #[tactic(auto, unfolding(crate::specs::Heads::head_at))]
 pub(crate) fn head_of(text: &[u8]) -> Result<(HeadLines, &[u8]), TextFault>
-    ensures reads { Gives (λ p. (set_up p.0 [], lines_of p.1.now)) result (head_at (lines_of text.now)) }
+    ensures reads { Gives (λ p. record { script = set_up p.0 []; next = p.0.next; rest = lines_of p.1.now }) result (head_at (lines_of text.now)) }
     ensures shorter { IfOk result (λ p. length p.1.now ≤ length text.now) }
+    ensures few { IfOk result (λ p. p.0.next ≤ 9) }
 {
     let (version, rest) = version_at(text, 1)?;
     let (f, rest) = numbered(rest, b"f ", 1, 2, 2)?;
@@ -280,11 +290,15 @@ pub(crate) fn head_of(text: &[u8]) -> Result<(HeadLines, &[u8]), TextFault>
     let (clients, rest) = numbered(rest, b"clients ", 1, 16, 4)?;
     let (service, rest) = service_at(rest, 5)?;
     let (lms, rest) = scheme_at(version, rest, 6)?;
-    let cluster = cluster_of(f as u8, clients as u16, plan, 0);
+    let (every, rest) = every_at(version, rest)?;
+    let (seed, rest) = seed_with(version, rest)?;
+    let cluster = cluster_of(f as u8, clients as u16, plan, every);
     let setting = HeadLines {
         cluster,
         service,
         lms,
+        seed,
+        next: head_count(version) + 1,
     };
     Ok((setting, rest))
 }

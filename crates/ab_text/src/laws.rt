@@ -3,7 +3,7 @@
 ghost use Rattle.std.specs.Prelude.{Ok};
 ghost use Rattle.ab_text.specs.Heads.{Script};
 ghost use Rattle.ab_text.specs.Schedules.{ReadsText};
-ghost use Rattle.ab_text.specs.Spelling.{IsSchedule, IsSpelled};
+ghost use Rattle.ab_text.specs.Spelling.{IsBuilt, IsSchedule, IsSpelled};
 ghost use Rattle.ab_text.specs.Texts.{schedule_text};
 
 use crate::reading::spelled_is_read;
@@ -13,9 +13,9 @@ pub fn written_is_spelled()
     ensures { (s : Script) → IsSchedule s → IsSpelled (schedule_text s) s }
 {}
 
-/// Reading the text gives the schedule again.
+/// Reading the text gives the schedule again, if it has no checkpoints.
 pub fn written_is_read()
-    ensures { (s : Script) → IsSchedule s → ReadsText (schedule_text s) (Ok s) }
+    ensures { (s : Script) → IsSchedule s → IsBuilt s → ReadsText (schedule_text s) (Ok s) }
 {
     written_is_spelled();
     spelled_is_read();

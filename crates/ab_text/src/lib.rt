@@ -11,7 +11,9 @@ mod faulty;
 mod head;
 mod head_lines;
 mod head_writing;
+mod hex_bytes;
 mod items;
+mod later_lines;
 mod laws;
 mod line;
 mod line_writing;
@@ -30,10 +32,12 @@ pub use event_lines::command_of;
 pub use fault::TextFault;
 pub use head::{
     one_level_in, plan_in, plan_text, scheme_in, scheme_text, service_in, service_text,
-    two_levels_in, version_of, word_number,
+    two_levels_in, word_number,
 };
 pub use head_lines::cluster_of;
+pub use hex_bytes::bytes_in;
 pub use items::Items;
+pub use later_lines::lines_of_head;
 pub use laws::{written_is_read, written_is_spelled};
 pub use line::{Breach, Line, OpenCause, Premise};
 pub use lines::next_line;

@@ -5,8 +5,8 @@ ghost use Rattle.ab_text.specs.Lines.{lines_of};
 ghost use Rattle.ab_text.specs.declared.fault.TextFault.{TextFault as TheFault};
 ghost use Rattle.ab_text.specs.Heads.{Script};
 ghost use Rattle.ab_text.specs.Settings.{set_up};
-ghost use Rattle.ab_text.specs.Faults.{BeginsNone, BeginsSome};
-ghost use Rattle.ab_text.specs.Spelling.{IsSpelled};
+ghost use Rattle.ab_text.specs.Faults.{BeginsNone, BeginsSome, BeginsUnbuilt};
+ghost use Rattle.ab_text.specs.Spelling.{IsBuilt, IsSpelled};
 ghost use Rattle.ab_text.specs.Forms.{IsInForm};
 ghost use Rattle.ab_text.specs.Schedules.{ReadsEvents, ReadsFaulty, ReadsText, FaultOf, script_of};
 
@@ -70,6 +70,7 @@ fn head_with(setting: HeadLines, faulty: Items<(Party, u8)>) -> Head
         cluster: setting.cluster,
         service: setting.service,
         lms: setting.lms,
+        seed: setting.seed,
         faulty,
     }
 }
@@ -104,7 +105,7 @@ fn faulty_after(
     Err(TextFault::NoEnd(n))
 }
 
-/// The schedule that a text spells. A line that is out of form or missing is the first one.
+/// The schedule that a text spells. A line that is out of form, missing or not built is the first one.
 pub fn read_schedule(alloc: Global, text: &[u8]) -> Result<Schedule, TextFault>
     requires { length text.now < 2 ^ 31 }
     ensures { MatchResult result
@@ -112,22 +113,25 @@ pub fn read_schedule(alloc: Global, text: &[u8]) -> Result<Schedule, TextFault>
         (λ e. FaultOf e (ReadsText text.now)) }
 {
     let (setting, rest) = head_of(text)?;
-    faulty_after(alloc, setting, rest, 7)
+    faulty_after(alloc, setting, rest, setting.next)
 }
 
-/// What is read as a schedule is spelled so.
+/// What is read as a schedule is spelled so, and has no checkpoints.
 pub fn read_is_spelled()
-    ensures { (text : List ℕ) (s : Script) → ReadsText text (Ok s) → IsSpelled text s }
+    ensures spelled { (text : List ℕ) (s : Script) → ReadsText text (Ok s) → IsSpelled text s }
+    ensures built { (text : List ℕ) (s : Script) → ReadsText text (Ok s) → IsBuilt s }
 {}
 
-/// What is read as a schedule has faulty parties of the cluster, each once with 1 to 4 twins, and events in form.
+/// What is read as a schedule has no checkpoints, a seed of 32 bytes, faulty parties of the cluster, each once with 1 to 4 twins,
+/// and events in form.
 pub fn read_is_in_form()
     ensures { (text : List ℕ) (s : Script) → ReadsText text (Ok s) → IsInForm s }
 {}
 
-/// What is spelled so is read.
+/// What is spelled so is read, if it has no checkpoints. If it has, that is what is wrong with it.
 pub fn spelled_is_read()
-    ensures { (text : List ℕ) (s : Script) → IsSpelled text s → ReadsText text (Ok s) }
+    ensures built { (text : List ℕ) (s : Script) → IsSpelled text s → IsBuilt s → ReadsText text (Ok s) }
+    ensures not_built { (text : List ℕ) (s : Script) → IsSpelled text s → 1 ≤ s.every → ReadsText text (Err (TextFault.NotBuilt 7)) }
 {}
 
 /// A text gives one result.
@@ -135,8 +139,9 @@ pub fn one_reading()
     ensures { (text : List ℕ) (r q : Result Script TheFault) → ReadsText text r → ReadsText text q → r ≡ q }
 {}
 
-/// A fault names the first line that is out of form or missing: the lines before it begin a schedule, and
-/// with it they begin none.
+/// A fault names the first line that is out of form, missing or not built: the lines before it begin a schedule without
+/// checkpoints. With a line that is out of form they begin none. With one that isn't built they begin only schedules with
+/// checkpoints.
 pub fn fault_is_first()
     ensures before_bad { (text : List ℕ) (n : ℕ) → ReadsText text (Err (TextFault.BadLine n))
         → BeginsSome (take (n - 1) (lines_of text)) }
@@ -147,4 +152,9 @@ pub fn fault_is_first()
         → BeginsSome (take (n - 1) (lines_of text)) }
     ensures no_end { (text : List ℕ) (n : ℕ) → ReadsText text (Err (TextFault.NoEnd n))
         → (n ≡ length (lines_of text) + 1) × ((s : Script) → IsSpelled text s → ⊥) }
+
+    ensures before_not_built { (text : List ℕ) (n : ℕ) → ReadsText text (Err (TextFault.NotBuilt n))
+        → BeginsSome (take (n - 1) (lines_of text)) }
+    ensures not_built { (text : List ℕ) (n : ℕ) → ReadsText text (Err (TextFault.NotBuilt n))
+        → (1 ≤ n) × (n ≤ length (lines_of text)) × BeginsUnbuilt (take n (lines_of text)) }
 {}

@@ -2,7 +2,7 @@
 
 ghost use Rattle.std.specs.Prelude.{◌≡◌, ◌≤◌, ◌*◌, ◌↔◌, IsTrue, length};
 ghost use Rattle.hex.specs.Hex.{encode_lower};
-ghost use Rattle.ab_key_text.specs.Hex.{bytes_in};
+ghost use Rattle.ab_text.specs.HexBytes.{bytes_in};
 
 /// Whether a text is that of these bytes, in lower case.
 fn is_spelled(bytes: &[u8], text: &[u8]) -> bool
@@ -18,7 +18,7 @@ fn is_spelled(bytes: &[u8], text: &[u8]) -> bool
 }
 
 /// The `N` bytes whose text this is.
-#[tactic(auto, unfolding(crate::specs::Hex::bytes_in))]
+#[tactic(auto, unfolding(crate::specs::HexBytes::bytes_in))]
 pub fn bytes_in<const N: usize>(text: &[u8]) -> Option<[u8; N]>
     requires { N ≤ 60 }
     ensures { result ≡ bytes_in N text.now }
