@@ -19,15 +19,15 @@ use Rattle.ab_text.specs.declared.event.Core.{Core}
 use Rattle.ab_text.specs.declared.event.Event.{Event}
 use Rattle.ab_text.specs.declared.event.Event.TheVariants.{Invoke, Deliver, Timeout, Inject}
 use Rattle.ab_text.specs.declared.version.Version.{Version}
-use Rattle.ab_text.specs.declared.version.Version.TheVariants.{One, Two}
+use Rattle.ab_text.specs.declared.version.Version.TheVariants.{One, Two, Three, Four}
 use Rattle.ab_text.specs.Cores.{Lacks, party_text, IsParty, twin_text, core_text, IsTwin, IsCore}
 use Rattle.ab_text.specs.EventLines.{IsEvent, IsCommand, delivery_text, event_line}
-use Rattle.ab_text.specs.Heads.{Script, abstract_line, plan_line, service_line, lms_line, version_of}
+use Rattle.ab_text.specs.Heads.{Script, abstract_line, plan_line, service_line, lms_line, seed_line, version_of}
 use Rattle.ab_text.specs.Lines.{lines_of, onto_first}
 use Rattle.ab_text.specs.Schedules.{IsInside, faulty_line}
-use Rattle.ab_text.specs.Spelling.{AreFaulty, IsSchedule, IsSpelled, event_lines, faulty_lines, head_lines, schedule_lines}
+use Rattle.ab_text.specs.Spelling.{AreFaulty, IsSchedule, IsSeed, IsSpelled, event_lines, faulty_lines, head_lines, later_lines, schedule_lines}
 use Rattle.ab_text.proofs.CoreLemmas.{Lacks-party}
-use Rattle.ab_text.proofs.HeadLemmas.{allows_least}
+use Rattle.ab_text.proofs.HeadLemmas.{goes_least}
 use Rattle.ab_text.proofs.HexLemmas.{encoded_lower}
 use Rattle.ab_text.proofs.PartLemmas.{Lacks-append, Lacks-cons, Lacks-decimal}
 use Rattle.ab_text.specs.Texts.{text_of, schedule_text}
@@ -127,6 +127,8 @@ no_feed_in_faulty f clients done (x ∷ faulty) events few small next good =
 no_feed_in_version : (w : Version) → HasNoFeed (abstract_line w)
 no_feed_in_version One = tested (codes "abstract 1") refl
 no_feed_in_version Two = tested (codes "abstract 2") refl
+no_feed_in_version Three = tested (codes "abstract 3") refl
+no_feed_in_version Four = tested (codes "abstract 4") refl
 
 pub no_feed_in_plan : (p : Plan) → HasNoFeed (plan_line p)
 no_feed_in_plan AZyzzyva = tested (codes "plan azyzzyva") refl
@@ -146,18 +148,31 @@ no_feed_in_scheme (Lms Ten) = tested (codes "lms 10") refl
 no_feed_in_scheme Hss = tested (codes "lms 20") refl
 
 -- a word and a small number
-numbered : (word : List ℕ) (n : ℕ) → has_no_feed word ≡ true → n ≤ 16 → HasNoFeed (word ++ decimal n)
+numbered : (word : List ℕ) (n : ℕ) → has_no_feed word ≡ true → n ≤ 128 → HasNoFeed (word ++ decimal n)
 numbered word n none few = Lacks-append 10 word (decimal n) (tested word none) (Lacks-decimal 10 n (omega arith) (omega (arith, few)))
 
-no_feed_in_head : (w : Version) (s : Script) → IsInBounds s.f s.clients → HaveNoFeed (head_lines w s)
-no_feed_in_head w s bounds =
-    let few = bounds.few_faulty in (
+no_feed_in_seed : (seed : List ℕ) → IsSeed seed → HasNoFeed (seed_line seed)
+no_feed_in_seed seed good = Lacks-append 10 (codes "seed ") (encode_lower seed) (tested (codes "seed ") refl) (no_feed_in_digits seed good.small)
+
+no_feed_in_later : (w : Version) (every : ℕ) (seed : List ℕ) → every ≤ 128 → IsSeed seed → HaveNoFeed (later_lines w every seed)
+no_feed_in_later One every seed dense good = tt
+no_feed_in_later Two every seed dense good = tt
+no_feed_in_later Three every seed dense good = (numbered (codes "checkpoint ") every refl dense, tt)
+no_feed_in_later Four every seed dense good = (numbered (codes "checkpoint ") every refl dense, (no_feed_in_seed seed good, tt))
+
+no_feed_in_head : (w : Version) (s : Script) → IsSchedule s → HaveNoFeed (head_lines w s)
+no_feed_in_head w s schedule =
+    let few = schedule.bounds.few_faulty in
+    let count = schedule.bounds.few_clients in (
       no_feed_in_version w,
       (
         numbered (codes "f ") s.f refl (omega (arith, few)),
         (
           no_feed_in_plan s.plan,
-          (numbered (codes "clients ") s.clients refl bounds.few_clients, (no_feed_in_service s.service, (no_feed_in_scheme s.lms, tt))),
+          (
+            numbered (codes "clients ") s.clients refl (omega (arith, count)),
+            (no_feed_in_service s.service, (no_feed_in_scheme s.lms, no_feed_in_later w s.every s.seed schedule.dense schedule.seed)),
+          ),
         ),
       ),
     )
@@ -167,10 +182,12 @@ no_feed_in_head w s bounds =
 pub text_spells : (s : Script) → IsSchedule s → IsSpelled (schedule_text s) s
 text_spells s good =
     let body = no_feed_in_faulty s.f s.clients [] s.faulty s.events good.bounds.few_faulty good.bounds.few_clients good.faulty good.events in
-    let w = version_of s.lms in
+    let w = version_of s in
+    let goes = goes_least s in
     record {
       schedule = good;
       version = w;
-      allows = allows_least s.lms;
-      lines = lines_of-text_of (schedule_lines w s) (both (head_lines w s) (faulty_lines s.faulty s.events) (no_feed_in_head w s good.bounds) body);
+      allows = goes.0;
+      omits = goes.1;
+      lines = lines_of-text_of (schedule_lines w s) (both (head_lines w s) (faulty_lines s.faulty s.events) (no_feed_in_head w s good) body);
     }

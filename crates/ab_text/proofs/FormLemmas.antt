@@ -10,7 +10,7 @@ use Rattle.ab_text.specs.Heads.{Script}
 use Rattle.ab_text.specs.Schedules.{ReadsText, IsBefore, IsInside}
 use Rattle.ab_text.specs.Spelling.{AreFaulty}
 use Rattle.ab_text.specs.Forms.{IsDeclared, IsInForm}
-use Rattle.ab_text.proofs.SpellingLemmas.{read_spelled}
+use Rattle.ab_text.proofs.SpellingLemmas.{read_built, read_spelled}
 
 abbrev Declared : Type 0
 Declared = Party × ℕ
@@ -65,6 +65,8 @@ pub read_in_form : (text : List ℕ) (s : Script) → ReadsText text (Ok s) → 
 read_in_form text s reads =
     let schedule = (read_spelled text s reads).schedule in
     record {
+      built = read_built text s reads;
+      seed = schedule.seed;
       parties = declared s.f s.clients s.faulty [] schedule.faulty;
       ascending = ascending s.f s.clients s.faulty [] schedule.faulty;
       few = few s.f s.clients s.faulty schedule.faulty;

@@ -1,11 +1,15 @@
 -- The head of a schedule, read and spelled.
-use Rattle.std.proofs.Common.{◌≡◌, ℕ, ◌<◌, ◌≤◌, ◌^◌, List, [], ◌∷◌, ◌++◌, Bool, true, false, Option, Some, None, Result, Ok, Err, find, codes, decimal, refl, sym, ap, ◌∙◌, inl, inr, nat_le, ◌&&◌, if◌then◌else◌, eqb, arith, subst}
+use Rattle.std.proofs.Common.{◌≡◌, ℕ, ◌+◌, ◌<◌, ◌≤◌, ◌^◌, List, [], ◌∷◌, ◌++◌, Bool, true, false, Option, Some, None, Result, Ok, Err, find, codes, decimal, refl, sym, ap, ◌∙◌, inl, inr, nat_le, ◌&&◌, if◌then◌else◌, eqb, arith, subst, ◌⊎◌, zero, suc, length, All, replicate, get_or}
 use Rattle.std.specs.List.{AllByRecursion}
+use Rattle.std.specs.Option.{option_and_then}
+use Rattle.std.specs.Prelude.{nat_eq}
 use Rattle.std.specs.Str.{bytes_eq}
 use Rattle.std.specs.Str.Parse.{digits_value}
-use Rattle.std.proofs.lemmas.Bool.{cases_Bool, and_parts, leb-true, le-leb}
+use Rattle.std.proofs.lemmas.Bool.{cases_Bool, and_parts, false_from_ne_true, leb-true, le-leb}
 use Rattle.std.proofs.lemmas.Bool.Decides.{Decides-eqb}
+use Rattle.std.proofs.lemmas.List.Elements.{All-cons}
 use Rattle.std.proofs.lemmas.Slice.Eq.{bytes_eq-Decides}
+use Rattle.hex.specs.Hex.{encode_lower}
 use Rattle.std.proofs.lemmas.Option.{same_Some, none-some}
 use Rattle.ab_num.specs.Bounds.{IsInBounds}
 use Rattle.ab_num.specs.declared.plan.Plan.{Plan}
@@ -17,12 +21,14 @@ use Rattle.ab_num.specs.declared.plan.Height.TheVariants.{Five, Ten}
 use Rattle.ab_num.specs.declared.plan.Scheme.{Scheme}
 use Rattle.ab_num.specs.declared.plan.Scheme.TheVariants.{Lms, Hss}
 use Rattle.ab_text.specs.declared.fault.TextFault.{TextFault}
-use Rattle.ab_text.specs.declared.fault.TextFault.TheVariants.{BadLine}
+use Rattle.ab_text.specs.declared.fault.TextFault.TheVariants.{BadLine, NoEnd, NotBuilt, OutOfMemory}
 use Rattle.ab_text.specs.declared.version.Version.{Version}
-use Rattle.ab_text.specs.declared.version.Version.TheVariants.{One, Two}
+use Rattle.ab_text.specs.declared.version.Version.TheVariants.{One, Two, Three, Four}
+use Rattle.ab_text.specs.HexBytes.{bytes_in}
 use Rattle.ab_text.specs.Numbers.{number_of, is_number}
-use Rattle.ab_text.specs.Heads.{◌>>=◌, Script, number_at, number_after, number_in, stripped, within, spelled_in, taken, name_at, abstract_line, versions, plan_line, plans, service_line, services, lms_line, schemes_of, version_of, head_at}
-use Rattle.ab_text.specs.Spelling.{Allows, head_lines}
+use Rattle.ab_text.specs.Heads.{◌>>=◌, Front, Script, number_at, number_after, number_in, stripped, within, spelled_in, taken, name_at, abstract_line, versions, plan_line, plans, service_line, services, lms_line, schemes_of, checkpoint_line, seed_line, no_seed, version_with, version_of, head_count, built, checkpoint_at, seed_in, seed_at, every_at, seed_with, head_at}
+use Rattle.ab_text.specs.Spelling.{Allows, IsBuilt, IsSeed, Omits, head_lines, later_lines}
+use Rattle.ab_text.proofs.HexLemmas.{bytes_were, read_bytes}
 use Rattle.ab_text.proofs.WordLemmas.{stripped-is}
 use Rattle.ab_text.proofs.NumberLemmas.{is_some_number}
 
@@ -120,6 +126,8 @@ name_has P spell all n (l ∷ ls) rest a each h = spelled_has P spell all l a ea
 allowed : (w : Version) → AllByRecursion (Allows w) (schemes_of w)
 allowed One = (tt, (tt, tt))
 allowed Two = (tt, (tt, (tt, tt)))
+allowed Three = (tt, (tt, (tt, tt)))
+allowed Four = (tt, (tt, (tt, tt)))
 
 -- the scheme that a schedule of this version names
 pub scheme_allowed : (w : Version) (n : ℕ) (ls rest : List (List ℕ)) (h : Scheme) → name_at lms_line (schemes_of w) n ls ≡ Ok (h, rest) → Allows w h
@@ -129,88 +137,320 @@ scheme_allowed w n ls rest h is = name_has (Allows w) lms_line (schemes_of w) n 
 abbrev pub Rest : Type 0
 Rest = List (List ℕ)
 
-abbrev pub script : ℕ → Plan → ℕ → ServiceName → Scheme → Script
-script f p c v h = record { f = f; clients = c; plan = p; service = v; lms = h; faulty = []; events = [] }
+abbrev pub Read : Type 0
+Read = Result Front TextFault
 
-abbrev pub from6 : Version → ℕ → Plan → ℕ → ServiceName → Rest → Result (Script × Rest) TextFault
-from6 w f p c v ls = name_at lms_line (schemes_of w) 6 ls >>= λ (x : Scheme × Rest). Ok (script f p c v x.0, x.1)
+abbrev pub script : ℕ → Plan → ℕ → ServiceName → Scheme → ℕ → List ℕ → Script
+script f p c v h e x = record { f = f; clients = c; plan = p; service = v; lms = h; every = e; seed = x; faulty = []; events = [] }
 
-abbrev pub from5 : Version → ℕ → Plan → ℕ → Rest → Result (Script × Rest) TextFault
+abbrev pub front : Version → Script → Rest → Front
+front w s ls = record { script = s; next = head_count w + 1; rest = ls }
+
+abbrev pub from8 : Version → ℕ → Plan → ℕ → ServiceName → Scheme → ℕ → Rest → Read
+from8 w f p c v h e ls = seed_with w ls >>= λ (x : List ℕ × Rest). Ok (front w (script f p c v h e x.0) x.1)
+
+abbrev pub from7 : Version → ℕ → Plan → ℕ → ServiceName → Scheme → Rest → Read
+from7 w f p c v h ls = every_at w ls >>= λ (x : ℕ × Rest). from8 w f p c v h x.0 x.1
+
+abbrev pub from6 : Version → ℕ → Plan → ℕ → ServiceName → Rest → Read
+from6 w f p c v ls = name_at lms_line (schemes_of w) 6 ls >>= λ (x : Scheme × Rest). from7 w f p c v x.0 x.1
+
+abbrev pub from5 : Version → ℕ → Plan → ℕ → Rest → Read
 from5 w f p c ls = name_at service_line services 5 ls >>= λ (x : ServiceName × Rest). from6 w f p c x.0 x.1
 
-abbrev pub from4 : Version → ℕ → Plan → Rest → Result (Script × Rest) TextFault
+abbrev pub from4 : Version → ℕ → Plan → Rest → Read
 from4 w f p ls = number_at (codes "clients ") 1 16 4 ls >>= λ (x : ℕ × Rest). from5 w f p x.0 x.1
 
-abbrev pub from3 : Version → ℕ → Rest → Result (Script × Rest) TextFault
+abbrev pub from3 : Version → ℕ → Rest → Read
 from3 w f ls = name_at plan_line plans 3 ls >>= λ (x : Plan × Rest). from4 w f x.0 x.1
 
-abbrev pub from2 : Version → Rest → Result (Script × Rest) TextFault
+abbrev pub from2 : Version → Rest → Read
 from2 w ls = number_at (codes "f ") 1 2 2 ls >>= λ (x : ℕ × Rest). from3 w x.0 x.1
 
-same_pair : (s t : Script) (r rest : Rest) → ◌≡◌ {A = Result (Script × Rest) TextFault} (Ok (s, r)) (Ok (t, rest)) → (s ≡ t) × (r ≡ rest)
-same_pair s t r rest e =
-    let both : ◌≡◌ {A = Script × Rest} (s, r) (t, rest) = cc in
-    (ap (λ (p : Script × Rest). p.0) both, ap (λ (p : Script × Rest). p.1) both)
+-- ---- the first six lines
 
-is6 : (w : Version) (f : ℕ) (p : Plan) (c : ℕ) (v : ServiceName) (ls rest : Rest) (s : Script) → from6 w f p c v ls ≡ Ok (s, rest)
-    → (h : Scheme) × (ls ≡ lms_line h ∷ rest) × Allows w h × (script f p c v h ≡ s)
-is6 w f p c v ls rest s e =
-    let b = bind_ok (name_at lms_line (schemes_of w) 6 ls) (λ (x : Scheme × Rest). Ok (script f p c v x.0, x.1)) (s, rest) e in
-    let q = same_pair (script f p c v b.0.0) s b.0.1 rest b.2 in
-    let n = name_is lms_line (schemes_of w) 6 ls b.0.1 b.0.0 b.1 in
-    (b.0.0, n ∙ ap (λ t. lms_line b.0.0 ∷ t) q.1, scheme_allowed w 6 ls b.0.1 b.0.0 b.1, q.0)
+-- six lines in their form lead to this
+abbrev Passes : {A : Type 0} → Result A TextFault → Type 0
+Passes (Ok x) = Unit {0}
+Passes (Err (NotBuilt n)) = Unit {0}
+Passes (Err (BadLine n)) = ⊥
+Passes (Err (NoEnd n)) = ⊥
+Passes (Err OutOfMemory) = ⊥
 
-is5 : (w : Version) (f : ℕ) (p : Plan) (c : ℕ) (ls rest : Rest) (s : Script) → from5 w f p c ls ≡ Ok (s, rest)
-    → (v : ServiceName) × (h : Scheme) × (ls ≡ service_line v ∷ lms_line h ∷ rest) × Allows w h × (script f p c v h ≡ s)
-is5 w f p c ls rest s e =
-    let b = bind_ok (name_at service_line services 5 ls) (λ (x : ServiceName × Rest). from6 w f p c x.0 x.1) (s, rest) e in
-    let n = name_is service_line services 5 ls b.0.1 b.0.0 b.1 in
-    let q = is6 w f p c b.0.0 b.0.1 rest s b.2 in
-    (b.0.0, q.0, n ∙ ap (λ t. service_line b.0.0 ∷ t) q.1, q.2, q.3)
+-- a line that was read, or is out of form or missing
+abbrev IsPlain : {A : Type 0} → Result A TextFault → Type 0
+IsPlain (Ok x) = Unit {0}
+IsPlain (Err (NotBuilt n)) = ⊥
+IsPlain (Err (BadLine n)) = Unit {0}
+IsPlain (Err (NoEnd n)) = Unit {0}
+IsPlain (Err OutOfMemory) = Unit {0}
 
-abbrev tail4 : ℕ → ServiceName → Scheme → Rest → Rest
+plain_within : (low high n : ℕ) (ls : Rest) (o : Option ℕ) → IsPlain (within low high n ls o)
+plain_within low high n ls None = tt
+plain_within low high n ls (Some k) = by (nat_le low k && nat_le k high)
+  where
+    by : (b : Bool) → IsPlain {A = ℕ × Rest} (if b then Ok (k, ls) else Err (BadLine n))
+    by true = tt
+    by false = tt
+
+plain_number : (word : List ℕ) (low high n : ℕ) (ls : Rest) → IsPlain (number_at word low high n ls)
+plain_number word low high n [] = tt
+plain_number word low high n (l ∷ ls) = plain_within low high n ls (number_after word l)
+
+plain_taken : {A : Type 0} (n : ℕ) (ls : Rest) (o : Option A) → IsPlain (taken n ls o)
+plain_taken n ls None = tt
+plain_taken n ls (Some a) = tt
+
+plain_name : {A : Type 0} (spell : A → List ℕ) (all : List A) (n : ℕ) (ls : Rest) → IsPlain (name_at spell all n ls)
+plain_name spell all n [] = tt
+plain_name spell all n (l ∷ ls) = plain_taken n ls (spelled_in spell all l)
+
+-- behind a plain line
+behind : {A : Type 0} (r : Result A TextFault) (f : A → Read) (o : Read) → IsPlain r → Passes o → (r >>= f) ≡ o → (x : A) × (r ≡ Ok x) × (f x ≡ o)
+behind (Ok x) f o plain passes h = (x, refl, h)
+behind (Err (NotBuilt n)) f o plain passes h = absurd plain
+behind (Err (BadLine n)) f o plain passes h = absurd (subst Passes (sym h) passes)
+behind (Err (NoEnd n)) f o plain passes h = absurd (subst Passes (sym h) passes)
+behind (Err OutOfMemory) f o plain passes h = absurd (subst Passes (sym h) passes)
+
+abbrev pub tail4 : ℕ → ServiceName → Scheme → Rest → Rest
 tail4 c v h rest = (codes "clients " ++ decimal c) ∷ service_line v ∷ lms_line h ∷ rest
 
-is4 : (w : Version) (f : ℕ) (p : Plan) (ls rest : Rest) (s : Script) → from4 w f p ls ≡ Ok (s, rest)
-    → (c : ℕ) × (v : ServiceName) × (h : Scheme) × (ls ≡ tail4 c v h rest) × Allows w h × (1 ≤ c) × (c ≤ 16) × (script f p c v h ≡ s)
-is4 w f p ls rest s e =
-    let b = bind_ok (number_at (codes "clients ") 1 16 4 ls) (λ (x : ℕ × Rest). from5 w f p x.0 x.1) (s, rest) e in
-    let n = number_is (codes "clients ") 1 16 4 ls b.0.1 b.0.0 b.1 in
-    let q = is5 w f p b.0.0 b.0.1 rest s b.2 in
-    (b.0.0, q.0, q.1, n.0 ∙ ap (λ t. (codes "clients " ++ decimal b.0.0) ∷ t) q.2, q.3, n.1, n.2, q.4)
+abbrev pub first_lines : Version → ℕ → Plan → ℕ → ServiceName → Scheme → Rest → Rest
+first_lines w f p c v h rest = abstract_line w ∷ (codes "f " ++ decimal f) ∷ plan_line p ∷ tail4 c v h rest
+
+-- after six lines in their form the rest gives this
+pub record HasSix (o : Read) (ls : Rest) : Type 0 where
+  pub version : Version
+  pub f : ℕ
+  pub plan : Plan
+  pub clients : ℕ
+  pub service : ServiceName
+  pub lms : Scheme
+  pub rest : Rest
+  pub allows : Allows version lms
+  pub bounds : IsInBounds f clients
+  pub lines : ls ≡ first_lines version f plan clients service lms rest
+  pub gives : from7 version f plan clients service lms rest ≡ o
+
+pub has_six : (o : Read) (ls : Rest) → Passes o → head_at ls ≡ o → HasSix o ls
+unfolding head_at
+has_six o ls passes e =
+    let a = behind (name_at abstract_line versions 1 ls) (λ (x : Version × Rest). from2 x.0 x.1) o (plain_name abstract_line versions 1 ls) passes e in
+    let w = a.0.0 in
+    let b = behind (number_at (codes "f ") 1 2 2 a.0.1) (λ (x : ℕ × Rest). from3 w x.0 x.1) o (plain_number (codes "f ") 1 2 2 a.0.1) passes a.2 in
+    let f = b.0.0 in
+    let c = behind (name_at plan_line plans 3 b.0.1) (λ (x : Plan × Rest). from4 w f x.0 x.1) o (plain_name plan_line plans 3 b.0.1) passes b.2 in
+    let p = c.0.0 in
+    let d = behind (number_at (codes "clients ") 1 16 4 c.0.1) (λ (x : ℕ × Rest). from5 w f p x.0 x.1) o (plain_number (codes "clients ") 1 16 4 c.0.1) passes c.2 in
+    let n = d.0.0 in
+    let g = behind (name_at service_line services 5 d.0.1) (λ (x : ServiceName × Rest). from6 w f p n x.0 x.1) o (plain_name service_line services 5 d.0.1) passes d.2 in
+    let v = g.0.0 in
+    let k = behind (name_at lms_line (schemes_of w) 6 g.0.1) (λ (x : Scheme × Rest). from7 w f p n v x.0 x.1) o (plain_name lms_line (schemes_of w) 6 g.0.1) passes g.2 in
+    let two = number_is (codes "f ") 1 2 2 a.0.1 b.0.1 f b.1 in
+    let four = number_is (codes "clients ") 1 16 4 c.0.1 d.0.1 n d.1 in
+    let six = name_is lms_line (schemes_of w) 6 g.0.1 k.0.1 k.0.0 k.1 in
+    let five = name_is service_line services 5 d.0.1 g.0.1 v g.1 ∙ ap (λ t. service_line v ∷ t) six in
+    let three = name_is plan_line plans 3 b.0.1 c.0.1 p c.1 ∙ ap (λ t. plan_line p ∷ t) (four.0 ∙ ap (λ t. (codes "clients " ++ decimal n) ∷ t) five) in
+    record {
+      version = w;
+      f = f;
+      plan = p;
+      clients = n;
+      service = v;
+      lms = k.0.0;
+      rest = k.0.1;
+      allows = scheme_allowed w 6 g.0.1 k.0.1 k.0.0 k.1;
+      bounds = record { some_faulty = two.1; few_faulty = two.2; some_client = four.1; few_clients = four.2 };
+      lines = name_is abstract_line versions 1 ls a.0.1 w a.1 ∙ ap (λ t. abstract_line w ∷ t) (two.0 ∙ ap (λ t. (codes "f " ++ decimal f) ∷ t) three);
+      gives = k.2;
+    }
+
+-- ---- the later lines
+
+built_says : (n : ℕ) (p q : ℕ × Rest) → built n p ≡ Ok q → (p ≡ q) × (q.0 ≡ 0)
+built_says n p q h =
+    let both = chosen (nat_eq p.0 0) p q (NotBuilt n) h in
+    let none : p.0 ≡ 0 = (Decides-eqb p.0 0).0 both.0 in
+    (both.1, ap (λ (x : ℕ × Rest). x.0) (sym both.1) ∙ none)
+
+unbuilt_says : (n m : ℕ) (p : ℕ × Rest) → built n p ≡ Err (NotBuilt m) → (p.0 ≡ 0 → ⊥) × (m ≡ n)
+unbuilt_says n m p h = elim (cases_Bool (nat_eq p.0 0)) [
+  | inl none ↦ absurd (let e : ◌≡◌ {A = Result (ℕ × Rest) TextFault} (Ok p) (Err (NotBuilt m)) = sym (ap (λ b. if b then Ok p else Err (NotBuilt n)) none) ∙ h in cc)
+  | inr some ↦ (
+      λ z. let e : true ≡ false = sym ((Decides-eqb p.0 0).1 z) ∙ some in cc,
+      let e : ◌≡◌ {A = Result (ℕ × Rest) TextFault} (Err (NotBuilt n)) (Err (NotBuilt m)) = sym (ap (λ b. if b then Ok p else Err (NotBuilt n)) some) ∙ h in (let k : m ≡ n = cc in k),
+    )
+]
+
+-- the line of checkpoints, which says that none is due
+pub checkpoint_is : (ls rest : Rest) (e : ℕ) → checkpoint_at ls ≡ Ok (e, rest) → (ls ≡ checkpoint_line e ∷ rest) × (e ≡ 0)
+checkpoint_is ls rest e h =
+    let b = bind_ok (number_at (codes "checkpoint ") 0 128 7 ls) (built 7) (e, rest) h in
+    let said = built_says 7 b.0 (e, rest) b.2 in
+    ((number_is (codes "checkpoint ") 0 128 7 ls rest e (b.1 ∙ ap (λ (x : ℕ × Rest). let r : Result (ℕ × Rest) TextFault = Ok x in r) said.0)).0, said.1)
+
+-- the line of checkpoints, which says that some are due
+pub record AsksCheckpoints (n : ℕ) (ls : Rest) : Type 0 where
+  pub every : ℕ
+  pub rest : Rest
+  pub lines : ls ≡ checkpoint_line every ∷ rest
+  pub some : 1 ≤ every
+  pub few : every ≤ 128
+  pub seventh : n ≡ 7
+
+checkpoints_asked : (ls : Rest) (n : ℕ) → checkpoint_at ls ≡ Err (NotBuilt n) → AsksCheckpoints n ls
+checkpoints_asked ls n h = by (number_at (codes "checkpoint ") 0 128 7 ls) refl (plain_number (codes "checkpoint ") 0 128 7 ls) h
+  where
+    by : (r : Result (ℕ × Rest) TextFault) → number_at (codes "checkpoint ") 0 128 7 ls ≡ r → IsPlain r → (r >>= built 7) ≡ Err (NotBuilt n) → AsksCheckpoints n ls
+    by (Ok (e, rest)) is plain k =
+        let said = unbuilt_says 7 n (e, rest) k in
+        let asks = number_is (codes "checkpoint ") 0 128 7 ls rest e is in
+        let some = said.0 in
+        record { every = e; rest = rest; lines = asks.0; some = omega (arith, some); few = asks.2; seventh = said.1 }
+    by (Err (NotBuilt m)) is plain k = absurd plain
+    by (Err (BadLine m)) is plain k = absurd (cc)
+    by (Err (NoEnd m)) is plain k = absurd (cc)
+    by (Err OutOfMemory) is plain k = absurd (cc)
+
+seed_says : (l x : List ℕ) → seed_in l ≡ Some x → (l ≡ seed_line x) × IsSeed x
+seed_says l x h = by (stripped (codes "seed ") l) refl h
+  where
+    by : (o : Option (List ℕ)) → stripped (codes "seed ") l ≡ o → option_and_then (bytes_in 32) o ≡ Some x → (l ≡ seed_line x) × IsSeed x
+    by None is k = absurd (none-some _ k)
+    by (Some digits) is k =
+        let were = bytes_were 32 digits x k in
+        (stripped_says (codes "seed ") l digits is ∙ ap (λ t. codes "seed " ++ t) were.0, record { long = were.1; small = were.2 })
+
+pub seed_is : (ls rest : Rest) (x : List ℕ) → seed_at ls ≡ Ok (x, rest) → (ls ≡ seed_line x ∷ rest) × IsSeed x
+seed_is [] rest x h = absurd (cc)
+seed_is (l ∷ ls) rest x h =
+    let parts = taken_says 8 ls rest (seed_in l) x h in
+    let said = seed_says l x parts.0 in
+    let line = said.0 in
+    let more = parts.1 in
+    (λ j. line j ∷ more j, said.1)
+
+zeros_small : (n : ℕ) → All (λ b. b < 256) (replicate n 0)
+zeros_small zero = λ k d lt. absurd (omega arith)
+zeros_small (suc n) = All-cons (λ b. b < 256) 0 (replicate n 0) (omega arith) (zeros_small n)
+
+pub IsSeed-none : IsSeed no_seed
+IsSeed-none = record { long = refl; small = zeros_small 32 }
+
+same_front : (w : Version) (s : Script) (r : Rest) (x : Front) → ◌≡◌ {A = Read} (Ok (front w s r)) (Ok x) → front w s r ≡ x
+same_front w s r x e = cc
 
 -- a head that was read, and the lines after it
-pub record IsHead (s : Script) (ls rest : List (List ℕ)) : Type 0 where
+pub record IsHead (x : Front) (ls : List (List ℕ)) : Type 0 where
   pub version : Version
-  pub allows : Allows version s.lms
-  pub lines : ls ≡ head_lines version s ++ rest
-  pub bounds : IsInBounds s.f s.clients
-  pub faulty : s.faulty ≡ []
-  pub events : s.events ≡ []
+  pub allows : Allows version x.script.lms
+  pub omits : Omits version x.script
+  pub lines : ls ≡ head_lines version x.script ++ x.rest
+  pub bounds : IsInBounds x.script.f x.script.clients
+  pub built : IsBuilt x.script
+  pub seed : IsSeed x.script.seed
+  pub faulty : x.script.faulty ≡ []
+  pub events : x.script.events ≡ []
 
-is3 : (w : Version) (f : ℕ) (ls rest : Rest) (s : Script) → from3 w f ls ≡ Ok (s, rest) → 1 ≤ f → f ≤ 2
-    → IsHead s (abstract_line w ∷ (codes "f " ++ decimal f) ∷ ls) rest
-is3 w f ls rest s e low high =
-    let b = bind_ok (name_at plan_line plans 3 ls) (λ (x : Plan × Rest). from4 w f x.0 x.1) (s, rest) e in
-    let n = name_is plan_line plans 3 ls b.0.1 b.0.0 b.1 in
-    let q = is4 w f b.0.0 b.0.1 rest s b.2 in
-    subst (λ t. IsHead t (abstract_line w ∷ (codes "f " ++ decimal f) ∷ ls) rest) q.7 (record {
+-- six lines and the later ones
+whole_head : (x : Front) (ls : Rest) (six : HasSix (Ok x) ls) → IsHead x ls
+whole_head x ls six = by six.version six.allows six.lines six.gives
+  where
+    f : ℕ
+    f = six.f
+    p : Plan
+    p = six.plan
+    c : ℕ
+    c = six.clients
+    v : ServiceName
+    v = six.service
+    h : Scheme
+    h = six.lms
+    plain : (w : Version) (rest : Rest) → Allows w h → Omits w (script f p c v h 0 no_seed) → ls ≡ first_lines w f p c v h rest → later_lines w 0 no_seed ≡ [] → front w (script f p c v h 0 no_seed) rest ≡ x → IsHead x ls
+    plain w rest allows omits lines none same = subst (λ y. IsHead y ls) same (record {
       version = w;
-      allows = q.4;
-      lines = ap (λ t. abstract_line w ∷ (codes "f " ++ decimal f) ∷ t) (n ∙ ap (λ t. plan_line b.0.0 ∷ t) q.3);
-      bounds = record { some_faulty = low; few_faulty = high; some_client = q.5; few_clients = q.6 };
+      allows = allows;
+      omits = omits;
+      lines = lines ∙ ap (λ t. first_lines w f p c v h (t ++ rest)) (sym none);
+      bounds = six.bounds;
+      built = refl;
+      seed = IsSeed-none;
       faulty = refl;
       events = refl;
     })
+    by : (w : Version) → Allows w h → ls ≡ first_lines w f p c v h six.rest → from7 w f p c v h six.rest ≡ Ok x → IsHead x ls
+    by One allows lines gives = plain One six.rest allows (refl, refl) lines refl (same_front One _ six.rest x gives)
+    by Two allows lines gives = plain Two six.rest allows (refl, refl) lines refl (same_front Two _ six.rest x gives)
+    by Three allows lines gives =
+        let b = bind_ok (checkpoint_at six.rest) (λ (y : ℕ × Rest). from8 Three f p c v h y.0 y.1) x gives in
+        let seven = checkpoint_is six.rest b.0.1 b.0.0 b.1 in
+        subst (λ y. IsHead y ls) (same_front Three _ b.0.1 x b.2) (record {
+          version = Three;
+          allows = allows;
+          omits = refl;
+          lines = lines ∙ ap (λ t. first_lines Three f p c v h t) seven.0;
+          bounds = six.bounds;
+          built = seven.1;
+          seed = IsSeed-none;
+          faulty = refl;
+          events = refl;
+        })
+    by Four allows lines gives =
+        let b = bind_ok (checkpoint_at six.rest) (λ (y : ℕ × Rest). from8 Four f p c v h y.0 y.1) x gives in
+        let seven = checkpoint_is six.rest b.0.1 b.0.0 b.1 in
+        let g = bind_ok (seed_at b.0.1) (λ (y : List ℕ × Rest). Ok (front Four (script f p c v h b.0.0 y.0) y.1)) x b.2 in
+        let eight = seed_is b.0.1 g.0.1 g.0.0 g.1 in
+        subst (λ y. IsHead y ls) (same_front Four _ g.0.1 x g.2) (record {
+          version = Four;
+          allows = allows;
+          omits = tt;
+          lines = lines ∙ ap (λ t. first_lines Four f p c v h t) (seven.0 ∙ ap (λ t. checkpoint_line b.0.0 ∷ t) eight.0);
+          bounds = six.bounds;
+          built = seven.1;
+          seed = eight.1;
+          faulty = refl;
+          events = refl;
+        })
 
-pub head_is : (ls rest : List (List ℕ)) (s : Script) → head_at ls ≡ Ok (s, rest) → IsHead s ls rest
-unfolding head_at
-head_is ls rest s e =
-    let a = bind_ok (name_at abstract_line versions 1 ls) (λ (x : Version × Rest). from2 x.0 x.1) (s, rest) e in
-    let b = bind_ok (number_at (codes "f ") 1 2 2 a.0.1) (λ (x : ℕ × Rest). from3 a.0.0 x.0 x.1) (s, rest) a.2 in
-    let n = number_is (codes "f ") 1 2 2 a.0.1 b.0.1 b.0.0 b.1 in
-    let said : ls ≡ abstract_line a.0.0 ∷ (codes "f " ++ decimal b.0.0) ∷ b.0.1 = name_is abstract_line versions 1 ls a.0.1 a.0.0 a.1 ∙ ap (λ t. abstract_line a.0.0 ∷ t) n.0 in
-    subst (λ t. IsHead s t rest) (sym said) (is3 a.0.0 b.0.0 b.0.1 rest s b.2 n.1 n.2)
+pub head_is : (ls : List (List ℕ)) (x : Front) → head_at ls ≡ Ok x → IsHead x ls
+head_is ls x e = whole_head x ls (has_six (Ok x) ls tt e)
+
+-- six lines, and the one that asks for checkpoints, in a version that has it
+pub record IsUnbuilt (n : ℕ) (ls : Rest) : Type 0 where
+  pub six : HasSix (Err (NotBuilt n)) ls
+  pub asks : AsksCheckpoints n six.rest
+  pub later : (six.version ≡ Three) ⊎ (six.version ≡ Four)
+
+plain_seed : (ls : Rest) → IsPlain (seed_at ls)
+plain_seed [] = tt
+plain_seed (l ∷ ls) = plain_taken 8 ls (seed_in l)
+
+unbuilt_later : (w : Version) (f : ℕ) (p : Plan) (c : ℕ) (v : ServiceName) (h : Scheme) (n : ℕ) (ls : Rest) → from7 w f p c v h ls ≡ Err (NotBuilt n) → AsksCheckpoints n ls × ((w ≡ Three) ⊎ (w ≡ Four))
+unbuilt_later One f p c v h n ls e = absurd (cc)
+unbuilt_later Two f p c v h n ls e = absurd (cc)
+unbuilt_later Three f p c v h n ls e = by (checkpoint_at ls) refl e
+  where
+    by : (r : Result (ℕ × Rest) TextFault) → checkpoint_at ls ≡ r → (r >>= λ (x : ℕ × Rest). from8 Three f p c v h x.0 x.1) ≡ Err (NotBuilt n) → AsksCheckpoints n ls × ((Three ≡ Three) ⊎ (Three ≡ Four))
+    by (Ok x) is k = absurd (cc)
+    by (Err d) is k = (checkpoints_asked ls n (is ∙ (let same : ◌≡◌ {A = Result (ℕ × Rest) TextFault} (Err d) (Err (NotBuilt n)) = cc in same)), inl refl)
+unbuilt_later Four f p c v h n ls e = by (checkpoint_at ls) refl e
+  where
+    after : (k : ℕ) (rest : Rest) (r : Result (List ℕ × Rest) TextFault) → IsPlain r → (r >>= λ (x : List ℕ × Rest). Ok (front Four (script f p c v h k x.0) x.1)) ≡ Err (NotBuilt n) → ⊥
+    after k rest (Ok x) plain g = cc
+    after k rest (Err (NotBuilt m)) plain g = plain
+    after k rest (Err (BadLine m)) plain g = cc
+    after k rest (Err (NoEnd m)) plain g = cc
+    after k rest (Err OutOfMemory) plain g = cc
+    by : (r : Result (ℕ × Rest) TextFault) → checkpoint_at ls ≡ r → (r >>= λ (x : ℕ × Rest). from8 Four f p c v h x.0 x.1) ≡ Err (NotBuilt n) → AsksCheckpoints n ls × ((Four ≡ Three) ⊎ (Four ≡ Four))
+    by (Ok (k, rest)) is g = absurd (after k rest (seed_at rest) (plain_seed rest) g)
+    by (Err d) is k = (checkpoints_asked ls n (is ∙ (let same : ◌≡◌ {A = Result (ℕ × Rest) TextFault} (Err d) (Err (NotBuilt n)) = cc in same)), inr refl)
+
+pub unbuilt_head : (ls : Rest) (n : ℕ) → head_at ls ≡ Err (NotBuilt n) → IsUnbuilt n ls
+unbuilt_head ls n e =
+    let six = has_six (Err (NotBuilt n)) ls tt e in
+    let both = unbuilt_later six.version six.f six.plan six.clients six.service six.lms n six.rest six.gives in
+    record { six = six; asks = both.0; later = both.1 }
 
 -- ---- what is spelled so is read
 
@@ -227,6 +467,8 @@ version_read : (w : Version) → spelled_in abstract_line versions (abstract_lin
 unfolding spelled_in
 version_read One = refl
 version_read Two = refl
+version_read Three = refl
+version_read Four = refl
 
 pub plan_read : (p : Plan) → spelled_in plan_line plans (plan_line p) ≡ Some p
 unfolding spelled_in
@@ -250,28 +492,118 @@ scheme_read One Hss allows = absurd allows
 scheme_read Two (Lms Five) allows = refl
 scheme_read Two (Lms Ten) allows = refl
 scheme_read Two Hss allows = refl
+scheme_read Three (Lms Five) allows = refl
+scheme_read Three (Lms Ten) allows = refl
+scheme_read Three Hss allows = refl
+scheme_read Four (Lms Five) allows = refl
+scheme_read Four (Lms Ten) allows = refl
+scheme_read Four Hss allows = refl
 
 -- each version allows one level
 pub allows_one : (w : Version) (h : Height) → Allows w (Lms h)
-allows_one One h = tt
-allows_one Two h = tt
+allows_one w h = tt
 
-pub allows_least : (h : Scheme) → Allows (version_of h) h
-allows_least (Lms h) = tt
-allows_least Hss = tt
+-- and no checkpoints, with no seed
+pub omits_none : (w : Version) (f : ℕ) (p : Plan) (c : ℕ) (v : ServiceName) (h : Scheme) → Omits w (script f p c v h 0 no_seed)
+omits_none One f p c v h = (refl, refl)
+omits_none Two f p c v h = (refl, refl)
+omits_none Three f p c v h = refl
+omits_none Four f p c v h = tt
 
-pub head_reads : (w : Version) (s : Script) (rest : Rest) → IsInBounds s.f s.clients → Allows w s.lms → head_at (head_lines w s ++ rest) ≡ Ok (script s.f s.plan s.clients s.service s.lms, rest)
+abbrev Goes : Script → Version → Type 0
+Goes s w = Allows w s.lms × Omits w s
+
+allows_with : (h : Scheme) → Allows (version_with h) h
+allows_with (Lms h) = tt
+allows_with Hss = tt
+
+omits_with : (h : Scheme) (s : Script) → s.every ≡ 0 → s.seed ≡ no_seed → Omits (version_with h) s
+omits_with (Lms h) s none zeros = (none, zeros)
+omits_with Hss s none zeros = (none, zeros)
+
+allows_after : (h : Scheme) → Allows Three h × Allows Four h
+allows_after (Lms h) = (tt, tt)
+allows_after Hss = (tt, tt)
+
+-- the least version goes with the schedule
+pub goes_least : (s : Script) → Allows (version_of s) s.lms × Omits (version_of s) s
+goes_least s = elim (cases_Bool (bytes_eq s.seed no_seed)) [
+  | inr seeded ↦
+      let is : version_of s ≡ Four = ap (λ b. if b then if nat_eq s.every 0 then version_with s.lms else Three else Four) seeded in
+      subst (Goes s) (sym is) ((allows_after s.lms).1, tt)
+  | inl zeros ↦
+      let none : s.seed ≡ no_seed = (bytes_eq-Decides s.seed no_seed).0 zeros in
+      elim (cases_Bool (nat_eq s.every 0)) [
+        | inl never ↦
+            let is : version_of s ≡ version_with s.lms = (λ j. if zeros j then if never j then version_with s.lms else Three else Four) in
+            subst (Goes s) (sym is) (allows_with s.lms, omits_with s.lms s ((Decides-eqb s.every 0).0 never) none)
+        | inr some ↦
+            let is : version_of s ≡ Three = (λ j. if zeros j then if some j then version_with s.lms else Three else Four) in
+            subst (Goes s) (sym is) ((allows_after s.lms).0, none)
+      ]
+]
+
+six_read : (w : Version) (f : ℕ) (p : Plan) (c : ℕ) (v : ServiceName) (h : Scheme) (rest : Rest) → IsInBounds f c → Allows w h → head_at (first_lines w f p c v h rest) ≡ from7 w f p c v h rest
 unfolding head_at
-head_reads w s rest bounds allows =
+six_read w f p c v h rest bounds allows =
     let f_low = bounds.some_faulty in
     let f_high = bounds.few_faulty in
     let c_low = bounds.some_client in
     let c_high = bounds.few_clients in
-    let rest4 = tail4 s.clients s.service s.lms rest in
-    let rest5 = service_line s.service ∷ lms_line s.lms ∷ rest in
-    ap (λ (r : Result (Version × Rest) TextFault). r >>= λ (x : Version × Rest). from2 x.0 x.1) (name_reads abstract_line versions 1 ((codes "f " ++ decimal s.f) ∷ plan_line s.plan ∷ rest4) w (version_read w))
-    ∙ ap (λ (r : Result (ℕ × Rest) TextFault). r >>= λ (x : ℕ × Rest). from3 w x.0 x.1) (number_reads (codes "f ") 1 2 2 (plan_line s.plan ∷ rest4) s.f f_low f_high (omega (arith, f_high)))
-    ∙ ap (λ (r : Result (Plan × Rest) TextFault). r >>= λ (x : Plan × Rest). from4 w s.f x.0 x.1) (name_reads plan_line plans 3 rest4 s.plan (plan_read s.plan))
-    ∙ ap (λ (r : Result (ℕ × Rest) TextFault). r >>= λ (x : ℕ × Rest). from5 w s.f s.plan x.0 x.1) (number_reads (codes "clients ") 1 16 4 rest5 s.clients c_low c_high (omega (arith, c_high)))
-    ∙ ap (λ (r : Result (ServiceName × Rest) TextFault). r >>= λ (x : ServiceName × Rest). from6 w s.f s.plan s.clients x.0 x.1) (name_reads service_line services 5 (lms_line s.lms ∷ rest) s.service (service_read s.service))
-    ∙ ap (λ (r : Result (Scheme × Rest) TextFault). r >>= λ (x : Scheme × Rest). Ok (script s.f s.plan s.clients s.service x.0, x.1)) (name_reads lms_line (schemes_of w) 6 rest s.lms (scheme_read w s.lms allows))
+    let rest4 = tail4 c v h rest in
+    let rest5 = service_line v ∷ lms_line h ∷ rest in
+    ap (λ (r : Result (Version × Rest) TextFault). r >>= λ (x : Version × Rest). from2 x.0 x.1) (name_reads abstract_line versions 1 ((codes "f " ++ decimal f) ∷ plan_line p ∷ rest4) w (version_read w))
+    ∙ ap (λ (r : Result (ℕ × Rest) TextFault). r >>= λ (x : ℕ × Rest). from3 w x.0 x.1) (number_reads (codes "f ") 1 2 2 (plan_line p ∷ rest4) f f_low f_high (omega (arith, f_high)))
+    ∙ ap (λ (r : Result (Plan × Rest) TextFault). r >>= λ (x : Plan × Rest). from4 w f x.0 x.1) (name_reads plan_line plans 3 rest4 p (plan_read p))
+    ∙ ap (λ (r : Result (ℕ × Rest) TextFault). r >>= λ (x : ℕ × Rest). from5 w f p x.0 x.1) (number_reads (codes "clients ") 1 16 4 rest5 c c_low c_high (omega (arith, c_high)))
+    ∙ ap (λ (r : Result (ServiceName × Rest) TextFault). r >>= λ (x : ServiceName × Rest). from6 w f p c x.0 x.1) (name_reads service_line services 5 (lms_line h ∷ rest) v (service_read v))
+    ∙ ap (λ (r : Result (Scheme × Rest) TextFault). r >>= λ (x : Scheme × Rest). from7 w f p c v x.0 x.1) (name_reads lms_line (schemes_of w) 6 rest h (scheme_read w h allows))
+
+checkpoint_read : (e : ℕ) (ls : Rest) → e ≤ 128 → checkpoint_at (checkpoint_line e ∷ ls) ≡ built 7 (e, ls)
+checkpoint_read e ls few = ap (λ (r : Result (ℕ × Rest) TextFault). r >>= built 7) (number_reads (codes "checkpoint ") 0 128 7 ls e (omega arith) few (omega (arith, few)))
+
+none_read : (e : ℕ) (ls : Rest) → e ≡ 0 → checkpoint_at (checkpoint_line e ∷ ls) ≡ Ok (e, ls)
+none_read e ls none = checkpoint_read e ls (omega (arith, none)) ∙ ap (λ b. if b then Ok (e, ls) else Err (NotBuilt 7)) ((Decides-eqb e 0).1 none)
+
+some_refused : (e : ℕ) (ls : Rest) → 1 ≤ e → e ≤ 128 → checkpoint_at (checkpoint_line e ∷ ls) ≡ Err (NotBuilt 7)
+some_refused e ls some few = checkpoint_read e ls few ∙ ap (λ b. if b then Ok (e, ls) else Err (NotBuilt 7)) (false_from_ne_true (nat_eq e 0) (λ t. let none = (Decides-eqb e 0).0 t in omega (arith, none, some)))
+
+seed_read : (x : List ℕ) (ls : Rest) → IsSeed x → seed_at (seed_line x ∷ ls) ≡ Ok (x, ls)
+seed_read x ls good = ap (λ o. taken 8 ls (option_and_then (bytes_in 32) o)) (stripped-is (codes "seed ") (seed_line x) (encode_lower x) refl) ∙ ap (taken 8 ls) (read_bytes 32 x good.long good.small)
+
+abbrev script_at : Script → Script
+script_at s = script s.f s.plan s.clients s.service s.lms s.every s.seed
+
+later_read : (w : Version) (s : Script) (rest : Rest) → Omits w s → IsBuilt s → IsSeed s.seed → from7 w s.f s.plan s.clients s.service s.lms (later_lines w s.every s.seed ++ rest) ≡ Ok (front w (script_at s) rest)
+later_read One s rest omits built good =
+    let none = omits.0 in
+    let zeros = omits.1 in
+    λ j. Ok (front One (script s.f s.plan s.clients s.service s.lms (sym none j) (sym zeros j)) rest)
+later_read Two s rest omits built good =
+    let none = omits.0 in
+    let zeros = omits.1 in
+    λ j. Ok (front Two (script s.f s.plan s.clients s.service s.lms (sym none j) (sym zeros j)) rest)
+later_read Three s rest omits built good =
+    ap (λ (r : Result (ℕ × Rest) TextFault). r >>= λ (x : ℕ × Rest). from8 Three s.f s.plan s.clients s.service s.lms x.0 x.1) (none_read s.every rest built)
+    ∙ ap (λ x. let r : Read = Ok (front Three (script s.f s.plan s.clients s.service s.lms s.every x) rest) in r) (sym omits)
+later_read Four s rest omits built good =
+    ap (λ (r : Result (ℕ × Rest) TextFault). r >>= λ (x : ℕ × Rest). from8 Four s.f s.plan s.clients s.service s.lms x.0 x.1) (none_read s.every (seed_line s.seed ∷ rest) built)
+    ∙ ap (λ (r : Result (List ℕ × Rest) TextFault). r >>= λ (x : List ℕ × Rest). Ok (front Four (script s.f s.plan s.clients s.service s.lms s.every x.0) x.1)) (seed_read s.seed rest good)
+
+pub head_reads : (w : Version) (s : Script) (rest : Rest) → IsInBounds s.f s.clients → Allows w s.lms → Omits w s → IsBuilt s → IsSeed s.seed
+    → head_at (head_lines w s ++ rest) ≡ Ok (front w (script s.f s.plan s.clients s.service s.lms s.every s.seed) rest)
+head_reads w s rest bounds allows omits built good =
+    six_read w s.f s.plan s.clients s.service s.lms (later_lines w s.every s.seed ++ rest) bounds allows ∙ later_read w s rest omits built good
+
+later_asks : (w : Version) (s : Script) (rest : Rest) → Omits w s → 1 ≤ s.every → s.every ≤ 128 → from7 w s.f s.plan s.clients s.service s.lms (later_lines w s.every s.seed ++ rest) ≡ Err (NotBuilt 7)
+later_asks One s rest omits some few = (let none = omits.0 in absurd (omega (arith, none, some)))
+later_asks Two s rest omits some few = (let none = omits.0 in absurd (omega (arith, none, some)))
+later_asks Three s rest omits some few =
+    ap (λ (r : Result (ℕ × Rest) TextFault). r >>= λ (x : ℕ × Rest). from8 Three s.f s.plan s.clients s.service s.lms x.0 x.1) (some_refused s.every rest some few)
+later_asks Four s rest omits some few =
+    ap (λ (r : Result (ℕ × Rest) TextFault). r >>= λ (x : ℕ × Rest). from8 Four s.f s.plan s.clients s.service s.lms x.0 x.1) (some_refused s.every (seed_line s.seed ∷ rest) some few)
+
+-- with checkpoints that is what is wrong
+pub head_asks : (w : Version) (s : Script) (rest : Rest) → IsInBounds s.f s.clients → Allows w s.lms → Omits w s → 1 ≤ s.every → s.every ≤ 128 → head_at (head_lines w s ++ rest) ≡ Err (NotBuilt 7)
+head_asks w s rest bounds allows omits some few =
+    six_read w s.f s.plan s.clients s.service s.lms (later_lines w s.every s.seed ++ rest) bounds allows ∙ later_asks w s rest omits some few

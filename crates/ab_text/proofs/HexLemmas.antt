@@ -1,15 +1,20 @@
 -- Hexadecimal text in lower case is that of its bytes.
-use Rattle.std.proofs.Common.{◌≡◌, ℕ, zero, suc, ◌+◌, ◌*◌, ◌-◌, ◌/◌, ◌%◌, ◌<◌, ◌≤◌, ◌==◌, Bool, true, ◌&&◌, List, [], ◌∷◌, length, slice_index, Option, Some, None, unwrap_or, Result, Ok, Err, refl, sym, ap, ◌∙◌, arith, inl, inr, ◌⊎◌, All, subst, get_or, zero-add}
+use Rattle.std.proofs.Common.{◌≡◌, ℕ, zero, suc, ◌+◌, ◌*◌, ◌-◌, ◌/◌, ◌%◌, ◌<◌, ◌≤◌, ◌==◌, Bool, true, ◌&&◌, List, [], ◌∷◌, length, slice_index, Option, Some, None, unwrap_or, Result, Ok, Err, refl, sym, ap, ◌∙◌, arith, inl, inr, ◌⊎◌, All, subst, get_or, zero-add, if◌then◌else◌}
 use Rattle.std.specs.Prelude.{nat_le}
 use Rattle.std.proofs.lemmas.Bool.{and_parts, cases_lt, eqb-true, leb-true}
+use Rattle.std.specs.Str.{bytes_eq}
+use Rattle.std.proofs.lemmas.Grind.{get_or_default_zero}
+use Rattle.std.proofs.lemmas.Option.{cond_some, none-some}
+use Rattle.std.proofs.lemmas.Slice.Eq.{bytes_eq-Decides}
 use Rattle.std.proofs.lemmas.List.{get_or_default}
 use Rattle.std.proofs.lemmas.List.Elements.{All-cons}
 use Rattle.std.specs.Result.{result_unwrap_or}
 use Rattle.hex.specs.declared.error.FromHexError.{FromHexError}
 use Rattle.hex.specs.declared.error.FromHexError.TheVariants.{OutOfMemory}
-use Rattle.hex.specs.Hex.{IsBytes, decode_of, decode_pairs, digit_or_error, hex_digit_value, encode_lower, encode_with, lower_digits, pair_value, value_at, ◌>>=◌}
-use Rattle.hex.proofs.HexLemmas.{decode_of-even, decode_of-ok, decode_of-encode_lower, length-encode_with}
+use Rattle.hex.specs.Hex.{IsBytes, decode_of, decode_pairs, decode_sized, digit_or_error, hex_digit_value, encode_lower, encode_with, lower_digits, pair_value, value_at, ◌>>=◌}
+use Rattle.hex.proofs.HexLemmas.{decode_of-even, decode_of-ok, decode_of-encode_lower, decode_sized-encode_lower, decode_sized-ok, decode_sized-twice, length-encode_with}
 use Rattle.ab_text.specs.EventLines.{IsInjected}
+use Rattle.ab_text.specs.HexBytes.{bytes_in, in_lower_case}
 use Rattle.ab_text.specs.HexDigits.{IsLowerDigit}
 
 -- the test of one digit, which computes: its value's place in the table holds it
@@ -147,3 +152,24 @@ refused s bytes e good is (inr h) other = let k : ◌≡◌ {A = Result (List �
 
 pub same_bytes : (s bytes found : List ℕ) → IsInjected bytes → s ≡ encode_lower bytes → decode_of s ≡ Ok found → found ≡ bytes
 same_bytes s bytes found good is h = ap (λ (r : Result (List ℕ) FromHexError). result_unwrap_or r []) (sym h ∙ decodes s bytes good is)
+
+-- ---- so many bytes
+
+pub bytes_were : (n : ℕ) (text b : List ℕ) → bytes_in n text ≡ Some b → (text ≡ encode_lower b) × (length b ≡ n) × All (λ x. x < 256) b
+unfolding bytes_in
+bytes_were n text b h = go (decode_sized text n) refl h where
+  go : (r : Result (List ℕ) FromHexError) → decode_sized text n ≡ r → in_lower_case text r ≡ Some b → (text ≡ encode_lower b) × (length b ≡ n) × All (λ x. x < 256) b
+  go (Err e) is k = absurd (none-some b k)
+  go (Ok x) is k =
+      let both = cond_some (bytes_eq text (encode_lower x)) x b k in
+      let long = decode_sized-ok text n x is in
+      let ok = decode_of-ok text x (sym (decode_sized-twice text n long) ∙ is) in
+      let half = ok.2 in
+      subst (λ (y : List ℕ). (text ≡ encode_lower y) × (length y ≡ n) × All (λ c. c < 256) y) both.1
+      ((bytes_eq-Decides text (encode_lower x)).0 both.0, omega (arith, long, half), λ i d lt. subst (λ c. c < 256) (sym (get_or_default_zero x i d lt)) (ok.3 i))
+
+pub read_bytes : (n : ℕ) (b : List ℕ) → length b ≡ n → All (λ x. x < 256) b → bytes_in n (encode_lower b) ≡ Some b
+unfolding bytes_in
+read_bytes n b long small =
+    ap (in_lower_case (encode_lower b)) (decode_sized-encode_lower b n long (IsBytes-from b small))
+    ∙ ap (λ t. if t then Some b else None) ((bytes_eq-Decides (encode_lower b) (encode_lower b)).1 refl)

@@ -1,16 +1,18 @@
 -- What is read is spelled so, and what is spelled so is read.
-use Rattle.std.proofs.Common.{◌≡◌, ℕ, ◌+◌, List, [], ◌∷◌, ◌++◌, Result, Ok, Err, refl, sym, ap, ◌∙◌, subst, append_assoc, append-nil, inl, inr}
+use Rattle.std.proofs.Common.{◌≡◌, ℕ, ◌+◌, ◌≤◌, List, [], ◌∷◌, ◌++◌, Result, Ok, Err, refl, sym, ap, ◌∙◌, subst, append_assoc, append-nil, arith, inl, inr}
 use Rattle.std.specs.List.{AllByRecursion}
 use Rattle.ab_num.specs.declared.party.Party.{Party}
 use Rattle.ab_text.specs.declared.event.Event.{Event}
 use Rattle.ab_text.specs.declared.fault.TextFault.{TextFault}
-use Rattle.ab_text.specs.declared.fault.TextFault.TheVariants.{BadLine, NoEnd}
+use Rattle.ab_text.specs.declared.fault.TextFault.TheVariants.{BadLine, NoEnd, NotBuilt}
+use Rattle.ab_text.specs.declared.version.Version.{Version}
+use Rattle.ab_text.specs.declared.version.Version.TheVariants.{One, Two, Three, Four}
 use Rattle.ab_text.specs.Lines.{lines_of}
 use Rattle.ab_text.specs.EventLines.{IsEvent}
-use Rattle.ab_text.specs.Heads.{Script, head_at}
+use Rattle.ab_text.specs.Heads.{Front, Script, head_at, head_count}
 use Rattle.ab_text.specs.Schedules.{ReadsEvents, ReadsFaulty, ReadsText, Continues, with_event, with_faulty}
-use Rattle.ab_text.specs.Spelling.{head_lines, event_lines, faulty_lines, schedule_lines, AreFaulty, IsSchedule, IsSpelled, Spell}
-use Rattle.ab_text.proofs.HeadLemmas.{head_is, head_reads, script}
+use Rattle.ab_text.specs.Spelling.{head_lines, event_lines, faulty_lines, schedule_lines, AreFaulty, IsBuilt, IsSchedule, IsSpelled, Omits, Spell}
+use Rattle.ab_text.proofs.HeadLemmas.{front, head_asks, head_is, head_reads, script}
 
 abbrev Rest : Type 0
 Rest = List (List ℕ)
@@ -115,36 +117,66 @@ body_read (x ∷ faulty) events n s next good =
 
 -- ---- the whole text
 
-text_spelled : (text : List ℕ) (s : Script) (o : Result (Script × Rest) TextFault) → head_at (lines_of text) ≡ o → Continues o (Ok s) → IsSpelled text s
+omits_so : (w : Version) (s : Script) (faulty : List (Party × ℕ)) (events : List Event) → Omits w s → Omits w (record s { faulty = faulty; events = events })
+omits_so One s faulty events omits = omits
+omits_so Two s faulty events omits = omits
+omits_so Three s faulty events omits = omits
+omits_so Four s faulty events omits = omits
+
+text_spelled : (text : List ℕ) (s : Script) (o : Result Front TextFault) → head_at (lines_of text) ≡ o → Continues o (Ok s) → IsSpelled text s × IsBuilt s
 text_spelled text s (Err e) is h = absurd (not_ok s e h)
-text_spelled text s (Ok (head', rest)) is h =
-    let head = head_is (lines_of text) rest head' is in
-    let r = body_spelled rest 7 head' s h in
+text_spelled text s (Ok x) is h =
+    let head = head_is (lines_of text) x is in
+    let head' = x.script in
+    let r = body_spelled x.rest x.next head' s h in
     let body = r.2 in
     let no_faulty : head'.faulty ++ r.0 ≡ r.0 = ap (λ x. x ++ r.0) head.faulty in
     let no_events : head'.events ++ r.1 ≡ r.1 = ap (λ x. x ++ r.1) head.events in
     let whole : s ≡ record head' { faulty = r.0; events = r.1 } = body.whole ∙ (λ j. record head' { faulty = no_faulty j; events = no_events j }) in
     let next : AreFaulty head'.f head'.clients [] r.0 = subst (λ x. AreFaulty head'.f head'.clients x r.0) head.faulty body.faulty_are_next in
-    subst (IsSpelled text) (sym whole)
-    (record {
-      schedule = record { bounds = head.bounds; faulty = next; events = body.events_have_lines };
-      version = head.version;
-      allows = head.allows;
-      lines = head.lines ∙ ap (λ t. head_lines head.version head' ++ t) body.lines;
-    })
+    let built = head.built in
+    subst (λ t. IsSpelled text t × IsBuilt t) (sym whole) (
+      record {
+        schedule = record { bounds = head.bounds; dense = omega (arith, built); seed = head.seed; faulty = next; events = body.events_have_lines };
+        version = head.version;
+        allows = head.allows;
+        omits = omits_so head.version head' r.0 r.1 head.omits;
+        lines = head.lines ∙ ap (λ t. head_lines head.version head' ++ t) body.lines;
+      },
+      head.built,
+    )
 
 -- what is read is spelled so
 pub read_spelled : (text : List ℕ) (s : Script) → ReadsText text (Ok s) → IsSpelled text s
-read_spelled text s h = text_spelled text s (head_at (lines_of text)) refl h
+read_spelled text s h = (text_spelled text s (head_at (lines_of text)) refl h).0
 
--- the lines of a schedule are read
-pub lines_read : (ls : Rest) (s : Script) → Spell ls s → Continues (head_at ls) (Ok s)
-lines_read ls s spell =
+-- and has no checkpoints
+pub read_built : (text : List ℕ) (s : Script) → ReadsText text (Ok s) → IsBuilt s
+read_built text s h = (text_spelled text s (head_at (lines_of text)) refl h).1
+
+-- the lines of a schedule without checkpoints are read
+pub lines_read : (ls : Rest) (s : Script) → Spell ls s → IsBuilt s → Continues (head_at ls) (Ok s)
+lines_read ls s spell built =
     let schedule = spell.schedule in
-    let read : head_at ls ≡ Ok (script s.f s.plan s.clients s.service s.lms, faulty_lines s.faulty s.events) = ap head_at spell.lines ∙ head_reads spell.version s (faulty_lines s.faulty s.events) schedule.bounds spell.allows in
+    let rest = faulty_lines s.faulty s.events in
+    let bare = script s.f s.plan s.clients s.service s.lms s.every s.seed in
+    let read : head_at ls ≡ Ok (front spell.version bare rest) =
+        ap head_at spell.lines ∙ head_reads spell.version s rest schedule.bounds spell.allows spell.omits built schedule.seed in
     subst (λ o. Continues o (Ok s)) (sym read)
-    (body_read s.faulty s.events 7 (record s { faulty = []; events = [] }) schedule.faulty schedule.events)
+    (body_read s.faulty s.events (head_count spell.version + 1) (record s { faulty = []; events = [] }) schedule.faulty schedule.events)
 
--- what is spelled so is read
-pub spelled_read : (text : List ℕ) (s : Script) → IsSpelled text s → ReadsText text (Ok s)
-spelled_read text s spelled = lines_read (lines_of text) s spelled
+-- with checkpoints that is what is wrong
+pub lines_refused : (ls : Rest) (s : Script) → Spell ls s → 1 ≤ s.every → Continues (head_at ls) (Err (NotBuilt 7))
+lines_refused ls s spell some =
+    let schedule = spell.schedule in
+    let rest = faulty_lines s.faulty s.events in
+    let refused : head_at ls ≡ Err (NotBuilt 7) = ap head_at spell.lines ∙ head_asks spell.version s rest schedule.bounds spell.allows spell.omits some schedule.dense in
+    let none : ◌≡◌ {A = Outcome} (Err (NotBuilt 7)) (Err (NotBuilt 7)) = refl in
+    subst (λ o. Continues o (Err (NotBuilt 7))) (sym refused) none
+
+-- what is spelled so is read, or refused for its checkpoints
+pub spelled_read : (text : List ℕ) (s : Script) → IsSpelled text s → IsBuilt s → ReadsText text (Ok s)
+spelled_read text s spelled built = lines_read (lines_of text) s spelled built
+
+pub spelled_refused : (text : List ℕ) (s : Script) → IsSpelled text s → 1 ≤ s.every → ReadsText text (Err (NotBuilt 7))
+spelled_refused text s spelled some = lines_refused (lines_of text) s spelled some

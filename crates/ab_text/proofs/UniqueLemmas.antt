@@ -11,7 +11,7 @@ use Rattle.ab_text.specs.declared.event.Event.TheVariants.{Invoke, Deliver, Time
 use Rattle.ab_text.specs.declared.fault.TextFault.{TextFault}
 use Rattle.ab_text.specs.Cores.{Lacks, party_text, IsParty, twin_text, core_text, IsTwin, IsCore}
 use Rattle.ab_text.specs.EventLines.{event_line, delivery_text, IsEvent, IsInjected}
-use Rattle.ab_text.specs.Heads.{Script, head_at}
+use Rattle.ab_text.specs.Heads.{Front, Script, head_at}
 use Rattle.ab_text.specs.Schedules.{ReadsEvents, ReadsFaulty, Continues, Ends, IsInside, faulty_line, with_event, with_faulty}
 use Rattle.ab_text.proofs.PartLemmas.{same_parts, no_split, Lacks-decimal}
 use Rattle.ab_text.proofs.CoreLemmas.{Lacks-party, Lacks-core}
@@ -140,11 +140,11 @@ faulty_once (l ∷ ls) n s r q few small (inr (inr (bad, a))) (inl (told, b)) = 
 faulty_once (l ∷ ls) n s r q few small (inr (inr (bad, a))) (inr (inl (y, fine, told, b))) = absurd (bad.no_faulty y fine told)
 faulty_once (l ∷ ls) n s r q few small (inr (inr (bad, a))) (inr (inr (worse, b))) = a ∙ sym b
 
-continues_once : (ls : List (List ℕ)) (o : Result (Script × List (List ℕ)) TextFault) (r q : Outcome) → head_at ls ≡ o → Continues o r → Continues o q → r ≡ q
+continues_once : (ls : List (List ℕ)) (o : Result Front TextFault) (r q : Outcome) → head_at ls ≡ o → Continues o r → Continues o q → r ≡ q
 continues_once ls (Err e) r q is a b = a ∙ sym b
-continues_once ls (Ok (s, rest)) r q is a b =
-    let bounds = (head_is ls rest s is).bounds in
-    faulty_once rest 7 s r q bounds.few_faulty bounds.few_clients a b
+continues_once ls (Ok x) r q is a b =
+    let bounds = (head_is ls x is).bounds in
+    faulty_once x.rest x.next x.script r q bounds.few_faulty bounds.few_clients a b
 
 -- lines give one result
 pub lines_once : (ls : List (List ℕ)) (r q : Outcome) → Continues (head_at ls) r → Continues (head_at ls) q → r ≡ q

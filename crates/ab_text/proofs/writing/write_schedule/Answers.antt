@@ -11,7 +11,7 @@ use Rattle.ab_text.proofs.writing.write_schedule.Goals as goal
 pub returns : goal.returns
 returns c =
     let s = c.args.schedule.now in
-    let head : List (List ℕ) = head_lines (version_of s.head.lms) (script_of s.head []) in
+    let head : List (List ℕ) = head_lines (version_of (script_of s.head [])) (script_of s.head []) in
     let faulty : List (List ℕ) = map faulty_line s.head.faulty in
     let run : List (List ℕ) = codes "run" ∷ [] in
     let events : List (List ℕ) = map event_line s.events in
