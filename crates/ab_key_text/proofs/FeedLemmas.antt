@@ -11,10 +11,9 @@ use Rattle.ab_num.specs.Bounds.{IsInBounds}
 use Rattle.ab_keys.specs.Keys.{exchanges, is_party}
 use Rattle.ab_keys.specs.Rings.{Peer, parties}
 use Rattle.ab_scheme.specs.Schemes.{public_length}
-use Rattle.ab_text.specs.declared.version.Version.{Version}
-use Rattle.ab_text.specs.declared.version.Version.TheVariants.{One, Two}
+use Rattle.ab_key_text.specs.declared.version.KeyVersion.{KeyVersion}
+use Rattle.ab_key_text.specs.declared.version.KeyVersion.TheVariants.{One, Two}
 use Rattle.ab_text.specs.Cores.{party_text, IsParty}
-use Rattle.ab_text.specs.Heads.{version_of}
 use Rattle.ab_text.specs.Lines.{lines_of}
 use Rattle.ab_text.proofs.PartLemmas.{Lacks-append, Lacks-cons, Lacks-decimal}
 use Rattle.ab_text.proofs.CoreLemmas.{Lacks-party}
@@ -22,6 +21,7 @@ use Rattle.ab_key_text.specs.Keys.{Secret, PartyKeys, IsBytes, IsSecretOf, IsPar
 use Rattle.ab_key_text.specs.Nodes.{AreCommandsOf, IsNodeText, NodeText, command_line, command_lines, is_command, is_printable, node_in, node_lines}
 use Rattle.ab_key_text.specs.Reading.{keys_in}
 use Rattle.ab_key_text.specs.Spelling.{key_line, keys_line, peer_lines, public_lines, secret_lines, cluster_lines, name_lines, key_lines}
+use Rattle.ab_key_text.specs.Versions.{key_version_of}
 use Rattle.ab_key_text.proofs.ReadLemmas.{nodes_are_read}
 use Rattle.ab_key_text.proofs.RoundLemmas.{spelled_reads}
 use Rattle.ab_text.proofs.FeedLemmas.{lines_of-text_of, both, tested, no_feed_in_digits, no_feed_in_plan, no_feed_in_service, no_feed_in_scheme, HasNoFeed, HaveNoFeed}
@@ -91,7 +91,7 @@ small_party : (f clients : ℕ) (p : Party) → IsInBounds f clients → IsTrue 
 small_party f clients (Replica r) bounds inside = let lt : r < 3 * f + 1 = (Decides-ltb r (3 * f + 1)).0 inside in let few = bounds.few_faulty in omega (arith, lt, few)
 small_party f clients (Client c) bounds inside = let lt : c < clients = (Decides-ltb c clients).0 inside in let few = bounds.few_clients in omega (arith, lt, few)
 
-no_feed_in_version : (w : Version) → HasNoFeed (keys_line w)
+no_feed_in_version : (w : KeyVersion) → HasNoFeed (keys_line w)
 no_feed_in_version One = tested (codes "keys 1") refl
 no_feed_in_version Two = tested (codes "keys 2") refl
 
@@ -105,7 +105,7 @@ no_feed k good =
     let f = Lacks-append 10 (codes "f ") (decimal k.f) (tested (codes "f ") refl) (Lacks-decimal 10 k.f (omega arith) (omega (arith, fs))) in
     let clients = Lacks-append 10 (codes "clients ") (decimal k.clients) (tested (codes "clients ") refl) (Lacks-decimal 10 k.clients (omega arith) (omega (arith, cs))) in
     both (cluster_lines k) (name_lines k ++ (secret_lines k.secret ++ (flat_map peer_lines k.peers ++ public_lines 0 k.publics)))
-    (no_feed_in_version (version_of k.lms), (me, (f, (clients, tt))))
+    (no_feed_in_version (key_version_of k.lms), (me, (f, (clients, tt))))
     (both (name_lines k) (secret_lines k.secret ++ (flat_map peer_lines k.peers ++ public_lines 0 k.publics))
     (no_feed_in_plan k.plan, (no_feed_in_service k.service, (no_feed_in_scheme k.lms, tt)))
     (both (secret_lines k.secret) (flat_map peer_lines k.peers ++ public_lines 0 k.publics) (no_feed_in_secret k.me k.secret good.secret)

@@ -12,8 +12,8 @@ use Rattle.ab_num.specs.declared.plan.Scheme.{Scheme}
 use Rattle.ab_keys.specs.Keys.{is_party}
 use Rattle.ab_keys.specs.Rings.{Peer}
 use Rattle.ab_scheme.specs.Schemes.{public_length}
-use Rattle.ab_text.specs.declared.version.Version.{Version}
-use Rattle.ab_text.specs.Heads.{spelled_in, stripped, plan_line, plans, service_line, services, lms_line, versions}
+use Rattle.ab_key_text.specs.declared.version.KeyVersion.{KeyVersion}
+use Rattle.ab_text.specs.Heads.{spelled_in, stripped, plan_line, plans, service_line, services, lms_line}
 use Rattle.ab_key_text.specs.declared.fault.NodeFault.{NodeFault}
 use Rattle.ab_key_text.specs.declared.fault.NodeFault.TheVariants.{BadLine, NoEnd}
 use Rattle.ab_key_text.specs.Faults.{seen}
@@ -22,6 +22,7 @@ use Rattle.ab_key_text.specs.Lines.{◌>>=◌, found_at, line_at, own_schemes, n
 use Rattle.ab_key_text.specs.Nodes.{AreCommandsOf, IsNodeText, NodeText, command_in, command_lines, commands_at, commands_in, node_in, node_lines, node_of}
 use Rattle.ab_key_text.specs.Reading.{Read, KeyLines, ended, keys_after, keys_at, keys_in, member, peers_at, publics_at, put_together, secret_at, secret_in, setting_at}
 use Rattle.ab_key_text.specs.Spelling.{key_lines, keys_line}
+use Rattle.ab_key_text.specs.Versions.{key_versions}
 use Rattle.ab_key_text.proofs.CommandLemmas.{in_middle}
 use Rattle.ab_key_text.proofs.ReadLemmas.{commands_are_read, nodes_are_read}
 use Rattle.ab_key_text.proofs.RoundLemmas.{setting, from2, from3, from4, from5, from6, from7, inside, spelled_reads}
@@ -123,37 +124,37 @@ member_first false r first = record {
 }
 
 module _ {B : Type 0} (C : KeyLines × Lines → Result B NodeFault) (behind : (s : KeyLines) → IsFirst (λ ls. C (s, ls)) 8) where
-  first7 : (w : Version) (me : Party) (f c : ℕ) (p : Plan) (v : ServiceName) → IsFirst (λ ls. from7 w me f c p v ls >>= C) 7
+  first7 : (w : KeyVersion) (me : Party) (f c : ℕ) (p : Plan) (v : ServiceName) → IsFirst (λ ls. from7 w me f c p v ls >>= C) 7
   first7 w me f c p v = first_as _ _ 7 (λ ls. assoc (line_at (spelled_in lms_line (own_schemes w)) 7 ls) (λ (x : Scheme × Lines). let r : Result (KeyLines × Lines) NodeFault = Ok (setting me f c p v x.0, x.1) in r) C)
       (line_first (spelled_in lms_line (own_schemes w)) 7 (λ h ls. C (setting me f c p v h, ls)) (λ h. behind (setting me f c p v h)))
 
-  first6 : (w : Version) (me : Party) (f c : ℕ) (p : Plan) → IsFirst (λ ls. from6 w me f c p ls >>= C) 6
+  first6 : (w : KeyVersion) (me : Party) (f c : ℕ) (p : Plan) → IsFirst (λ ls. from6 w me f c p ls >>= C) 6
   first6 w me f c p = first_as _ _ 6 (λ ls. assoc (line_at (spelled_in service_line services) 6 ls) (λ (x : ServiceName × Lines). from7 w me f c p x.0 x.1) C)
       (line_first (spelled_in service_line services) 6 (λ v ls. from7 w me f c p v ls >>= C) (λ v. first7 w me f c p v))
 
-  first5 : (w : Version) (me : Party) (f c : ℕ) → IsFirst (λ ls. from5 w me f c ls >>= C) 5
+  first5 : (w : KeyVersion) (me : Party) (f c : ℕ) → IsFirst (λ ls. from5 w me f c ls >>= C) 5
   first5 w me f c = first_as _ _ 5 (λ ls. assoc (line_at (spelled_in plan_line plans) 5 ls) (λ (x : Plan × Lines). from6 w me f c x.0 x.1) C)
       (line_first (spelled_in plan_line plans) 5 (λ p ls. from6 w me f c p ls >>= C) (λ p. first6 w me f c p))
 
-  first_inside : (w : Version) (me : Party) (f c : ℕ) → IsFirst (λ ls. inside w me f c ls >>= C) 5
+  first_inside : (w : KeyVersion) (me : Party) (f c : ℕ) → IsFirst (λ ls. inside w me f c ls >>= C) 5
   first_inside w me f c = first_as _ _ 5 (λ ls. assoc (member f c me) (λ (x : Unit {0}). from5 w me f c ls) C) (member_first (is_party f c me) (λ ls. from5 w me f c ls >>= C) (first5 w me f c))
 
-  first4 : (w : Version) (me : Party) (f : ℕ) → IsFirst (λ ls. from4 w me f ls >>= C) 4
+  first4 : (w : KeyVersion) (me : Party) (f : ℕ) → IsFirst (λ ls. from4 w me f ls >>= C) 4
   first4 w me f = first_as _ _ 4 (λ ls. assoc (line_at (number_in (codes "clients ") 1 16) 4 ls) (λ (x : ℕ × Lines). inside w me f x.0 x.1) C)
       (line_first (number_in (codes "clients ") 1 16) 4 (λ c ls. inside w me f c ls >>= C) (λ c. first_inside w me f c))
 
-  first3 : (w : Version) (me : Party) → IsFirst (λ ls. from3 w me ls >>= C) 3
+  first3 : (w : KeyVersion) (me : Party) → IsFirst (λ ls. from3 w me ls >>= C) 3
   first3 w me = first_as _ _ 3 (λ ls. assoc (line_at (number_in (codes "f ") 1 2) 3 ls) (λ (x : ℕ × Lines). from4 w me x.0 x.1) C)
       (line_first (number_in (codes "f ") 1 2) 3 (λ f ls. from4 w me f ls >>= C) (λ f. first4 w me f))
 
-  first2 : (w : Version) → IsFirst (λ ls. from2 w ls >>= C) 2
+  first2 : (w : KeyVersion) → IsFirst (λ ls. from2 w ls >>= C) 2
   first2 w = first_as _ _ 2 (λ ls. assoc (line_at (λ l. option_and_then party_in (stripped (codes "party ") l)) 2 ls) (λ (x : Party × Lines). from3 w x.0 x.1) C)
       (line_first (λ l. option_and_then party_in (stripped (codes "party ") l)) 2 (λ me ls. from3 w me ls >>= C) (λ me. first3 w me))
 
   setting_first : IsFirst (λ ls. setting_at ls >>= C) 1
   unfolding setting_at
-  setting_first = first_as _ _ 1 (λ ls. assoc (line_at (spelled_in keys_line versions) 1 ls) (λ (x : Version × Lines). from2 x.0 x.1) C)
-      (line_first (spelled_in keys_line versions) 1 (λ w ls. from2 w ls >>= C) (λ w. first2 w))
+  setting_first = first_as _ _ 1 (λ ls. assoc (line_at (spelled_in keys_line key_versions) 1 ls) (λ (x : KeyVersion × Lines). from2 x.0 x.1) C)
+      (line_first (spelled_in keys_line key_versions) 1 (λ w ls. from2 w ls >>= C) (λ w. first2 w))
 
 -- whatever was read before a line with this number, what is read from it on
 abbrev Behind : {A B : Type 0} → (Read A → Result B NodeFault) → Type 0

@@ -24,10 +24,10 @@ use Rattle.ab_keys.specs.Rings.{Peer}
 use Rattle.ab_scheme.specs.Schemes.{public_length}
 use Rattle.ab_text.specs.declared.fault.TextFault.{TextFault}
 use Rattle.ab_text.specs.declared.fault.TextFault.TheVariants.{BadLine as BadText}
-use Rattle.ab_text.specs.declared.version.Version.{Version}
-use Rattle.ab_text.specs.declared.version.Version.TheVariants.{One, Two}
+use Rattle.ab_key_text.specs.declared.version.KeyVersion.{KeyVersion}
+use Rattle.ab_key_text.specs.declared.version.KeyVersion.TheVariants.{One, Two}
 use Rattle.ab_text.specs.Cores.{party_text}
-use Rattle.ab_text.specs.Heads.{number_after, spelled_in, stripped, taken, within, plan_line, plans, service_line, services, lms_line, versions, version_of}
+use Rattle.ab_text.specs.Heads.{number_after, spelled_in, stripped, taken, within, plan_line, plans, service_line, services, lms_line}
 use Rattle.ab_text.proofs.HeadLemmas.{name_is, number_is, spelled_has}
 use Rattle.ab_text.proofs.WordLemmas.{stripped-is}
 use Rattle.ab_key_text.specs.declared.fault.NodeFault.{NodeFault}
@@ -38,6 +38,7 @@ use Rattle.ab_key_text.specs.Lines.{◌>>=◌, found_at, line_at, own_schemes, b
 use Rattle.ab_key_text.specs.Nodes.{NodeText, AreCommandsOf, IsNodeText, command_in, command_line, command_lines, commands_at, commands_in, checked_command, is_command, node_in, node_lines, node_of}
 use Rattle.ab_key_text.specs.Reading.{Read, KeyLines, member, ended, keys_after, keys_at, keys_in, peers_at, publics_at, put_together, secret_at, secret_in, secret_of_parts, secret_text_in, setting_at}
 use Rattle.ab_key_text.specs.Spelling.{cluster_lines, key_line, keys_line, key_lines, name_lines, peer_lines, public_lines, secret_line, secret_lines}
+use Rattle.ab_key_text.specs.Versions.{key_versions, key_version_of}
 use Rattle.ab_key_text.proofs.CommandLemmas.{in_middle}
 use Rattle.ab_key_text.proofs.RoundLemmas.{setting, from2, from3, from4, from5, from6, from7, inside, whole_read}
 use Rattle.ab_key_text.proofs.SpelledLemmas.{after_secret}
@@ -155,22 +156,22 @@ line_said read said says n ls rest a h = let line = line_was read n ls rest a h 
 
 -- ---- the head
 
-own_versions : (w : Version) → AllByRecursion (λ h. version_of h ≡ w) (own_schemes w)
+own_versions : (w : KeyVersion) → AllByRecursion (λ h. key_version_of h ≡ w) (own_schemes w)
 own_versions One = (refl, (refl, tt))
 own_versions Two = (refl, tt)
 
 -- the scheme was read where this is its least version
-version_was : (w : Version) (n : ℕ) (ls rest : Lines) (h : Scheme) → line_at (spelled_in lms_line (own_schemes w)) n ls ≡ Ok (h, rest) → version_of h ≡ w
+version_was : (w : KeyVersion) (n : ℕ) (ls rest : Lines) (h : Scheme) → line_at (spelled_in lms_line (own_schemes w)) n ls ≡ Ok (h, rest) → key_version_of h ≡ w
 version_was w n ls rest h is =
     let line = line_was (spelled_in lms_line (own_schemes w)) n ls rest h is in
-    spelled_has (λ x. version_of x ≡ w) lms_line (own_schemes w) line.0 h (own_versions w) line.2
+    spelled_has (λ x. key_version_of x ≡ w) lms_line (own_schemes w) line.0 h (own_versions w) line.2
 
 member_was : (b : Bool) (u : Unit {0}) → (let r : Result (Unit {0}) NodeFault = if b then Ok tt else Err (BadLine 2) in r) ≡ Ok u → b ≡ true
 member_was true u h = refl
 member_was false u h = absurd (cc)
 
 record IsFront (s : KeyLines) (ls rest : Lines) : Type 0 where
-  lines : ls ≡ keys_line (version_of s.lms) ∷ (codes "party " ++ party_text s.me) ∷ (codes "f " ++ decimal s.f) ∷ (codes "clients " ++ decimal s.clients)
+  lines : ls ≡ keys_line (key_version_of s.lms) ∷ (codes "party " ++ party_text s.me) ∷ (codes "f " ++ decimal s.f) ∷ (codes "clients " ++ decimal s.clients)
       ∷ plan_line s.plan ∷ service_line s.service ∷ lms_line s.lms ∷ rest
   bounds : IsInBounds s.f s.clients
   party : is_party s.f s.clients s.me ≡ true
@@ -180,7 +181,7 @@ unfolding setting_at
 setting_was ls rest s e =
     let out : KeyLines × Lines = (s, rest) in
     let read_party : List ℕ → Option Party = λ l. option_and_then party_in (stripped (codes "party ") l) in
-    let a = bound (line_at (spelled_in keys_line versions) 1 ls) (λ (x : Version × Lines). from2 x.0 x.1) out e in
+    let a = bound (line_at (spelled_in keys_line key_versions) 1 ls) (λ (x : KeyVersion × Lines). from2 x.0 x.1) out e in
     let w = a.0.0 in
     let b = bound (line_at read_party 2 a.0.1) (λ (x : Party × Lines). from3 w x.0 x.1) out a.2 in
     let me = b.0.0 in
@@ -194,8 +195,8 @@ setting_was ls rest s e =
     let h = bound (line_at (spelled_in lms_line (own_schemes w)) 7 v.0.1) (λ (x : Scheme × Lines). let r : Result (KeyLines × Lines) NodeFault = Ok (setting me f n p.0.0 v.0.0 x.0, x.1) in r) out v.2 in
     let made : KeyLines × Lines = (setting me f n p.0.0 v.0.0 h.0.0, h.0.1) in
     let same : made ≡ out = same_ok made out h.2 in
-    let one = line_said (spelled_in keys_line versions) keys_line (name_was keys_line versions) 1 ls a.0.1 w a.1 in
-    let least : version_of h.0.0 ≡ w = version_was w 7 v.0.1 h.0.1 h.0.0 h.1 in
+    let one = line_said (spelled_in keys_line key_versions) keys_line (name_was keys_line key_versions) 1 ls a.0.1 w a.1 in
+    let least : key_version_of h.0.0 ≡ w = version_was w 7 v.0.1 h.0.1 h.0.0 h.1 in
     let two = line_said read_party (λ q. codes "party " ++ party_text q)
     (λ l q is_read. let behind = then_was party_in (stripped (codes "party ") l) q is_read in word_was (codes "party ") l behind.0 behind.1 ∙ ap (λ t. codes "party " ++ t) (party_was behind.0 q behind.2)) 2 a.0.1 b.0.1 me b.1 in
     let three = line_was (number_in (codes "f ") 1 2) 3 b.0.1 c.0.1 f c.1 in
@@ -206,7 +207,7 @@ setting_was ls rest s e =
     let six = line_said (spelled_in service_line services) service_line (name_was service_line services) 6 p.0.1 v.0.1 v.0.0 v.1 in
     let seven = line_said (spelled_in lms_line (own_schemes w)) lms_line (name_was lms_line (own_schemes w)) 7 v.0.1 h.0.1 h.0.0 h.1 in
     subst (λ (x : KeyLines × Lines). IsFront x.0 ls x.1) same (record {
-      lines = one ∙ ap (λ x. keys_line x ∷ a.0.1) (sym least) ∙ ap (λ t. keys_line (version_of h.0.0) ∷ t) (two ∙ ap (λ t. (codes "party " ++ party_text me) ∷ t) ((three.1 ∙ (λ j. f_is.0 j ∷ c.0.1)) ∙ ap (λ t. (codes "f " ++ decimal f) ∷ t) ((four.1 ∙ (λ j. n_is.0 j ∷ d.0.1))
+      lines = one ∙ ap (λ x. keys_line x ∷ a.0.1) (sym least) ∙ ap (λ t. keys_line (key_version_of h.0.0) ∷ t) (two ∙ ap (λ t. (codes "party " ++ party_text me) ∷ t) ((three.1 ∙ (λ j. f_is.0 j ∷ c.0.1)) ∙ ap (λ t. (codes "f " ++ decimal f) ∷ t) ((four.1 ∙ (λ j. n_is.0 j ∷ d.0.1))
           ∙ ap (λ t. (codes "clients " ++ decimal n) ∷ t) (five ∙ ap (λ t. plan_line p.0.0 ∷ t) (six ∙ ap (λ t. service_line v.0.0 ∷ t) seven)))));
       bounds = record { some_faulty = f_is.1; few_faulty = f_is.2; some_client = n_is.1; few_clients = n_is.2 };
       party = member_was (is_party f n me) m.0 m.1;

@@ -15,10 +15,10 @@ use Rattle.ab_num.specs.Bounds.{IsInBounds}
 use Rattle.ab_keys.specs.Keys.{is_party}
 use Rattle.ab_keys.specs.Rings.{Peer}
 use Rattle.ab_scheme.specs.Schemes.{public_length}
-use Rattle.ab_text.specs.declared.version.Version.{Version}
-use Rattle.ab_text.specs.declared.version.Version.TheVariants.{One, Two}
+use Rattle.ab_key_text.specs.declared.version.KeyVersion.{KeyVersion}
+use Rattle.ab_key_text.specs.declared.version.KeyVersion.TheVariants.{One, Two}
 use Rattle.ab_text.specs.Cores.{party_text}
-use Rattle.ab_text.specs.Heads.{stripped, spelled_in, plan_line, plans, service_line, services, lms_line, versions, version_of}
+use Rattle.ab_text.specs.Heads.{stripped, spelled_in, plan_line, plans, service_line, services, lms_line}
 use Rattle.ab_text.proofs.WordLemmas.{stripped-is}
 use Rattle.ab_key_text.specs.declared.fault.NodeFault.{NodeFault}
 use Rattle.ab_key_text.specs.declared.fault.NodeFault.TheVariants.{BadLine}
@@ -26,6 +26,7 @@ use Rattle.ab_key_text.specs.Keys.{Secret, PartyKeys, IsPartyKeys, peers_in, rep
 use Rattle.ab_key_text.specs.Lines.{◌>>=◌, line_at, number_in, own_schemes, party_in}
 use Rattle.ab_key_text.specs.Reading.{Read, KeyLines, member, setting_at, peers_at, publics_at, put_together, keys_after, keys_at, keys_in, ended}
 use Rattle.ab_key_text.specs.Spelling.{keys_line, cluster_lines, name_lines, key_lines, peer_lines, public_lines, secret_lines}
+use Rattle.ab_key_text.specs.Versions.{key_versions, key_version_of}
 use Rattle.ab_key_text.proofs.SpelledLemmas.{line_read, number_read, party_read, IsSmall, secret_at_read, after_secret, peers_read, publics_read}
 use Rattle.ab_text.proofs.HeadLemmas.{plan_read, service_read}
 
@@ -38,34 +39,34 @@ Head = Result (KeyLines × Rest) NodeFault
 abbrev pub setting : Party → ℕ → ℕ → Plan → ServiceName → Scheme → KeyLines
 setting me f c p v h = record { me = me; f = f; clients = c; plan = p; service = v; lms = h }
 
-abbrev pub from7 : Version → Party → ℕ → ℕ → Plan → ServiceName → Rest → Head
+abbrev pub from7 : KeyVersion → Party → ℕ → ℕ → Plan → ServiceName → Rest → Head
 from7 w me f c p v ls = line_at (spelled_in lms_line (own_schemes w)) 7 ls >>= λ (x : Scheme × Rest). Ok (setting me f c p v x.0, x.1)
 
-abbrev pub from6 : Version → Party → ℕ → ℕ → Plan → Rest → Head
+abbrev pub from6 : KeyVersion → Party → ℕ → ℕ → Plan → Rest → Head
 from6 w me f c p ls = line_at (spelled_in service_line services) 6 ls >>= λ (x : ServiceName × Rest). from7 w me f c p x.0 x.1
 
-abbrev pub from5 : Version → Party → ℕ → ℕ → Rest → Head
+abbrev pub from5 : KeyVersion → Party → ℕ → ℕ → Rest → Head
 from5 w me f c ls = line_at (spelled_in plan_line plans) 5 ls >>= λ (x : Plan × Rest). from6 w me f c x.0 x.1
 
-abbrev pub inside : Version → Party → ℕ → ℕ → Rest → Head
+abbrev pub inside : KeyVersion → Party → ℕ → ℕ → Rest → Head
 inside w me f c ls = member f c me >>= λ (x : Unit {0}). from5 w me f c ls
 
-abbrev pub from4 : Version → Party → ℕ → Rest → Head
+abbrev pub from4 : KeyVersion → Party → ℕ → Rest → Head
 from4 w me f ls = line_at (number_in (codes "clients ") 1 16) 4 ls >>= λ (x : ℕ × Rest). inside w me f x.0 x.1
 
-abbrev pub from3 : Version → Party → Rest → Head
+abbrev pub from3 : KeyVersion → Party → Rest → Head
 from3 w me ls = line_at (number_in (codes "f ") 1 2) 3 ls >>= λ (x : ℕ × Rest). from4 w me x.0 x.1
 
-abbrev pub from2 : Version → Rest → Head
+abbrev pub from2 : KeyVersion → Rest → Head
 from2 w ls = line_at (λ l. option_and_then party_in (stripped (codes "party ") l)) 2 ls >>= λ (x : Party × Rest). from3 w x.0 x.1
 
-pub version_read : (w : Version) → spelled_in keys_line versions (keys_line w) ≡ Some w
+pub version_read : (w : KeyVersion) → spelled_in keys_line key_versions (keys_line w) ≡ Some w
 unfolding spelled_in
 version_read One = refl
 version_read Two = refl
 
 -- a scheme is of its least version
-pub scheme_read : (h : Scheme) → spelled_in lms_line (own_schemes (version_of h)) (lms_line h) ≡ Some h
+pub scheme_read : (h : Scheme) → spelled_in lms_line (own_schemes (key_version_of h)) (lms_line h) ≡ Some h
 unfolding spelled_in
 scheme_read (Lms Five) = refl
 scheme_read (Lms Ten) = refl
@@ -91,9 +92,9 @@ setting_read k rest bounds in_cluster =
     let t4 : Rest = (codes "clients " ++ decimal k.clients) ∷ t5 in
     let t3 : Rest = (codes "f " ++ decimal k.f) ∷ t4 in
     let t2 : Rest = (codes "party " ++ party_text k.me) ∷ t3 in
-    let w = version_of k.lms in
+    let w = key_version_of k.lms in
     let two : option_and_then party_in (stripped (codes "party ") (codes "party " ++ party_text k.me)) ≡ Some k.me = ap (option_and_then party_in) (stripped-is (codes "party ") (codes "party " ++ party_text k.me) (party_text k.me) refl) ∙ party_read k.me (small k.f k.clients k.me bounds in_cluster) in
-    ap (λ (r : Result (Version × Rest) NodeFault). r >>= λ x. from2 x.0 x.1) (line_read (spelled_in keys_line versions) 1 (keys_line w) t2 w (version_read w))
+    ap (λ (r : Result (KeyVersion × Rest) NodeFault). r >>= λ x. from2 x.0 x.1) (line_read (spelled_in keys_line key_versions) 1 (keys_line w) t2 w (version_read w))
     ∙ ap (λ (r : Result (Party × Rest) NodeFault). r >>= λ x. from3 w x.0 x.1) (line_read (λ l. option_and_then party_in (stripped (codes "party ") l)) 2 (codes "party " ++ party_text k.me) t3 k.me two)
     ∙ ap (λ (r : Result (ℕ × Rest) NodeFault). r >>= λ x. from4 w k.me x.0 x.1) (line_read (number_in (codes "f ") 1 2) 3 (codes "f " ++ decimal k.f) t4 k.f (number_read (codes "f ") 1 2 k.f f_low f_high (omega (arith, f_high))))
     ∙ ap (λ (r : Result (ℕ × Rest) NodeFault). r >>= λ x. inside w k.me k.f x.0 x.1) (line_read (number_in (codes "clients ") 1 16) 4 (codes "clients " ++ decimal k.clients) t5 k.clients (number_read (codes "clients ") 1 16 k.clients c_low c_high (omega (arith, c_high))))

@@ -2,6 +2,7 @@
 pub mod Derived
 pub mod Faults
 pub mod Hex
+pub mod Versions
 pub mod Keys
 pub mod Spelling
 pub mod Lines

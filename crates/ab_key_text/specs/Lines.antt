@@ -4,8 +4,8 @@ use Rattle.std.specs.Option.{option_and_then}
 use Rattle.ab_num.specs.declared.party.Party.{Party}
 use Rattle.ab_num.specs.declared.party.Party.TheVariants.{Replica, Client}
 use Rattle.ab_num.specs.declared.plan.Scheme.{Scheme}
-use Rattle.ab_text.specs.declared.version.Version.{Version}
-use Rattle.ab_text.specs.declared.version.Version.TheVariants.{One, Two}
+use Rattle.ab_key_text.specs.declared.version.KeyVersion.{KeyVersion}
+use Rattle.ab_key_text.specs.declared.version.KeyVersion.TheVariants.{One, Two}
 use Rattle.ab_text.specs.Cores.{party_text}
 use Rattle.ab_text.specs.Heads.{stripped, number_after, one_level, two_levels}
 use Rattle.ab_key_text.specs.declared.fault.NodeFault.{NodeFault}
@@ -28,7 +28,7 @@ line_at read n [] = Err (NoEnd n)
 line_at read n (l ∷ ls) = found_at n ls (read l)
 
 -- the schemes of which this is the least version
-abbrev pub own_schemes : Version → List Scheme
+abbrev pub own_schemes : KeyVersion → List Scheme
 own_schemes One = one_level
 own_schemes Two = two_levels
 

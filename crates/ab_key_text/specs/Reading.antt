@@ -9,7 +9,7 @@ use Rattle.ab_num.specs.declared.plan.Scheme.{Scheme}
 use Rattle.ab_keys.specs.Keys.{is_party}
 use Rattle.ab_keys.specs.Rings.{Peer}
 use Rattle.ab_scheme.specs.Schemes.{public_length}
-use Rattle.ab_text.specs.Heads.{spelled_in, stripped, plan_line, plans, service_line, services, lms_line, versions}
+use Rattle.ab_text.specs.Heads.{spelled_in, stripped, plan_line, plans, service_line, services, lms_line}
 use Rattle.ab_key_text.specs.declared.fault.KeyFault.{KeyFault}
 use Rattle.ab_key_text.specs.declared.fault.KeyFault.TheVariants as key_fault
 use Rattle.ab_key_text.specs.declared.fault.NodeFault.{NodeFault}
@@ -18,6 +18,7 @@ use Rattle.ab_key_text.specs.Hex.{bytes_in}
 use Rattle.ab_key_text.specs.Keys.{Secret, PartyKeys, peers_in, replicas}
 use Rattle.ab_key_text.specs.Lines.{◌>>=◌, line_at, own_schemes, number_in, party_in, bytes_after, key_in}
 use Rattle.ab_key_text.specs.Spelling.{keys_line}
+use Rattle.ab_key_text.specs.Versions.{key_versions}
 
 -- lines 1 to 7
 pub record KeyLines : Type 0 where
@@ -34,7 +35,7 @@ member f clients me = if is_party f clients me then Ok tt else Err (BadLine 2)
 
 unfoldable pub setting_at : List (List ℕ) → Result (KeyLines × List (List ℕ)) NodeFault
 setting_at ls = do
-  version ← line_at (spelled_in keys_line versions) 1 ls
+  version ← line_at (spelled_in keys_line key_versions) 1 ls
   me ← line_at (λ l. option_and_then party_in (stripped (codes "party ") l)) 2 version.1
   f ← line_at (number_in (codes "f ") 1 2) 3 me.1
   clients ← line_at (number_in (codes "clients ") 1 16) 4 f.1

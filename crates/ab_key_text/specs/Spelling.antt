@@ -5,10 +5,11 @@ use Rattle.ab_num.specs.declared.party.Party.TheVariants.{Replica}
 use Rattle.hex.specs.Hex.{encode_lower}
 use Rattle.ab_keys.specs.Rings.{Peer}
 use Rattle.ab_text.specs.Cores.{party_text}
-use Rattle.ab_text.specs.declared.version.Version.{Version}
-use Rattle.ab_text.specs.declared.version.Version.TheVariants.{One, Two}
-use Rattle.ab_text.specs.Heads.{plan_line, service_line, lms_line, version_of}
+use Rattle.ab_key_text.specs.declared.version.KeyVersion.{KeyVersion}
+use Rattle.ab_key_text.specs.declared.version.KeyVersion.TheVariants.{One, Two}
+use Rattle.ab_text.specs.Heads.{plan_line, service_line, lms_line}
 use Rattle.ab_key_text.specs.Keys.{Secret, PartyKeys}
+use Rattle.ab_key_text.specs.Versions.{key_version_of}
 
 -- a word, a party and a key: `out r1 59f2..`
 abbrev pub key_line : List ℕ → Party → List ℕ → List ℕ
@@ -30,13 +31,13 @@ abbrev pub public_lines : ℕ → List (List ℕ) → List (List ℕ)
 public_lines r [] = []
 public_lines r (key ∷ keys) = key_line (codes "public ") (Replica r) key ∷ public_lines (r + 1) keys
 
-abbrev pub keys_line : Version → List ℕ
+abbrev pub keys_line : KeyVersion → List ℕ
 keys_line One = codes "keys 1"
 keys_line Two = codes "keys 2"
 
 -- the first line is the least that has the scheme
 abbrev pub cluster_lines : PartyKeys → List (List ℕ)
-cluster_lines k = keys_line (version_of k.lms) ∷ (codes "party " ++ party_text k.me) ∷ (codes "f " ++ decimal k.f) ∷ (codes "clients " ++ decimal k.clients) ∷ []
+cluster_lines k = keys_line (key_version_of k.lms) ∷ (codes "party " ++ party_text k.me) ∷ (codes "f " ++ decimal k.f) ∷ (codes "clients " ++ decimal k.clients) ∷ []
 
 abbrev pub name_lines : PartyKeys → List (List ℕ)
 name_lines k = plan_line k.plan ∷ service_line k.service ∷ lms_line k.lms ∷ []

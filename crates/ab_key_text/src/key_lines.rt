@@ -2,21 +2,23 @@
 
 ghost use Rattle.std.specs.Prelude.{◌≡◌, ◌≤◌, IfOk, length};
 ghost use Rattle.ab_keys.specs.Keys.{is_party};
-ghost use Rattle.ab_text.specs.Heads.{spelled_in, versions};
+ghost use Rattle.ab_text.specs.Heads.{spelled_in};
 ghost use Rattle.ab_text.specs.Lines.{lines_of};
 ghost use Rattle.ab_key_text.specs.Lines.{Gives, line_at};
 ghost use Rattle.ab_key_text.specs.Reading.{put_together, setting_at};
 ghost use Rattle.ab_key_text.specs.Spelling.{keys_line};
+ghost use Rattle.ab_key_text.specs.Versions.{key_versions};
 
 use crate::fault::NodeFault;
 use crate::keys::PartyKeys;
 use crate::lines::{number_at, party_at, plan_at, scheme_at, service_at};
 use crate::secret::Secret;
 use crate::shared::Shared;
+use crate::version::KeyVersion;
 use ab_keys::is_party;
 use ab_num::{Cluster, Party, Plan, Scheme, ServiceName};
 use ab_scheme::PublicKey;
-use ab_text::{Version, cluster_of, next_line};
+use ab_text::{cluster_of, next_line};
 use std::marker::Model;
 
 /// A party of a cluster, the cluster's service and how its replicas sign.
@@ -49,21 +51,21 @@ impl Model for KeyLines {
 
 /// The version that a first line names.
 #[tactic(auto, unfolding(ab_text::specs::Heads::spelled_in))]
-fn version_in(line: &[u8]) -> Option<Version>
-    ensures { result ≡ spelled_in keys_line versions line.now }
+fn version_in(line: &[u8]) -> Option<KeyVersion>
+    ensures { result ≡ spelled_in keys_line key_versions line.now }
 {
     if line == b"keys 1".as_slice() {
-        return Some(Version::One);
+        return Some(KeyVersion::One);
     }
     if line == b"keys 2".as_slice() {
-        return Some(Version::Two);
+        return Some(KeyVersion::Two);
     }
     None
 }
 
 /// The version in line 1, and what comes after that line.
-fn version_at(text: &[u8]) -> Result<(Version, &[u8]), NodeFault>
-    ensures reads { Gives (λ p. (p.0, lines_of p.1.now)) result (line_at (spelled_in keys_line versions) 1 (lines_of text.now)) }
+fn version_at(text: &[u8]) -> Result<(KeyVersion, &[u8]), NodeFault>
+    ensures reads { Gives (λ p. (p.0, lines_of p.1.now)) result (line_at (spelled_in keys_line key_versions) 1 (lines_of text.now)) }
     ensures shorter { IfOk result (λ p. length p.1.now ≤ length text.now) }
 {
     match next_line(text) {

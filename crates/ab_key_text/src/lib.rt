@@ -14,6 +14,7 @@ mod peers;
 mod reading;
 mod secret;
 mod shared;
+mod version;
 mod writing;
 
 pub use fault::{KeyFault, NodeFault};

@@ -11,9 +11,10 @@ ghost use Rattle.ab_scheme.specs.Schemes.{public_length};
 use crate::fault::NodeFault;
 use crate::parts::{key_in, named_party, number_in, public_in, secret_in};
 use crate::secret::Secret;
+use crate::version::KeyVersion;
 use ab_num::{Party, Plan, Scheme, ServiceName};
 use ab_scheme::PublicKey;
-use ab_text::{Version, next_line, one_level_in, plan_in, service_in, two_levels_in};
+use ab_text::{next_line, one_level_in, plan_in, service_in, two_levels_in};
 
 /// The number of line `n`, after its word, and what comes after that line.
 pub fn number_at<'a>(
@@ -80,19 +81,19 @@ pub(crate) fn service_at<'a>(text: &'a [u8], n: u32) -> Result<(ServiceName, &'a
 }
 
 /// The scheme that a line names, where this is the least version that has it.
-fn own_scheme_in(version: Version, line: &[u8]) -> Option<Scheme>
+fn own_scheme_in(version: KeyVersion, line: &[u8]) -> Option<Scheme>
     ensures { result ≡ spelled_in lms_line (own_schemes version) line.now }
 {
     match version {
-        Version::One => one_level_in(line),
-        Version::Two => two_levels_in(line),
+        KeyVersion::One => one_level_in(line),
+        KeyVersion::Two => two_levels_in(line),
     }
 }
 
 /// The scheme of line `n`, of which this is the least version, and what comes after that line.
 pub(crate) fn scheme_at<'a>(
     text: &'a [u8],
-    version: Version,
+    version: KeyVersion,
     n: u32,
 ) -> Result<(Scheme, &'a [u8]), NodeFault>
     ensures reads { Gives (λ p. (p.0, lines_of p.1.now)) result (line_at (spelled_in lms_line (own_schemes version)) n (lines_of text.now)) }

@@ -8,11 +8,10 @@ ghost use Rattle.ab_key_text.specs.Lines.{bytes_after, key_in, number_in, party_
 ghost use Rattle.ab_key_text.specs.Reading.{secret_in, secret_text_in};
 ghost use Rattle.ab_scheme.specs.Schemes.{public_length};
 
-use crate::hex_bytes::bytes_in;
 use crate::secret::Secret;
 use ab_num::{Party, Scheme};
 use ab_scheme::PublicKey;
-use ab_text::{after, word_number};
+use ab_text::{after, bytes_in, word_number};
 
 /// What comes after a party.
 fn after_party(text: &[u8], p: Party) -> Option<&[u8]>

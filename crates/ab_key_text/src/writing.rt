@@ -8,9 +8,10 @@ ghost use Rattle.ab_text.specs.Texts.{text_of};
 use crate::keys::PartyKeys;
 use crate::secret::Secret;
 use crate::shared::Shared;
+use crate::version::{KeyVersion, key_version_of};
 use ab_num::{OutOfMemory, Party};
 use ab_scheme::PublicKey;
-use ab_text::{Version, party_string, plan_text, scheme_text, service_text, version_of};
+use ab_text::{party_string, plan_text, scheme_text, service_text};
 use std::alloc::{AllocError, Global};
 
 /// A line of a word, a party and a key.
@@ -40,12 +41,12 @@ fn secret_string(alloc: Global, secret: &Secret) -> Result<String, AllocError>
 }
 
 /// The first line of a key text.
-fn keys_text(version: Version) -> &'static str
+fn keys_text(version: KeyVersion) -> &'static str
     ensures { result.now ≡ keys_line version }
 {
     match version {
-        Version::One => "keys 1",
-        Version::Two => "keys 2",
+        KeyVersion::One => "keys 1",
+        KeyVersion::Two => "keys 2",
     }
 }
 
@@ -79,7 +80,7 @@ impl PartyKeys {
         let party = format!(in alloc; "party {me}")?;
         let faulty = format!(in alloc; "f {f}")?;
         let count = format!(in alloc; "clients {clients}")?;
-        add_line(out, keys_text(version_of(self.lms)))?;
+        add_line(out, keys_text(key_version_of(self.lms)))?;
         add_line(out, party.as_str())?;
         add_line(out, faulty.as_str())?;
         add_line(out, count.as_str())?;

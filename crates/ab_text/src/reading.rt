@@ -66,11 +66,12 @@ fn events_after(alloc: Global, head: Head, text: &[u8], first: u32) -> Result<Sc
 fn head_with(setting: HeadLines, faulty: Items<(Party, u8)>) -> Head
     ensures { script_of result [] ≡ set_up setting faulty }
 {
+    let seed = setting.seed;
     Head {
         cluster: setting.cluster,
         service: setting.service,
         lms: setting.lms,
-        seed: setting.seed,
+        seed,
         faulty,
     }
 }

@@ -4,6 +4,8 @@
 #[cfg(test)]
 mod key_texts;
 #[cfg(test)]
+mod later_heads;
+#[cfg(test)]
 mod pictures;
 #[cfg(test)]
 mod schedules;

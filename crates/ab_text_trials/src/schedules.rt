@@ -26,7 +26,8 @@ fn heads(rt: HostRuntime) {
     let cases = [
         ("", TextFault::NoEnd(1)),
         ("\n", TextFault::BadLine(1)),
-        ("abstract 4\nf 1\n", TextFault::BadLine(1)),
+        ("abstract 5\nf 1\n", TextFault::BadLine(1)),
+        ("abstract 3\n", TextFault::NoEnd(2)),
         ("abstract 1\r\nf 1\r\n", TextFault::BadLine(1)),
         ("abstract 1\n", TextFault::NoEnd(2)),
         ("abstract 1\nf 3\n", TextFault::BadLine(2)),
@@ -100,7 +101,9 @@ fn versions(rt: HostRuntime) {
         ("abstract 2", "lms 20", Ok(Scheme::Hss)),
         ("abstract 2", "lms 15", Err(TextFault::BadLine(6))),
         ("abstract 2", "lms 020", Err(TextFault::BadLine(6))),
-        ("abstract 3", "lms 20", Err(TextFault::BadLine(1))),
+        ("abstract 3", "lms 20", Err(TextFault::BadLine(7))),
+        ("abstract 4", "lms 20", Err(TextFault::BadLine(7))),
+        ("abstract 5", "lms 20", Err(TextFault::BadLine(1))),
         ("abstract 02", "lms 20", Err(TextFault::BadLine(1))),
     ];
     for (first, lms, read) in cases {
@@ -195,6 +198,8 @@ fn expect_head(rt: &impl Abort, head: &Head) {
     let cluster = &head.cluster;
     assert!(rt; (cluster.f, cluster.clients, cluster.plan) == (1, 1, Plan::Quorum));
     assert!(rt; (head.service, head.lms) == (ServiceName::Echo, Scheme::Lms(Height::Five)));
+    assert!(rt; cluster.every == 0);
+    assert!(rt; head.seed == [0; 32]);
     assert!(rt; head.faulty.as_slice().len() == 0);
 }
 

@@ -14,10 +14,10 @@ use crate::options::{
 };
 use crate::uses::{Uses, uses_in};
 use crate::values::{journal_of, number_of};
-use ab_key_text::{bytes_in, party_in};
+use ab_key_text::party_in;
 use ab_keys::is_party;
 use ab_num::OutOfMemory;
-use ab_text::cluster_of;
+use ab_text::{bytes_in, cluster_of};
 use std::alloc::Global;
 
 /// Whose keys the uses ask for.

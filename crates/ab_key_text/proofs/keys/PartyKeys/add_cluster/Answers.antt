@@ -1,14 +1,14 @@
 use Rattle.std.proofs.Common.{◌≡◌, ℕ, List, [], ◌∷◌, ◌++◌, codes, decimal, ap, ◌∙◌, rules}
 use Rattle.ab_text.specs.Cores.{party_text}
-use Rattle.ab_text.specs.Heads.{version_of}
 use Rattle.ab_key_text.specs.Spelling.{keys_line}
+use Rattle.ab_key_text.specs.Versions.{key_version_of}
 use Rattle.ab_text.specs.Texts.{text_of}
 use Rattle.ab_text.proofs.WritingLemmas.{added}
 use Rattle.ab_key_text.proofs.keys.PartyKeys.add_cluster.Goals as goal
 
 pub returns : goal.returns
 returns c =
-    let version = keys_line (version_of c.args.self.now.lms) in
+    let version = keys_line (key_version_of c.args.self.now.lms) in
     let begun : c.keys_text.result.now ≡ version = search rules in
     let party : c.as_str.result.now ≡ codes "party " ++ party_text c.args.self.now.me = search rules in
     let faulty : c.as_str-2.result.now ≡ codes "f " ++ decimal c.args.self.now.f = search rules in
