@@ -32,7 +32,7 @@ import time
 from programs import PROGRAM, end_in_order, need, parser_of, ran
 from schedules import head
 
-SEED = "0" * 64
+SEED = bytes(range(32)).hex()
 HOST = "127.0.0.1"
 REPLICAS = 4
 SECONDS = 300
@@ -160,7 +160,7 @@ class Cluster:
     def replayed(self):
         """The report of all its events, and what is said of them."""
         asked = self.asked
-        lines = [line.encode() for line in head(asked.plan, clients=asked.clients, lms=asked.lms)]
+        lines = [line.encode() for line in head(asked.plan, clients=asked.clients, lms=asked.lms, seed=SEED)]
         lines += [*self.lines_of(b"invoke", b"inject", b"timeout"), b"end", b""]
         _, report, said = ran(["replay"], b"\n".join(lines))
         return report.decode().splitlines(), said.decode()

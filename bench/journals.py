@@ -163,7 +163,7 @@ class Schedule:
     def report(self):
         """The report of the schedule, and what is said of it."""
         asked = self.nodes.asked
-        begin = [line.encode() for line in head(asked.plan, clients=asked.clients, lms=asked.lms)]
+        begin = [line.encode() for line in head(asked.plan, clients=asked.clients, lms=asked.lms, seed=cluster.SEED)]
         text = b"\n".join([*begin, *self.events, b"end", b""])
         (self.nodes.folder / "all.sched").write_bytes(text)
         status, report, said = ran(["replay"], text)
