@@ -10,6 +10,18 @@ const C0_TO_R1: [u8; 32] = [
     0x2b, 0x92, 0xf9, 0x3b, 0x22, 0x7c, 0xaf, 0xdb, 0xda, 0xe0, 0xe1, 0x26, 0xe2, 0x26, 0xdd, 0x58,
 ];
 
+/// A seed of bytes that rise from 0.
+const RISING: [u8; 32] = [
+    0x00, 0x01, 0x02, 0x03, 0x04, 0x05, 0x06, 0x07, 0x08, 0x09, 0x0a, 0x0b, 0x0c, 0x0d, 0x0e, 0x0f,
+    0x10, 0x11, 0x12, 0x13, 0x14, 0x15, 0x16, 0x17, 0x18, 0x19, 0x1a, 0x1b, 0x1c, 0x1d, 0x1e, 0x1f,
+];
+
+/// The same tag under the keys of that seed.
+const BY_RISING: [u8; 32] = [
+    0x6b, 0xba, 0x8e, 0x9a, 0x50, 0x23, 0x36, 0xd8, 0x17, 0xbd, 0x49, 0x30, 0x36, 0xc9, 0xab, 0x12,
+    0x3e, 0xe3, 0x61, 0x39, 0xdf, 0xd8, 0x5b, 0x30, 0xef, 0xb2, 0xba, 0xfe, 0xd1, 0xfa, 0x09, 0xdb,
+];
+
 /// Four replicas and two clients.
 fn cluster() -> Option<Cluster> {
     Cluster::new(1, 2, Plan::Quorum, 0)
@@ -17,6 +29,16 @@ fn cluster() -> Option<Cluster> {
 
 /// The setup in which these two parties are faulty.
 fn setup(rt: &HostRuntime, first: (Party, u8), second: (Party, u8)) -> Option<Setup> {
+    setup_by(rt, first, second, &[0; 32])
+}
+
+/// The same with the keys of a seed.
+fn setup_by(
+    rt: &HostRuntime,
+    first: (Party, u8),
+    second: (Party, u8),
+    seed: &[u8; 32],
+) -> Option<Setup> {
     let cluster = cluster()?;
     if !is_party(&cluster, first.0) || !is_party(&cluster, second.0) {
         return None;
@@ -26,7 +48,7 @@ fn setup(rt: &HostRuntime, first: (Party, u8), second: (Party, u8)) -> Option<Se
         &cluster,
         &[first, second],
         Scheme::Lms(Height::Five),
-        &[0; 32],
+        seed,
     )
     .ok()
 }
@@ -110,6 +132,13 @@ fn setup_is_told(rt: HostRuntime) {
     assert!(rt; *x.cluster() == cluster().expect(&rt, "memory"));
     assert!(rt; are_told(&x));
     assert!(rt; tag_of(&x) == Some(C0_TO_R1));
+}
+
+#[test]
+fn keys_are_those_of_the_seed(rt: HostRuntime) {
+    let replica = (Party::Replica(0), 3);
+    let x = setup_by(&rt, replica, (Party::Client(1), 1), &RISING).expect(&rt, "memory");
+    assert!(rt; tag_of(&x) == Some(BY_RISING));
 }
 
 #[test]
