@@ -1,5 +1,5 @@
 -- The events that a storm draws, as a schedule.
-use Rattle.std.proofs.Common.{◌≡◌, List, [], All, Ok, length, refl, replicate, sym, ap, ◌∙◌, subst}
+use Rattle.std.proofs.Common.{◌≡◌, List, [], All, Ok, length, refl, sym, ap, ◌∙◌, subst}
 use Rattle.std.proofs.lemmas.List.Elements.{recursion_from_All}
 use Rattle.ab_num.specs.declared.cluster.Cluster.{Cluster}
 use Rattle.ab_num.specs.declared.plan.Height.TheVariants.{Ten}
@@ -7,8 +7,9 @@ use Rattle.ab_num.specs.declared.plan.Scheme.TheVariants.{Lms}
 use Rattle.ab_num.specs.declared.plan.ServiceName.TheVariants.{Kv}
 use Rattle.ab_text.specs.declared.event.Event.{Event}
 use Rattle.ab_text.specs.EventLines.{IsEvent}
-use Rattle.ab_text.specs.Heads.{Script}
+use Rattle.ab_text.specs.Heads.{Script, no_seed}
 use Rattle.ab_text.specs.Spelling.{IsSchedule}
+use Rattle.ab_text.proofs.HeadLemmas.{IsSeed-none}
 use Rattle.ab_words.specs.Commands.{StormCommand}
 use Rattle.ab_party.specs.Clusters.{IsSized}
 use Rattle.ab_world.specs.Worlds.{World}
@@ -21,7 +22,7 @@ use Rattle.ab_command.specs.Written.{script_in, IsOfStorm}
 
 -- events with lines, in a cluster, are a schedule of the grammar
 in_grammar : (c : Cluster) (events : List Event) → All IsEvent events → IsSchedule (script_in c events)
-in_grammar c events lines = record { bounds = c.in_bounds; faulty = tt; events = recursion_from_All IsEvent events lines }
+in_grammar c events lines = record { bounds = c.in_bounds; dense = c.is_dense; seed = IsSeed-none; faulty = tt; events = recursion_from_All IsEvent events lines }
 
 pub of_storm : (k : StormCommand) (c : Cluster) (events : List Event) (s : Script) → IsSized c k.f k.clients k.plan 0 → ((end : World Any) × Draws kv k events end) → s ≡ script_in c events → IsOfStorm k s
 of_storm k c events s sized (end, draws) is =
@@ -30,7 +31,7 @@ of_storm k c events s sized (end, draws) is =
     let clients : c.clients ≡ own.clients = sized.clients ∙ sym draws.sized.clients in
     let plan : c.plan ≡ own.plan = sized.plan ∙ sym draws.sized.plan in
     let every : c.every ≡ own.every = sized.every ∙ sym draws.sized.every in
-    let whole : s ≡ script_in own (events_in kv own k) = is ∙ (λ j. record { f = f j; clients = clients j; plan = plan j; service = Kv; lms = Lms Ten; every = every j; seed = replicate 32 0; faulty = []; events = draws.drawn j }) in
+    let whole : s ≡ script_in own (events_in kv own k) = is ∙ (λ j. record { f = f j; clients = clients j; plan = plan j; service = Kv; lms = Lms Ten; every = every j; seed = no_seed; faulty = []; events = draws.drawn j }) in
     record {
       cluster = own;
       sized = draws.sized;

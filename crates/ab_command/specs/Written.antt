@@ -1,11 +1,11 @@
 -- The schedule that a storm runs, over the store of keys and values.
-use Rattle.std.specs.Prelude.{◌≡◌, ℕ, List, [], Ok, length, replicate}
+use Rattle.std.specs.Prelude.{◌≡◌, ℕ, List, [], Ok, length}
 use Rattle.ab_num.specs.declared.cluster.Cluster.{Cluster}
 use Rattle.ab_num.specs.declared.plan.Height.TheVariants.{Ten}
 use Rattle.ab_num.specs.declared.plan.Scheme.TheVariants.{Lms}
 use Rattle.ab_num.specs.declared.plan.ServiceName.TheVariants.{Kv}
 use Rattle.ab_text.specs.declared.event.Event.{Event}
-use Rattle.ab_text.specs.Heads.{Script}
+use Rattle.ab_text.specs.Heads.{Script, no_seed}
 use Rattle.ab_text.specs.Spelling.{IsSchedule, IsSpelled}
 use Rattle.ab_text.specs.Texts.{schedule_text}
 use Rattle.ab_words.specs.Commands.{StormCommand}
@@ -18,7 +18,7 @@ use Rattle.ab_command.specs.Statuses.{kv}
 
 -- these events in a storm's cluster, which has no faulty party and the keys of the seed of zeros
 abbrev pub script_in : Cluster → List Event → Script
-script_in c events = record { f = c.f; clients = c.clients; plan = c.plan; service = Kv; lms = Lms Ten; every = c.every; seed = replicate 32 0; faulty = []; events = events }
+script_in c events = record { f = c.f; clients = c.clients; plan = c.plan; service = Kv; lms = Lms Ten; every = c.every; seed = no_seed; faulty = []; events = events }
 
 -- the schedule of the storm that is asked for: in its cluster the events that it draws, as many as it asks for. No event is refused: a
 -- replay of the schedule leads to the very world to which the storm leads

@@ -10,7 +10,7 @@ storm_events-requires-clause-served c = λ i one. all_served c.args.asked.now.pl
 
 pub returns-clause-ok : goal.returns-clause-ok
 returns-clause-ok c =
-    of_storm c.args.asked.now c.cluster.result.now c.in_ok-events.events _ (record { f = c.cluster.ensures.f; clients = c.cluster.ensures.clients; plan = c.cluster.ensures.plan }) c.in_ok-events.ensures.ok c.schedule_in.ensures
+    of_storm c.args.asked.now c.cluster.result.now c.in_ok-events.events _ (record { f = c.cluster.ensures.f; clients = c.cluster.ensures.clients; plan = c.cluster.ensures.plan; every = c.cluster.ensures.every }) c.in_ok-events.ensures.ok c.schedule_in.ensures
 
 pub returns-in_err-events-clause-cause : goal.returns-in_err-events-clause-cause
 returns-in_err-events-clause-cause c =
