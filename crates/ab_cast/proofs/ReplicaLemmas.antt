@@ -1,6 +1,6 @@
 -- A replica in its cluster, as it takes what comes.
 use Rattle.std.proofs.Common.{◌≡◌, ℕ, ◌+◌, ◌*◌, ◌<◌, Bool, All, Result, Ok, Err, List, length, IsTrue, refl, sym, ap, ◌∙◌, subst, arith}
-use Rattle.std.specs.Prelude.{IfOk, OnOk, replicate, slice_set}
+use Rattle.std.specs.Prelude.{IfOk, OnOk, slice_set}
 use Rattle.std.proofs.lemmas.Bool.{lt-ltb}
 use Rattle.ab_num.specs.declared.cluster.Cluster.{Cluster}
 use Rattle.ab_num.specs.declared.memory.OutOfMemory.{OutOfMemory}
@@ -42,10 +42,9 @@ use Rattle.ab_cast.specs.Hearing.{CliHears, RepHears}
 
 sig_long : (x : Setup) (r : ℕ) (s : Content) (n : ℕ) → r < 3 * x.cluster.f + 1 → IsSig ((run_setup x).sig r s n)
 sig_long x r s n lt =
-    let zeros : List ℕ = replicate 32 0 in
     let text = spell_content s in
-    subst (λ k. IsSig (signature_at k n text)) (sym (derived-at x.cluster.f x.lms zeros r lt))
-    (signature_fits x.lms (tree_name zeros r) (tree_seed zeros r) text n)
+    subst (λ k. IsSig (signature_at k n text)) (sym (derived-at x.cluster.f x.lms x.seed r lt))
+    (signature_fits x.lms (tree_name x.seed r) (tree_seed x.seed r) text n)
 
 pub written_setup : (x : Setup) (serves : Kind → Bool) → ServesAll serves x.cluster → IsWrittenSetup (run_setup x) serves
 written_setup x serves served = record { serves_all = served; signs = λ r s n lt. sig_long x r s n lt }
@@ -93,7 +92,7 @@ module _ {P : Type 0} (proto : Proto P) (serves : Kind → Bool) (x : Setup) (r 
       ring = party_ring x (Replica r) (replica_party x r lt);
       own = refl;
       f = refl;
-      signatures = sym (derived-leaves x.cluster.f x.lms (replicate 32 0) r lt);
+      signatures = sym (derived-leaves x.cluster.f x.lms x.seed r lt);
       signs = λ m n. sig_long x r m n lt;
       used = omega arith;
       serves_all = served;

@@ -1,6 +1,5 @@
--- A cluster in one program, with its faulty parties and the scheme by which its replicas sign. The keys of its parties are those of the seed
--- of zeros.
-use Rattle.std.specs.Prelude.{IsTrue, All, ◌≡◌, ℕ, ◌<◌, ◌-◌, ◌+◌, ◌*◌, ◌==◌, ◌&&◌, if◌then◌else◌, Bool, Option, None, Some, List, [], map, position, replicate, slice_get}
+-- A cluster in one program, with its faulty parties, the scheme by which its replicas sign, and the seed of its parties' keys.
+use Rattle.std.specs.Prelude.{IsTrue, All, ◌≡◌, ℕ, ◌<◌, ◌-◌, ◌+◌, ◌*◌, ◌==◌, ◌&&◌, if◌then◌else◌, Bool, Option, None, Some, List, [], map, position, slice_get}
 use Rattle.std.specs.List.{flat_map, range_with_len}
 use Rattle.std.specs.Option.{option_map}
 use Rattle.ab_num.specs.declared.party.Party.{Party}
@@ -23,10 +22,11 @@ pub record Setup : Type 0 where
   pub cluster : Cluster
   pub faulty : List (Party × ℕ)
   pub lms : Scheme
+  pub seed : List ℕ
 
 -- the signature keys of the replicas
 abbrev pub keys_of : Setup → List SignKey
-keys_of x = derived_keys x.cluster.f x.lms (replicate 32 0)
+keys_of x = derived_keys x.cluster.f x.lms x.seed
 
 -- how many signatures each replica can make
 abbrev pub signatures_of : Setup → ℕ
@@ -41,7 +41,7 @@ is_bad x p = is_faulty (run_setup x).faulty p
 
 -- the keys of a party
 abbrev pub ring_at : Setup → Party → Ring
-ring_at x p = ring_of x.cluster.f x.cluster.clients x.cluster.plan (replicate 32 0) p
+ring_at x p = ring_of x.cluster.f x.cluster.clients x.cluster.plan x.seed p
 
 -- what a party opens, signs and seals by
 abbrev pub credentials_at : Setup → Party → Credentials

@@ -1,6 +1,6 @@
 //! What a cluster is set up with.
 
-ghost use Rattle.std.specs.Prelude.{◌≡◌, ◌+◌, ◌-◌, ◌*◌, ◌==◌, ◌&&◌, ◌++◌, All, IsTrue, IfOk, OnOk, map, position, replicate};
+ghost use Rattle.std.specs.Prelude.{◌≡◌, ◌+◌, ◌-◌, ◌*◌, ◌==◌, ◌&&◌, ◌++◌, All, IsTrue, IfOk, OnOk, map, position};
 ghost use Rattle.std.specs.List.{list_any, range_with_len};
 ghost use Rattle.std.specs.Option.{option_map};
 ghost use Rattle.ab_num.specs.declared.party.Party.TheVariants.{Replica, Client};
@@ -19,13 +19,14 @@ use ab_sign::Signers;
 use std::alloc::Global;
 use std::marker::Model;
 
-/// A cluster with its faulty parties, the key ring of each party, the signature keys of the replicas,
-/// and the places of their cores.
+/// A cluster with its faulty parties, the seed of its keys, the key ring of each party, the signature keys of the
+/// replicas, and the places of their cores.
 #[derive(Drop)]
 pub struct Setup {
     cluster: Cluster,
     faulty: Vec<(Party, u8)>,
     lms: Scheme,
+    seed: [u8; 32],
     signers: Signers,
     replica_rings: Vec<KeyRing>,
     client_rings: Vec<KeyRing>,
@@ -38,31 +39,39 @@ impl Model for Setup {
 
     ghost Value = { TheSetup };
 
-    ghost view = { λ x. record { cluster = x.cluster; faulty = x.faulty.items; lms = x.lms } };
+    ghost view = { λ x. record { cluster = x.cluster; faulty = x.faulty.items; lms = x.lms; seed = x.seed } };
 
     ghost invariant = { λ x. IsSetup
-        (record { cluster = x.cluster; faulty = x.faulty.items; lms = x.lms })
+        (record { cluster = x.cluster; faulty = x.faulty.items; lms = x.lms; seed = x.seed })
         x.signers x.replica_rings.items x.client_rings.items x.replica_twins.items x.client_twins.items };
 }
 
-/// The rings of the replicas, by their numbers.
-fn replica_rings(alloc: Global, c: &Cluster) -> Result<Vec<KeyRing>, OutOfMemory>
-    ensures { IfOk result (λ rings. rings.items ≡ map (λ r. ring_of c.now.f c.now.clients c.now.plan (replicate 32 0) (Replica r)) (range_with_len 0 (3 * c.now.f + 1))) }
+/// The rings that a seed gives to the replicas, by their numbers.
+fn replica_rings(
+    alloc: Global,
+    c: &Cluster,
+    seed: &[u8; 32],
+) -> Result<Vec<KeyRing>, OutOfMemory>
+    ensures { IfOk result (λ rings. rings.items ≡ map (λ r. ring_of c.now.f c.now.clients c.now.plan seed.now (Replica r)) (range_with_len 0 (3 * c.now.f + 1))) }
 {
     let mut rings = Vec::new(alloc);
     for r in 0..c.replicas() {
-        rings.push(KeyRing::derive(alloc, c, &[0; 32], Party::Replica(r))?)?;
+        rings.push(KeyRing::derive(alloc, c, seed, Party::Replica(r))?)?;
     }
     Ok(rings)
 }
 
-/// The rings of the clients, by their numbers.
-fn client_rings(alloc: Global, c: &Cluster) -> Result<Vec<KeyRing>, OutOfMemory>
-    ensures { IfOk result (λ rings. rings.items ≡ map (λ n. ring_of c.now.f c.now.clients c.now.plan (replicate 32 0) (Client n)) (range_with_len 0 c.now.clients)) }
+/// The rings that a seed gives to the clients, by their numbers.
+fn client_rings(
+    alloc: Global,
+    c: &Cluster,
+    seed: &[u8; 32],
+) -> Result<Vec<KeyRing>, OutOfMemory>
+    ensures { IfOk result (λ rings. rings.items ≡ map (λ n. ring_of c.now.f c.now.clients c.now.plan seed.now (Client n)) (range_with_len 0 c.now.clients)) }
 {
     let mut rings = Vec::new(alloc);
     for n in 0..c.clients {
-        rings.push(KeyRing::derive(alloc, c, &[0; 32], Party::Client(n))?)?;
+        rings.push(KeyRing::derive(alloc, c, seed, Party::Client(n))?)?;
     }
     Ok(rings)
 }
@@ -142,23 +151,25 @@ fn has(faulty: &[(Party, u8)], party: Party) -> bool
 
 impl Setup {
     /// The setup of a cluster in which these parties are faulty, each with the number of its cores.
-    /// The keys are those that the seed of 32 zeros gives; replicas sign by this scheme.
+    /// Replicas sign by this scheme, and the keys are those that the seed gives.
     pub fn new(
         alloc: Global,
         cluster: &Cluster,
         faulty: &[(Party, u8)],
         lms: Scheme,
+        seed: &[u8; 32],
     ) -> Result<Setup, OutOfMemory>
         requires { All (λ e. IsTrue (is_party cluster.now.f cluster.now.clients e.0)) faulty.now }
-        ensures { IfOk result (λ x. x ≡ record { cluster = cluster.now; faulty = faulty.now; lms = lms }) }
+        ensures { IfOk result (λ x. x ≡ record { cluster = cluster.now; faulty = faulty.now; lms = lms; seed = seed.now }) }
     {
         Ok(Setup {
             cluster: *cluster,
             faulty: Vec::from_slice(alloc, faulty)?,
             lms,
-            signers: Signers::derive(alloc, cluster, lms, &[0; 32])?,
-            replica_rings: replica_rings(alloc, cluster)?,
-            client_rings: client_rings(alloc, cluster)?,
+            seed: *seed,
+            signers: Signers::derive(alloc, cluster, lms, seed)?,
+            replica_rings: replica_rings(alloc, cluster, seed)?,
+            client_rings: client_rings(alloc, cluster, seed)?,
             replica_twins: replica_twins(alloc, faulty)?,
             client_twins: client_twins(alloc, faulty)?,
         })

@@ -1,5 +1,5 @@
 -- The events that a storm draws, as a schedule.
-use Rattle.std.proofs.Common.{◌≡◌, List, [], All, Ok, length, refl, sym, ap, ◌∙◌, subst}
+use Rattle.std.proofs.Common.{◌≡◌, List, [], All, Ok, length, refl, replicate, sym, ap, ◌∙◌, subst}
 use Rattle.std.proofs.lemmas.List.Elements.{recursion_from_All}
 use Rattle.ab_num.specs.declared.cluster.Cluster.{Cluster}
 use Rattle.ab_num.specs.declared.plan.Height.TheVariants.{Ten}
@@ -23,13 +23,14 @@ use Rattle.ab_command.specs.Written.{script_in, IsOfStorm}
 in_grammar : (c : Cluster) (events : List Event) → All IsEvent events → IsSchedule (script_in c events)
 in_grammar c events lines = record { bounds = c.in_bounds; faulty = tt; events = recursion_from_All IsEvent events lines }
 
-pub of_storm : (k : StormCommand) (c : Cluster) (events : List Event) (s : Script) → IsSized c k.f k.clients k.plan → ((end : World Any) × Draws kv k events end) → s ≡ script_in c events → IsOfStorm k s
+pub of_storm : (k : StormCommand) (c : Cluster) (events : List Event) (s : Script) → IsSized c k.f k.clients k.plan 0 → ((end : World Any) × Draws kv k events end) → s ≡ script_in c events → IsOfStorm k s
 of_storm k c events s sized (end, draws) is =
     let own = draws.cluster in
     let f : c.f ≡ own.f = sized.f ∙ sym draws.sized.f in
     let clients : c.clients ≡ own.clients = sized.clients ∙ sym draws.sized.clients in
     let plan : c.plan ≡ own.plan = sized.plan ∙ sym draws.sized.plan in
-    let whole : s ≡ script_in own (events_in kv own k) = is ∙ (λ j. record { f = f j; clients = clients j; plan = plan j; service = Kv; lms = Lms Ten; faulty = []; events = draws.drawn j }) in
+    let every : c.every ≡ own.every = sized.every ∙ sym draws.sized.every in
+    let whole : s ≡ script_in own (events_in kv own k) = is ∙ (λ j. record { f = f j; clients = clients j; plan = plan j; service = Kv; lms = Lms Ten; every = every j; seed = replicate 32 0; faulty = []; events = draws.drawn j }) in
     record {
       cluster = own;
       sized = draws.sized;
@@ -37,6 +38,6 @@ of_storm k c events s sized (end, draws) is =
       all = ap (λ (x : Script). length x.events) is ∙ draws.all;
       end = end;
       storms = draws.runs;
-      replays = subst (λ (x : Script). Runs x (Ok end)) (sym whole) (record { cluster = own; sized = record { f = refl; clients = refl; plan = refl }; runs = draws.runs });
+      replays = subst (λ (x : Script). Runs x (Ok end)) (sym whole) (record { cluster = own; sized = record { f = refl; clients = refl; plan = refl; every = refl }; runs = draws.runs });
       grammar = subst IsSchedule (sym whole) (in_grammar own (events_in kv own k) (subst (All IsEvent) draws.drawn draws.lines));
     }

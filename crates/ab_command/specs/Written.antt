@@ -1,5 +1,5 @@
 -- The schedule that a storm runs, over the store of keys and values.
-use Rattle.std.specs.Prelude.{◌≡◌, ℕ, List, [], Ok, length}
+use Rattle.std.specs.Prelude.{◌≡◌, ℕ, List, [], Ok, length, replicate}
 use Rattle.ab_num.specs.declared.cluster.Cluster.{Cluster}
 use Rattle.ab_num.specs.declared.plan.Height.TheVariants.{Ten}
 use Rattle.ab_num.specs.declared.plan.Scheme.TheVariants.{Lms}
@@ -16,15 +16,15 @@ use Rattle.ab_replay.specs.Replays.{Runs}
 use Rattle.ab_storm.specs.Runs.{events_in, run_in}
 use Rattle.ab_command.specs.Statuses.{kv}
 
--- these events in a storm's cluster, which has no faulty party
+-- these events in a storm's cluster, which has no faulty party and the keys of the seed of zeros
 abbrev pub script_in : Cluster → List Event → Script
-script_in c events = record { f = c.f; clients = c.clients; plan = c.plan; service = Kv; lms = Lms Ten; faulty = []; events = events }
+script_in c events = record { f = c.f; clients = c.clients; plan = c.plan; service = Kv; lms = Lms Ten; every = c.every; seed = replicate 32 0; faulty = []; events = events }
 
 -- the schedule of the storm that is asked for: in its cluster the events that it draws, as many as it asks for. No event is refused: a
 -- replay of the schedule leads to the very world to which the storm leads
 pub record IsOfStorm (k : StormCommand) (s : Script) : Type 0 where
   pub cluster : Cluster
-  pub sized : IsSized cluster k.f k.clients k.plan
+  pub sized : IsSized cluster k.f k.clients k.plan 0
   pub is : s ≡ script_in cluster (events_in kv cluster k)
   pub all : length s.events ≡ k.events
   pub end : World Any

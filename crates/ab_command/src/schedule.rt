@@ -22,6 +22,7 @@ fn schedule_in(alloc: Global, cluster: &Cluster, events: Items<Event>) -> Schedu
         cluster: *cluster,
         service: ServiceName::Kv,
         lms: Scheme::Lms(Height::Ten),
+        seed: [0; 32],
         faulty: Items::new(alloc),
     };
     Schedule { head, events }

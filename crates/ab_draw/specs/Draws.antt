@@ -54,7 +54,7 @@ AllRun {P} proto c s = (end : World P) × (run_in proto c s ≡ Ok end)
 -- all events of a schedule run, and this is the picture of the first of them
 pub record IsPictureOf {P : Type 0} (proto : Proto P) (s : Script) (p : Picture) : Type 0 where
   pub cluster : Cluster
-  pub sized : IsSized cluster s.f s.clients s.plan
+  pub sized : IsSized cluster s.f s.clients s.plan s.every
   pub runs : AllRun proto cluster s
   pub front : IsFrontOf proto cluster s p
 

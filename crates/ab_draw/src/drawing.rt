@@ -19,7 +19,7 @@ use ab_replay::{
     AnyProtocol, MOST_EVENTS, Played, ReadFault, ReplayFault, fault_of_text, play, read_all,
 };
 use ab_svc::{Echo, Service};
-use ab_text::{Event, Head, Schedule, read_is_in_form, read_schedule};
+use ab_text::{Event, Head, Schedule, lines_of_head, read_is_in_form, read_schedule};
 use std::alloc::Global;
 use std::mem::drop;
 
@@ -149,7 +149,7 @@ fn draw_text(alloc: Global, text: &[u8]) -> Result<Vec<u8>, ReplayFault>
     }
     // What was read is in form: faulty parties are of the cluster.
     read_is_in_form();
-    let line = 7 + schedule.head.faulty.as_slice().len() as u32;
+    let line = lines_of_head(text) + 1 + schedule.head.faulty.as_slice().len() as u32;
     match schedule.head.service {
         ServiceName::Echo => perform::<Echo, AnyProtocol<Echo>>(alloc, &schedule, line),
         ServiceName::Kv => perform::<Kv, AnyProtocol<Kv>>(alloc, &schedule, line),

@@ -13,6 +13,7 @@ use crate::shared::Shared;
 use ab_keys::{key_of, tree_name, tree_seed};
 use ab_num::{Cluster, OutOfMemory, Party, Scheme, ServiceName};
 use ab_scheme::PublicKey;
+use ab_text::cluster_of;
 use std::alloc::Global;
 
 /// The secret that a seed gives to replica `r`.
@@ -89,7 +90,7 @@ impl PartyKeys {
         let peers = peers_of(alloc, c, seed, me)?;
         let publics = publics_of(alloc, c, lms, seed)?;
         Ok(PartyKeys {
-            cluster: *c,
+            cluster: cluster_of(c.f, c.clients, c.plan, 0),
             service,
             lms,
             me,

@@ -31,7 +31,7 @@ pub(crate) struct KeyLines {
 }
 
 impl Model for KeyLines {
-    ghost use Rattle.std.specs.Prelude.{IsTrue};
+    ghost use Rattle.std.specs.Prelude.{IsTrue, ◌≡◌};
     ghost use Rattle.ab_keys.specs.Keys.{is_party as is_member};
     ghost use Rattle.ab_key_text.specs.Reading.{KeyLines as SettingValue};
 
@@ -46,7 +46,7 @@ impl Model for KeyLines {
       lms = s.lms;
     } };
 
-    ghost invariant = { λ s. IsTrue (is_member s.cluster.f s.cluster.clients s.me) };
+    ghost invariant = { λ s. IsTrue (is_member s.cluster.f s.cluster.clients s.me) × (s.cluster.every ≡ 0) };
 }
 
 /// The version that a first line names.

@@ -27,7 +27,7 @@ pub struct PartyKeys {
 }
 
 impl Model for PartyKeys {
-    ghost use Rattle.std.specs.Prelude.{IsTrue};
+    ghost use Rattle.std.specs.Prelude.{IsTrue, ◌≡◌};
     ghost use Rattle.ab_keys.specs.Keys.{is_party as is_member};
     ghost use Rattle.ab_key_text.specs.Keys.{PartyKeys as KeysValue};
 
@@ -45,15 +45,16 @@ impl Model for PartyKeys {
       publics = k.publics.items;
     } };
 
-    ghost invariant = { λ k. IsTrue (is_member k.cluster.f k.cluster.clients k.me) };
+    ghost invariant = { λ k. IsTrue (is_member k.cluster.f k.cluster.clients k.me) × (k.cluster.every ≡ 0) };
 }
 
 impl PartyKeys {
-    /// The cluster.
+    /// The cluster, in which no checkpoint is due.
     pub fn cluster(&self) -> &Cluster
         ensures f { result.now.f ≡ self.now.f }
         ensures clients { result.now.clients ≡ self.now.clients }
         ensures plan { result.now.plan ≡ self.now.plan }
+        ensures every { result.now.every ≡ 0 }
     {
         &self.cluster
     }

@@ -26,6 +26,7 @@ fn setup(rt: &HostRuntime, first: (Party, u8), second: (Party, u8)) -> Option<Se
         &cluster,
         &[first, second],
         Scheme::Lms(Height::Five),
+        &[0; 32],
     )
     .ok()
 }

@@ -7,7 +7,7 @@ use Rattle.ab_abs.specs.Acts.{Act, Setting}
 use Rattle.ab_abs.specs.Ensembles.{Proto, entry_of, begin_of}
 
 abbrev pub four : Plan → Cluster
-four p = record { f = 1; clients = 1; plan = p; in_bounds = record { some_faulty = lit≤ tt; few_faulty = lit≤ tt; some_client = lit≤ tt; few_clients = lit≤ tt } }
+four p = record { f = 1; clients = 1; plan = p; in_bounds = record { some_faulty = lit≤ tt; few_faulty = lit≤ tt; some_client = lit≤ tt; few_clients = lit≤ tt }; every = 0; is_dense = lit≤ tt }
 
 abbrev pub all_correct : Plan → Setting
 all_correct p = record { cluster = four p; faulty = []; i = 1 }

@@ -36,7 +36,7 @@ use Rattle.ab_world.specs.Steps.{WorldCause, Happening, ready, ready_in, happeni
 use Rattle.ab_world.specs.Worlds.{World, start}
 use Rattle.ab_replay.specs.declared.fault.ReplayFault.{ReplayFault}
 use Rattle.ab_replay.specs.declared.fault.ReplayFault.TheVariants.{Read, TooLong, Refused, TooManyEvents, TooManyPackets, OutOfMemory}
-use Rattle.ab_replay.specs.Replays.{RunsTo, run_in, setup_in, proto_of, head_lines, EventsCause, TextCause, counts_behind, counts_of, fault_of_step}
+use Rattle.ab_replay.specs.Replays.{RunsTo, run_in, setup_in, proto_of, lines_before, EventsCause, TextCause, counts_behind, counts_of, fault_of_step}
 
 -- ---- how many replicas a world has
 
@@ -195,30 +195,31 @@ module _ {P : Type 0} (proto : Proto P) where
 bounds_once : (f n : ℕ) (a b : IsInBounds f n) → a ≡ b
 bounds_once f n a b = λ j. record { some_faulty = le_prop a.some_faulty b.some_faulty j; few_faulty = le_prop a.few_faulty b.few_faulty j; some_client = le_prop a.some_client b.some_client j; few_clients = le_prop a.few_clients b.few_clients j }
 
-abbrev of_size : (f n : ℕ) → Plan → IsInBounds f n → Cluster
-of_size f n plan bounds = record { f = f; clients = n; plan = plan; in_bounds = bounds }
+abbrev of_size : (f n : ℕ) → Plan → (k : ℕ) → IsInBounds f n → k ≤ 128 → Cluster
+of_size f n plan k bounds dense = record { f = f; clients = n; plan = plan; every = k; in_bounds = bounds; is_dense = dense }
 
-one_cluster : (c d : Cluster) → c.f ≡ d.f → c.clients ≡ d.clients → c.plan ≡ d.plan → c ≡ d
-one_cluster c d f n plan =
-    subst (λ (g : ℕ). (b : IsInBounds g d.clients) → c ≡ of_size g d.clients d.plan b) f
-    (subst (λ (m : ℕ). (b : IsInBounds c.f m) → c ≡ of_size c.f m d.plan b) n
-    (subst (λ (q : Plan). (b : IsInBounds c.f c.clients) → c ≡ of_size c.f c.clients q b) plan
-    (λ b. ap (of_size c.f c.clients c.plan) (bounds_once c.f c.clients c.in_bounds b)))) d.in_bounds
+one_cluster : (c d : Cluster) → c.f ≡ d.f → c.clients ≡ d.clients → c.plan ≡ d.plan → c.every ≡ d.every → c ≡ d
+one_cluster c d f n plan every =
+    subst (λ (g : ℕ). (b : IsInBounds g d.clients) (t : d.every ≤ 128) → c ≡ of_size g d.clients d.plan d.every b t) f
+    (subst (λ (m : ℕ). (b : IsInBounds c.f m) (t : d.every ≤ 128) → c ≡ of_size c.f m d.plan d.every b t) n
+    (subst (λ (q : Plan). (b : IsInBounds c.f c.clients) (t : d.every ≤ 128) → c ≡ of_size c.f c.clients q d.every b t) plan
+    (subst (λ (k : ℕ). (b : IsInBounds c.f c.clients) (t : k ≤ 128) → c ≡ of_size c.f c.clients c.plan k b t) every
+    (λ b t j. of_size c.f c.clients c.plan c.every (bounds_once c.f c.clients c.in_bounds b j) (le_prop c.is_dense t j))))) d.in_bounds d.is_dense
 
 -- the run of a schedule has one end
 pub one_end : {P : Type 0} (proto : Proto P) (s : Script) (r q : Result (World P) (ℕ × WorldFault)) → RunsTo proto s r → RunsTo proto s q → r ≡ q
 one_end proto s r q a b =
     sym a.runs
-    ∙ ap (λ (c : Cluster). run_in proto c s) (one_cluster a.cluster b.cluster (a.sized.f ∙ sym b.sized.f) (a.sized.clients ∙ sym b.sized.clients) (a.sized.plan ∙ sym b.sized.plan))
+    ∙ ap (λ (c : Cluster). run_in proto c s) (one_cluster a.cluster b.cluster (a.sized.f ∙ sym b.sized.f) (a.sized.clients ∙ sym b.sized.clients) (a.sized.plan ∙ sym b.sized.plan) (a.sized.every ∙ sym b.sized.every))
     ∙ b.runs
 
 -- ---- the run of a schedule
 
 -- a world that is set up by the head of a schedule
 pub begins_so : {P : Type 0} (proto : Proto P) (head : Head) (events : List Event) (found : List (Party × ℕ)) (x : Setup) (w : World P) → found ≡ head.faulty
-    → x ≡ record { cluster = head.cluster; faulty = found; lms = head.lms } → w ≡ start proto x → w ≡ start proto (setup_in head.cluster (script_of head events))
+    → x ≡ record { cluster = head.cluster; faulty = found; lms = head.lms; seed = head.seed } → w ≡ start proto x → w ≡ start proto (setup_in head.cluster (script_of head events))
 begins_so proto head events found x w faulty sets starts =
-    let begins : (ys : List (Party × ℕ)) → Setup = λ ys. record { cluster = head.cluster; faulty = ys; lms = head.lms } in
+    let begins : (ys : List (Party × ℕ)) → Setup = λ ys. record { cluster = head.cluster; faulty = ys; lms = head.lms; seed = head.seed } in
     starts ∙ ap (start proto) (sets ∙ ap begins faulty)
 
 -- a run from there, through the events
@@ -226,13 +227,13 @@ pub runs_schedule : {P : Type 0} (proto : Proto P) (head : Head) (events es : Li
     → outcome proto 1 w es ≡ end → run_in proto head.cluster (script_of head events) ≡ end
 runs_schedule proto head events es w end begins same is = ap (λ v. outcome proto 1 v events) (sym begins) ∙ ap (outcome proto 1 w) (sym same) ∙ is
 
-pub sized_so : (head : Head) (events : List Event) → IsSized head.cluster (script_of head events).f (script_of head events).clients (script_of head events).plan
-sized_so head events = record { f = refl; clients = refl; plan = refl }
+pub sized_so : (head : Head) (events : List Event) → IsSized head.cluster (script_of head events).f (script_of head events).clients (script_of head events).plan (script_of head events).every
+sized_so head events = record { f = refl; clients = refl; plan = refl; every = refl }
 
 -- ---- refusals
 
 -- what stops the events of a schedule stops the text
-pub stops_text : (e : ReplayFault) (text : List ℕ) (s : Script) (c : Cluster) (line : ℕ) → IsSized c s.f s.clients s.plan → ReadsText text (Ok s) → length s.events < 100001 → line ≡ head_lines s
+pub stops_text : (e : ReplayFault) (text : List ℕ) (s : Script) (c : Cluster) (line : ℕ) → IsSized c s.f s.clients s.plan s.every → ReadsText text (Ok s) → length s.events < 100001 → line ≡ lines_before text s
     → EventsCause e line (run_in (proto_of s.service) c s) → TextCause e text
 stops_text (Refused r) text s c line sized reads few at (n, f, stopped, refuses) = inr (record {
   schedule = s;

@@ -2,12 +2,13 @@
 use Rattle.std.specs.Prelude.{ℕ, List, codes, decimal}
 use Rattle.ab_text.specs.Reports.{◌then◌}
 use Rattle.ab_replay.specs.declared.refusal.RefusalCause.{RefusalCause}
-use Rattle.ab_replay.specs.declared.refusal.RefusalCause.TheVariants.{BadLine, NoEnd, NoPacket, BadParty, Busy}
+use Rattle.ab_replay.specs.declared.refusal.RefusalCause.TheVariants.{BadLine, NoEnd, NotBuilt, NoPacket, BadParty, Busy}
 use Rattle.ab_replay.specs.declared.refusal.Refusal.{Refusal}
 
 abbrev pub cause_text : RefusalCause → List ℕ
 cause_text BadLine = codes "bad line"
 cause_text NoEnd = codes "no end"
+cause_text NotBuilt = codes "not built"
 cause_text NoPacket = codes "no packet"
 cause_text BadParty = codes "bad party"
 cause_text Busy = codes "busy"

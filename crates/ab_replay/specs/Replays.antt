@@ -7,7 +7,8 @@ use Rattle.ab_text.specs.declared.event.Event.{Event}
 use Rattle.ab_text.specs.declared.fault.TextFault.{TextFault}
 use Rattle.ab_text.specs.declared.fault.TextFault.TheVariants as text_fault
 use Rattle.ab_text.specs.declared.line.Premise.TheVariants.{Held}
-use Rattle.ab_text.specs.Heads.{Script}
+use Rattle.ab_text.specs.Heads.{Script, head_count_in}
+use Rattle.ab_text.specs.Lines.{lines_of}
 use Rattle.ab_text.specs.Reports.{Log, report_text}
 use Rattle.ab_text.specs.Schedules.{ReadsText}
 use Rattle.ab_svc.specs.Machines.{Machine}
@@ -25,7 +26,7 @@ use Rattle.ab_world.specs.Runs.{outcome}
 use Rattle.ab_world.specs.Steps.{stepped}
 use Rattle.ab_world.specs.Told.{IsTold}
 use Rattle.ab_world.specs.Worlds.{World, start, premise_of}
-use Rattle.ab_replay.specs.declared.refusal.RefusalCause.TheVariants.{BadLine, NoEnd, NoPacket, BadParty, Busy}
+use Rattle.ab_replay.specs.declared.refusal.RefusalCause.TheVariants.{BadLine, NoEnd, NotBuilt, NoPacket, BadParty, Busy}
 use Rattle.ab_replay.specs.declared.refusal.Refusal.{Refusal}
 use Rattle.ab_replay.specs.declared.fault.ReplayFault.{ReplayFault}
 use Rattle.ab_replay.specs.declared.fault.ReplayFault.TheVariants as replaying
@@ -40,8 +41,9 @@ abbrev pub proto_of : ServiceName → Proto Any
 proto_of Echo = any echo_machine
 proto_of Kv = any kv_machine
 
+-- its cluster, in which parties have the keys of its seed
 abbrev pub setup_in : Cluster → Script → Setup
-setup_in c s = record { cluster = c; faulty = s.faulty; lms = s.lms }
+setup_in c s = record { cluster = c; faulty = s.faulty; lms = s.lms; seed = s.seed }
 
 -- the world after all events of a schedule in a cluster, under a protocol, or the first refusal with its event's number
 abbrev pub run_in : {P : Type 0} → Proto P → Cluster → Script → Result (World P) (ℕ × WorldFault)
@@ -64,7 +66,7 @@ counts_in proto c s = counts_of proto (start proto (setup_in c s)) s.events
 -- the run of a schedule, in its cluster, comes to this
 pub record RunsTo {P : Type 0} (proto : Proto P) (s : Script) (r : Result (World P) (ℕ × WorldFault)) : Type 0 where
   pub cluster : Cluster
-  pub sized : IsSized cluster s.f s.clients s.plan
+  pub sized : IsSized cluster s.f s.clients s.plan s.every
   pub runs : run_in proto cluster s ≡ r
 
 abbrev pub Runs : Script → Result (World Any) (ℕ × WorldFault) → Type 0
@@ -88,7 +90,7 @@ report_of proto w = report_text w.lines (logs_from proto w.cast.setup 0 w.cast.r
 -- the run of a schedule with a service, by a protocol, leads here, and this is its report, which tells of that run
 pub record Performs {S P : Type 0} (machine : Machine S) (proto : Proto P) (s : Script) (report : List ℕ) (held : Bool) : Type 0 where
   pub cluster : Cluster
-  pub sized : IsSized cluster s.f s.clients s.plan
+  pub sized : IsSized cluster s.f s.clients s.plan s.every
   pub end : World P
   pub runs : run_in proto cluster s ≡ Ok end
   pub reports : report ≡ report_of proto end
@@ -113,6 +115,7 @@ pub record Replays (text report : List ℕ) (held : Bool) : Type 0 where
 abbrev pub fault_of_text : TextFault → ReplayFault
 fault_of_text (text_fault.BadLine n) = replaying.Refused (record { line = n; cause = BadLine })
 fault_of_text (text_fault.NoEnd n) = replaying.Refused (record { line = n; cause = NoEnd })
+fault_of_text (text_fault.NotBuilt n) = replaying.Refused (record { line = n; cause = NotBuilt })
 fault_of_text text_fault.OutOfMemory = replaying.OutOfMemory
 
 -- why a schedule has no report whose event in this line was not taken. No schedule that was read has a bad command
@@ -125,11 +128,11 @@ fault_of_step line world_fault.EventLimit = replaying.TooManyEvents
 fault_of_step line world_fault.PacketLimit = replaying.TooManyPackets
 fault_of_step line world_fault.OutOfMemory = replaying.OutOfMemory
 
--- the line before that of the first event
-abbrev pub head_lines : Script → ℕ
-head_lines s = 7 + length s.faulty
+-- the line before that of the first event: the head, the faulty parties and `run` stand before it
+abbrev pub lines_before : List ℕ → Script → ℕ
+lines_before text s = head_count_in (lines_of text) + 1 + length s.faulty
 
--- a line is out of form or missing
+-- a line is out of form, missing or not built
 pub record IsBadText (text : List ℕ) (r : Refusal) : Type 0 where
   pub fault : TextFault
   pub reads : ReadsText text (Err fault)
@@ -143,7 +146,7 @@ pub record IsBadEvent (text : List ℕ) (r : Refusal) : Type 0 where
   pub reads : ReadsText text (Ok schedule)
   pub few : length schedule.events < 100001
   pub runs : Runs schedule (Err (event, fault))
-  pub refuses : fault_of_step (head_lines schedule + event) fault ≡ replaying.Refused r
+  pub refuses : fault_of_step (lines_before text schedule + event) fault ≡ replaying.Refused r
 
 -- the first line that is refused, and why
 abbrev pub IsRefused : List ℕ → Refusal → Type 0

@@ -44,6 +44,10 @@ pub fn fault_of_text(fault: TextFault) -> ReplayFault
             line,
             cause: RefusalCause::NoEnd,
         }),
+        TextFault::NotBuilt(line) => ReplayFault::Refused(Refusal {
+            line,
+            cause: RefusalCause::NotBuilt,
+        }),
         TextFault::OutOfMemory => ReplayFault::OutOfMemory,
     }
 }

@@ -12,6 +12,8 @@ pub enum RefusalCause {
     BadLine,
     /// The text ends before it.
     NoEnd,
+    /// It asks for what isn't built.
+    NotBuilt,
     /// No packet has this number.
     NoPacket,
     /// The cluster has no such core.
@@ -34,6 +36,7 @@ impl RefusalCause {
         match self {
             RefusalCause::BadLine => "bad line",
             RefusalCause::NoEnd => "no end",
+            RefusalCause::NotBuilt => "not built",
             RefusalCause::NoPacket => "no packet",
             RefusalCause::BadParty => "bad party",
             RefusalCause::Busy => "busy",

@@ -21,7 +21,7 @@ use ab_pbft::Pbft;
 use ab_plans::Choice;
 use ab_quorum::Quorum;
 use ab_svc::{Echo, Service};
-use ab_text::{Schedule, read_is_in_form, read_schedule};
+use ab_text::{Schedule, lines_of_head, read_is_in_form, read_schedule};
 use ab_world::{World, runs_are_told};
 use ab_zlight::ZLight;
 use std::alloc::Global;
@@ -97,7 +97,7 @@ fn simulate(alloc: Global, text: &[u8]) -> Result<Replayed, ReplayFault>
     }
     // What was read is in form: faulty parties are of the cluster.
     read_is_in_form();
-    let line = 7 + schedule.head.faulty.as_slice().len() as u32;
+    let line = lines_of_head(text) + 1 + schedule.head.faulty.as_slice().len() as u32;
     match schedule.head.service {
         ServiceName::Echo => perform::<Echo, AnyProtocol<Echo>>(alloc, &schedule, line),
         ServiceName::Kv => perform::<Kv, AnyProtocol<Kv>>(alloc, &schedule, line),

@@ -60,12 +60,12 @@ module _ {P : Type 0} (proto : Proto P) where
 pub sets_own : (x : Setup) (c : Cluster) → x ≡ storm_setup c → x ≡ storm_setup x.cluster
 sets_own x c sets = sets ∙ ap (λ (y : Setup). storm_setup y.cluster) (sym sets)
 
-pub sized_own : (x : Setup) (c : Cluster) (k : StormCommand) → x ≡ storm_setup c → IsSized c k.f k.clients k.plan → IsSized x.cluster k.f k.clients k.plan
-sized_own x c k sets sized = subst (λ (y : Setup). IsSized y.cluster k.f k.clients k.plan) (sym sets) sized
+pub sized_own : (x : Setup) (c : Cluster) (k : StormCommand) → x ≡ storm_setup c → IsSized c k.f k.clients k.plan 0 → IsSized x.cluster k.f k.clients k.plan 0
+sized_own x c k sets sized = subst (λ (y : Setup). IsSized y.cluster k.f k.clients k.plan 0) (sym sets) sized
 
 -- where its cluster is set up, and the storm and the world are those before the first event
 module _ {P : Type 0} (proto : Proto P) (k : StormCommand) (x : Setup) (w : World P) (s : Storm) (seed events : ℕ)
-    (sized : IsSized x.cluster k.f k.clients k.plan) (sets : x ≡ storm_setup x.cluster) (starts : w ≡ start proto x) (from : s ≡ storm_of x.cluster seed) (seeded : seed ≡ k.seed) (many : events ≡ k.events) where
+    (sized : IsSized x.cluster k.f k.clients k.plan 0) (sets : x ≡ storm_setup x.cluster) (starts : w ≡ start proto x) (from : s ≡ storm_of x.cluster seed) (seeded : seed ≡ k.seed) (many : events ≡ k.events) where
   starts_so : w ≡ start proto (storm_setup x.cluster)
   starts_so = starts ∙ ap (start proto) sets
 

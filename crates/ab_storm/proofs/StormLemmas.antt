@@ -27,20 +27,21 @@ use Rattle.ab_storm.proofs.DrawLemmas.{refused_for, goes_on, storm_goes}
 bounds_once : (f n : ℕ) (a b : IsInBounds f n) → a ≡ b
 bounds_once f n a b = λ j. record { some_faulty = le_prop a.some_faulty b.some_faulty j; few_faulty = le_prop a.few_faulty b.few_faulty j; some_client = le_prop a.some_client b.some_client j; few_clients = le_prop a.few_clients b.few_clients j }
 
-abbrev of_size : (f n : ℕ) → Plan → IsInBounds f n → Cluster
-of_size f n plan bounds = record { f = f; clients = n; plan = plan; in_bounds = bounds }
+abbrev of_size : (f n : ℕ) → Plan → (k : ℕ) → IsInBounds f n → k ≤ 128 → Cluster
+of_size f n plan k bounds dense = record { f = f; clients = n; plan = plan; every = k; in_bounds = bounds; is_dense = dense }
 
-one_cluster : (c d : Cluster) → c.f ≡ d.f → c.clients ≡ d.clients → c.plan ≡ d.plan → c ≡ d
-one_cluster c d f n plan =
-    subst (λ (g : ℕ). (b : IsInBounds g d.clients) → c ≡ of_size g d.clients d.plan b) f
-    (subst (λ (m : ℕ). (b : IsInBounds c.f m) → c ≡ of_size c.f m d.plan b) n
-    (subst (λ (q : Plan). (b : IsInBounds c.f c.clients) → c ≡ of_size c.f c.clients q b) plan
-    (λ b. ap (of_size c.f c.clients c.plan) (bounds_once c.f c.clients c.in_bounds b)))) d.in_bounds
+one_cluster : (c d : Cluster) → c.f ≡ d.f → c.clients ≡ d.clients → c.plan ≡ d.plan → c.every ≡ d.every → c ≡ d
+one_cluster c d f n plan every =
+    subst (λ (g : ℕ). (b : IsInBounds g d.clients) (t : d.every ≤ 128) → c ≡ of_size g d.clients d.plan d.every b t) f
+    (subst (λ (m : ℕ). (b : IsInBounds c.f m) (t : d.every ≤ 128) → c ≡ of_size c.f m d.plan d.every b t) n
+    (subst (λ (q : Plan). (b : IsInBounds c.f c.clients) (t : d.every ≤ 128) → c ≡ of_size c.f c.clients q d.every b t) plan
+    (subst (λ (k : ℕ). (b : IsInBounds c.f c.clients) (t : k ≤ 128) → c ≡ of_size c.f c.clients c.plan k b t) every
+    (λ b t j. of_size c.f c.clients c.plan c.every (bounds_once c.f c.clients c.in_bounds b j) (le_prop c.is_dense t j))))) d.in_bounds d.is_dense
 
 pub one_end : {P : Type 0} (proto : Proto P) (k : StormCommand) (r q : Result (World P) (ℕ × WorldFault)) → StormsTo proto k r → StormsTo proto k q → r ≡ q
 one_end proto k r q a b =
     sym a.runs
-    ∙ ap (λ (c : Cluster). run_in proto c k) (one_cluster a.cluster b.cluster (a.sized.f ∙ sym b.sized.f) (a.sized.clients ∙ sym b.sized.clients) (a.sized.plan ∙ sym b.sized.plan))
+    ∙ ap (λ (c : Cluster). run_in proto c k) (one_cluster a.cluster b.cluster (a.sized.f ∙ sym b.sized.f) (a.sized.clients ∙ sym b.sized.clients) (a.sized.plan ∙ sym b.sized.plan) (a.sized.every ∙ sym b.sized.every))
     ∙ b.runs
 
 -- ---- results
@@ -201,6 +202,6 @@ module _ {P : Type 0} (proto : Proto P) (c : Cluster) (x : Setup) (w : World P) 
       sym (λ j. outcome proto 1 (starts_so j) (drawn_events proto (many j) (begins j) (starts_so j))) ∙ is
 
 -- what ends its run ends the storm
-pub ends_storm : {P : Type 0} (proto : Proto P) (k : StormCommand) (c : Cluster) (e : StormFault) → IsSized c k.f k.clients k.plan → EndCause e (run_in proto c k) → StormCause proto e k
+pub ends_storm : {P : Type 0} (proto : Proto P) (k : StormCommand) (c : Cluster) (e : StormFault) → IsSized c k.f k.clients k.plan 0 → EndCause e (run_in proto c k) → StormCause proto e k
 ends_storm proto k c TooManyPackets sized (n, runs) = (n, record { cluster = c; sized = sized; runs = runs })
 ends_storm proto k c OutOfMemory sized cause = tt

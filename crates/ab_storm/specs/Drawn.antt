@@ -13,7 +13,7 @@ use Rattle.ab_storm.specs.Runs.{events_in, run_in}
 -- a line in a schedule
 pub record Draws {P : Type 0} (proto : Proto P) (k : StormCommand) (events : List Event) (end : World P) : Type 0 where
   pub cluster : Cluster
-  pub sized : IsSized cluster k.f k.clients k.plan
+  pub sized : IsSized cluster k.f k.clients k.plan 0
   pub drawn : events ≡ events_in proto cluster k
   pub all : length events ≡ k.events
   pub runs : run_in proto cluster k ≡ Ok end

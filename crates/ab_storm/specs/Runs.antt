@@ -1,5 +1,5 @@
 -- Storms that are run: events that are drawn one after another, each from where the world stands then.
-use Rattle.std.specs.Prelude.{◌≡◌, ◌↔◌, ⊤, ℕ, zero, suc, Bool, IsTrue, List, [], ◌∷◌, length, map, slice_get, Option, None, Some, Result, Ok, Err}
+use Rattle.std.specs.Prelude.{◌≡◌, ◌↔◌, ⊤, ℕ, zero, suc, Bool, IsTrue, List, [], ◌∷◌, length, map, replicate, slice_get, Option, None, Some, Result, Ok, Err}
 use Rattle.std.specs.List.{range_with_len}
 use Rattle.ab_num.specs.declared.cluster.Cluster.{Cluster}
 use Rattle.ab_num.specs.declared.plan.Height.TheVariants.{Ten}
@@ -45,9 +45,9 @@ drawn_events proto (suc n) s w = (drawn_at s w).0 ∷ drawn_behind (stepped prot
 
 -- ---- the run of a storm
 
--- a storm's cluster, in which no party is faulty
+-- a storm's cluster, in which no party is faulty, with the keys of the seed of zeros
 abbrev pub storm_setup : Cluster → Setup
-storm_setup c = record { cluster = c; faulty = []; lms = Lms Ten }
+storm_setup c = record { cluster = c; faulty = []; lms = Lms Ten; seed = replicate 32 0 }
 
 -- the storm of a seed before its first event
 abbrev pub storm_of : Cluster → ℕ → Storm
@@ -63,7 +63,7 @@ run_in proto c k = outcome proto 1 (start proto (storm_setup c)) (events_in prot
 -- the run of the storm that is asked for comes to this
 pub record StormsTo {P : Type 0} (proto : Proto P) (k : StormCommand) (r : Result (World P) (ℕ × WorldFault)) : Type 0 where
   pub cluster : Cluster
-  pub sized : IsSized cluster k.f k.clients k.plan
+  pub sized : IsSized cluster k.f k.clients k.plan 0
   pub runs : run_in proto cluster k ≡ r
 
 -- ---- what is told
@@ -71,7 +71,7 @@ pub record StormsTo {P : Type 0} (proto : Proto P) (k : StormCommand) (r : Resul
 -- the storm that is asked for draws all its events, and this is the summary of their run, which tells of that run
 pub record Storms {S P : Type 0} (machine : Machine S) (proto : Proto P) (k : StormCommand) (summary : List ℕ) (held : Bool) : Type 0 where
   pub cluster : Cluster
-  pub sized : IsSized cluster k.f k.clients k.plan
+  pub sized : IsSized cluster k.f k.clients k.plan 0
   pub all : length (events_in proto cluster k) ≡ k.events
   pub end : World P
   pub runs : run_in proto cluster k ≡ Ok end

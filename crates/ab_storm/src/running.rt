@@ -136,7 +136,7 @@ fn storm_over<S: Service, P: Protocol<S>>(
     requires served { (i : ℕ) → 1 ≤ i → IsTrue (P.serves (kind_of asked.now.plan i)) }
     requires few { asked.now.events ≤ 100000 }
     requires setup { setup ≡ storm_setup setup.cluster }
-    requires sized { IsSized setup.cluster asked.now.f asked.now.clients asked.now.plan }
+    requires sized { IsSized setup.cluster asked.now.f asked.now.clients asked.now.plan 0 }
     ensures ok { IfOk result (λ s. Draws P.proto asked.now s.events s.world) }
     ensures replicas { IfOk result (λ s. length s.world.cast.replicas ≡ 3 * s.world.cast.setup.cluster.f + 1) }
     ensures cause { IfErr result (λ e. StormCause P.proto e asked.now) }
@@ -165,7 +165,7 @@ pub fn storm<S: Service, P: Protocol<S>>(
     ensures replicas { IfOk result (λ s. length s.world.cast.replicas ≡ 3 * s.world.cast.setup.cluster.f + 1) }
     ensures cause { IfErr result (λ e. StormCause P.proto e asked.now) }
 {
-    let setup = Setup::new(alloc, asked.cluster(), &[], Scheme::Lms(Height::Ten))?;
+    let setup = Setup::new(alloc, asked.cluster(), &[], Scheme::Lms(Height::Ten), &[0; 32])?;
     storm_over(alloc, asked, setup)
 }
 

@@ -23,9 +23,9 @@ returns-in-Echo-clause-cause c =
     let head = c.in-Ok.schedule.head in
     let events = c.in-Ok.schedule.events in
     let s = script_of head events in
-    let line : ℕ = 7 + length c.as_slice-2.result.now in
+    let line : ℕ = c.lines_of_head.result + 1 + length c.as_slice-2.result.now in
     IfErr-weaker c.perform.result (λ e. EventsCause e line (run_in (any echo_machine) head.cluster s)) (λ e. TextCause e text)
-    (λ e at. stops_text e text s head.cluster line (sized_so head events) c.in-Ok.ensures (omega (arith, c.if-as_slice-gt-MOST_EVENTS.false, ap length c.as_slice.ensures)) (ap (λ l. 7 + length l) c.as_slice-2.ensures)
+    (λ e at. stops_text e text s head.cluster line (sized_so head events) c.in-Ok.ensures (omega (arith, c.if-as_slice-gt-MOST_EVENTS.false, ap length c.as_slice.ensures)) (λ j. c.lines_of_head.ensures.count j + 1 + length (c.as_slice-2.ensures j))
     (subst (λ (v : ServiceName). EventsCause e line (run_in (proto_of v) head.cluster s)) (sym c.in-Echo.is) at)) c.perform.ensures.cause
 
 pub returns-clause-cause : goal.returns-clause-cause
@@ -34,9 +34,9 @@ returns-clause-cause c =
     let head = c.in-Ok.schedule.head in
     let events = c.in-Ok.schedule.events in
     let s = script_of head events in
-    let line : ℕ = 7 + length c.as_slice-2.result.now in
+    let line : ℕ = c.lines_of_head.result + 1 + length c.as_slice-2.result.now in
     IfErr-weaker c.perform-in-Kv.result (λ e. EventsCause e line (run_in (any kv_machine) head.cluster s)) (λ e. TextCause e text)
-    (λ e at. stops_text e text s head.cluster line (sized_so head events) c.in-Ok.ensures (omega (arith, c.if-as_slice-gt-MOST_EVENTS.false, ap length c.as_slice.ensures)) (ap (λ l. 7 + length l) c.as_slice-2.ensures)
+    (λ e at. stops_text e text s head.cluster line (sized_so head events) c.in-Ok.ensures (omega (arith, c.if-as_slice-gt-MOST_EVENTS.false, ap length c.as_slice.ensures)) (λ j. c.lines_of_head.ensures.count j + 1 + length (c.as_slice-2.ensures j))
     (subst (λ (v : ServiceName). EventsCause e line (run_in (proto_of v) head.cluster s)) (sym c.in-Kv.is) at)) c.perform-in-Kv.ensures.cause
 
 pub returns-in-Echo-clause-ok : goal.returns-in-Echo-clause-ok

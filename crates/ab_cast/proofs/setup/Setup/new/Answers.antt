@@ -1,4 +1,4 @@
-use Rattle.std.proofs.Common.{ℕ, ◌*◌, ◌+◌, replicate, slice_get, sym, ◌∙◌, ap, subst}
+use Rattle.std.proofs.Common.{ℕ, ◌*◌, ◌+◌, slice_get, sym, ◌∙◌, ap, subst}
 use Rattle.std.specs.Prelude.{All, IsTrue}
 use Rattle.ab_keys.specs.Keys.{is_party}
 use Rattle.ab_num.specs.declared.party.Party.TheVariants.{Replica, Client}
@@ -10,8 +10,8 @@ use Rattle.ab_cast.proofs.setup.Setup.new.Goals as goal
 pub invariant_of-result : goal.invariant_of-result
 invariant_of-result c =
     let k = c.args.cluster.now in
-    let replica_ring : ℕ → Ring = λ r. ring_of k.f k.clients k.plan (replicate 32 0) (Replica r) in
-    let client_ring : ℕ → Ring = λ n. ring_of k.f k.clients k.plan (replicate 32 0) (Client n) in
+    let replica_ring : ℕ → Ring = λ r. ring_of k.f k.clients k.plan c.args.seed.now (Replica r) in
+    let client_ring : ℕ → Ring = λ n. ring_of k.f k.clients k.plan c.args.seed.now (Client n) in
     record {
       parties = subst (All (λ e. IsTrue (is_party k.f k.clients e.0))) (sym c.in_ok-from_slice.ensures.items) c.requires;
       keys = c.in_ok-derive.ensures;

@@ -15,7 +15,7 @@ invariant_of-result g c =
     let form = g.met.P.Protocol.formed in
     let k = c.args.keys.now in
     let cl = c.cluster.result.now in
-    let of : IsSized cl k.f k.clients k.plan = record { f = c.cluster.ensures.f; clients = c.cluster.ensures.clients; plan = c.cluster.ensures.plan } in
+    let of : IsSized cl k.f k.clients k.plan 0 = record { f = c.cluster.ensures.f; clients = c.cluster.ensures.clients; plan = c.cluster.ensures.plan; every = c.cluster.ensures.every } in
     let served : ServesAll serves cl = λ i one. subst (λ (p : Plan). IsTrue (serves (kind_of p i))) (sym of.plan) (c.requires.served i one) in
     subst (λ (m : ReplicaMember g.row.P.Denot). IsReplicaOf proto serves m.credentials m.site)
     (sym (replica_made proto serves form k cl c.args.me c.leaves-signatures.result c.in_ok-replica.replica c.in_ok-own.own c.in_ok-own.ensures c.leaves-signatures.ensures c.in_ok-replica.ensures.site))
@@ -24,7 +24,7 @@ invariant_of-result g c =
 pub returns : goal.returns
 returns g c = record {
   cluster = c.cluster.result.now;
-  of_keys = record { f = c.cluster.ensures.f; clients = c.cluster.ensures.clients; plan = c.cluster.ensures.plan };
+  of_keys = record { f = c.cluster.ensures.f; clients = c.cluster.ensures.clients; plan = c.cluster.ensures.plan; every = c.cluster.ensures.every };
   is = replica_made g.P.Protocol.proto g.P.Protocol.serves g.met.P.Protocol.formed c.args.keys.now c.cluster.result.now c.args.me c.leaves-signatures.result c.in_ok-replica.replica c.in_ok-own.own
       c.in_ok-own.ensures c.leaves-signatures.ensures c.in_ok-replica.ensures.site;
 }
