@@ -13,7 +13,7 @@ use Rattle.hex.proofs.HexLemmas.{decode_of-ok}
 use Rattle.ab_text.specs.EventLines.{IsInjected}
 use Rattle.ab_text.specs.HexDigits.{IsLowerDigit}
 use Rattle.ab_text.proofs.HexLemmas.{decoded_spelled, decodes, digits_of, refused}
-use Rattle.ab_key_text.specs.Hex.{in_lower_case}
+use Rattle.ab_text.specs.HexBytes.{in_lower_case}
 use Rattle.ab_audit_text.specs.Texts.{is_sized, message_bytes, sized}
 
 sized_is : (bytes : List ℕ) → IsInjected bytes → is_sized bytes ≡ true

@@ -8,7 +8,7 @@ use Rattle.ab_text.specs.Heads.{stripped, spelled_in, lms_line, schemes}
 use Rattle.ab_scheme.specs.Schemes.{public_length}
 use Rattle.ab_key_text.specs.declared.fault.NodeFault.{NodeFault}
 use Rattle.ab_key_text.specs.declared.fault.NodeFault.TheVariants.{NoEnd}
-use Rattle.ab_key_text.specs.Hex.{in_lower_case}
+use Rattle.ab_text.specs.HexBytes.{in_lower_case}
 use Rattle.ab_key_text.specs.Keys.{replicas}
 use Rattle.ab_key_text.specs.Lines.{◌>>=◌, found_at, line_at, number_in}
 use Rattle.ab_key_text.specs.Reading.{publics_at, ended}

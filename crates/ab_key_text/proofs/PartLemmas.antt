@@ -4,7 +4,7 @@ use Rattle.std.specs.Option.{option_and_then}
 use Rattle.std.proofs.lemmas.Bool.{cases_lt}
 use Rattle.std.proofs.lemmas.List.{take_all, length-drop}
 use Rattle.ab_text.specs.Heads.{stripped}
-use Rattle.ab_key_text.specs.Hex.{bytes_in}
+use Rattle.ab_text.specs.HexBytes.{bytes_in}
 use Rattle.ab_key_text.specs.Lines.{bytes_after}
 use Rattle.ab_key_text.specs.Reading.{secret_of_parts, secret_text_in}
 

@@ -29,10 +29,11 @@ use Rattle.ab_key_text.specs.declared.version.KeyVersion.TheVariants.{One, Two}
 use Rattle.ab_text.specs.Cores.{party_text}
 use Rattle.ab_text.specs.Heads.{number_after, spelled_in, stripped, taken, within, plan_line, plans, service_line, services, lms_line}
 use Rattle.ab_text.proofs.HeadLemmas.{name_is, number_is, spelled_has}
+use Rattle.ab_text.proofs.HexLemmas.{bytes_were as spelled_bytes}
 use Rattle.ab_text.proofs.WordLemmas.{stripped-is}
 use Rattle.ab_key_text.specs.declared.fault.NodeFault.{NodeFault}
 use Rattle.ab_key_text.specs.declared.fault.NodeFault.TheVariants.{BadLine}
-use Rattle.ab_key_text.specs.Hex.{bytes_in, in_lower_case}
+use Rattle.ab_text.specs.HexBytes.{bytes_in, in_lower_case}
 use Rattle.ab_key_text.specs.Keys.{Secret, PartyKeys, IsBytes, IsSecretOf, IsPartyKeys, peers_in, replicas}
 use Rattle.ab_key_text.specs.Lines.{◌>>=◌, found_at, line_at, own_schemes, bounded, number_in, numbered, or_else, party_in, bytes_after, key_in}
 use Rattle.ab_key_text.specs.Nodes.{NodeText, AreCommandsOf, IsNodeText, command_in, command_line, command_lines, commands_at, commands_in, checked_command, is_command, node_in, node_lines, node_of}
@@ -95,17 +96,7 @@ party_was text p h = go (number_in (codes "r") 0 255 text) (number_in (codes "c"
   go None None one two e = absurd (none-some p e)
 
 bytes_were : (n : ℕ) (text b : List ℕ) → bytes_in n text ≡ Some b → (text ≡ encode_lower b) × IsBytes n b
-unfolding bytes_in
-bytes_were n text b h = go (decode_sized text n) refl h where
-  go : (r : Result (List ℕ) FromHexError) → decode_sized text n ≡ r → in_lower_case text r ≡ Some b → (text ≡ encode_lower b) × IsBytes n b
-  go (Err e) is k = absurd (none-some b k)
-  go (Ok x) is k =
-      let both = cond_some (bytes_eq text (encode_lower x)) x b k in
-      let long = decode_sized-ok text n x is in
-      let ok = decode_of-ok text x (sym (decode_sized-twice text n long) ∙ is) in
-      let half = ok.2 in
-      subst (λ (y : List ℕ). (text ≡ encode_lower y) × IsBytes n y) both.1
-      ((bytes_eq-Decides text (encode_lower x)).0 both.0, record { long = omega (arith, long, half); small = λ i d lt. subst (λ c. c < 256) (sym (get_or_default_zero x i d lt)) (ok.3 i) })
+bytes_were n text b h = let were = spelled_bytes n text b h in (were.0, record { long = were.1; small = were.2 })
 
 bytes_after_were : (word : List ℕ) (n : ℕ) (l b : List ℕ) → bytes_after word n l ≡ Some b → (l ≡ word ++ encode_lower b) × IsBytes n b
 bytes_after_were word n l b h =

@@ -12,10 +12,11 @@ use Rattle.ab_num.specs.declared.party.Party.TheVariants.{Replica, Client}
 use Rattle.ab_keys.specs.Rings.{Peer}
 use Rattle.ab_text.specs.Cores.{party_text}
 use Rattle.ab_text.specs.Heads.{number_in as digits_in}
+use Rattle.ab_text.proofs.HexLemmas.{read_bytes}
 use Rattle.ab_text.proofs.NumberLemmas.{is_some_number}
 use Rattle.ab_text.proofs.WordLemmas.{stripped-is}
 use Rattle.ab_key_text.specs.declared.fault.NodeFault.{NodeFault}
-use Rattle.ab_key_text.specs.Hex.{bytes_in, in_lower_case}
+use Rattle.ab_text.specs.HexBytes.{bytes_in, in_lower_case}
 use Rattle.ab_key_text.specs.Keys.{Secret, IsBytes, IsSecretOf}
 use Rattle.ab_key_text.specs.Lines.{◌>>=◌, found_at, line_at, bounded, number_in, numbered, or_else, party_in, bytes_after, key_in}
 use Rattle.ab_key_text.specs.Reading.{Read, secret_of_parts, secret_text_in, secret_in, secret_at, peers_at, publics_at}
@@ -27,19 +28,8 @@ Rest = List (List ℕ)
 pub line_read : {A : Type 0} (read : List ℕ → Option A) (n : ℕ) (l : List ℕ) (ls : Rest) (a : A) → read l ≡ Some a → line_at read n (l ∷ ls) ≡ Ok (a, ls)
 line_read read n l ls a e = ap (found_at n ls) e
 
-bytes_from : (bytes : List ℕ) → All (λ b. b < 256) bytes → AreBytes bytes
-bytes_from [] good i = omega arith
-bytes_from (b ∷ rest) good zero = good 0 0 (omega arith)
-bytes_from (b ∷ rest) good (suc i) = bytes_from rest (λ k d lt. good (suc k) d (omega arith)) i
-
-read_bytes : (n : ℕ) (b : List ℕ) → IsBytes n b → bytes_in n (encode_lower b) ≡ Some b
-unfolding bytes_in
-read_bytes n b good =
-    ap (in_lower_case (encode_lower b)) (decode_sized-encode_lower b n good.long (bytes_from b good.small))
-    ∙ ap (λ t. if t then Some b else None) ((bytes_eq-Decides (encode_lower b) (encode_lower b)).1 refl)
-
 bytes_read : (word : List ℕ) (n : ℕ) (b : List ℕ) → IsBytes n b → bytes_after word n (word ++ encode_lower b) ≡ Some b
-bytes_read word n b good = ap (option_and_then (bytes_in n)) (stripped-is word (word ++ encode_lower b) (encode_lower b) refl) ∙ read_bytes n b good
+bytes_read word n b good = ap (option_and_then (bytes_in n)) (stripped-is word (word ++ encode_lower b) (encode_lower b) refl) ∙ read_bytes n b good.long good.small
 
 pub key_read : (word : List ℕ) (p : Party) (n : ℕ) (key : List ℕ) → IsBytes n key → key_in word p n (key_line word p key) ≡ Some key
 key_read word p n key good = bytes_read (word ++ party_text p ++ codes " ") n key good
@@ -97,7 +87,7 @@ secret_read s id seed =
     let named : length s.id ≡ 16 = id.long in
     let long : length (encode_lower s.id) ≡ 32 = length-encode_with lower_digits s.id ∙ ap (λ n. 2 * n) named in
     let both = seam (encode_lower s.id) (32 ∷ encode_lower s.seed) in
-    let front : bytes_in 16 (take 32 text) ≡ Some s.id = ap (λ n. bytes_in 16 (take n text)) (sym long) ∙ ap (bytes_in 16) both.0 ∙ read_bytes 16 s.id id in
+    let front : bytes_in 16 (take 32 text) ≡ Some s.id = ap (λ n. bytes_in 16 (take n text)) (sym long) ∙ ap (bytes_in 16) both.0 ∙ read_bytes 16 s.id id.long id.small in
     let back : bytes_after (codes " ") 32 (drop 32 text) ≡ Some s.seed = ap (λ n. bytes_after (codes " ") 32 (drop n text)) (sym long) ∙ ap (bytes_after (codes " ") 32) both.1 ∙ bytes_read (codes " ") 32 s.seed seed in
     ap (option_and_then secret_text_in) (stripped-is (codes "secret ") (secret_line s) text refl)
     ∙ (λ j. secret_of_parts (front j) (back j))

@@ -1,7 +1,6 @@
 -- The definitions that the contracts of this crate cite.
 pub mod Derived
 pub mod Faults
-pub mod Hex
 pub mod Versions
 pub mod Keys
 pub mod Spelling

@@ -10,7 +10,7 @@ use Rattle.ab_text.specs.Cores.{party_text}
 use Rattle.ab_text.specs.Heads.{stripped, number_after, one_level, two_levels}
 use Rattle.ab_key_text.specs.declared.fault.NodeFault.{NodeFault}
 use Rattle.ab_key_text.specs.declared.fault.NodeFault.TheVariants.{BadLine, NoEnd, OutOfMemory}
-use Rattle.ab_key_text.specs.Hex.{bytes_in}
+use Rattle.ab_text.specs.HexBytes.{bytes_in}
 
 infixl 10 ◌>>=◌
 abbrev pub ◌>>=◌ : {A B : Type 0} → Result A NodeFault → (A → Result B NodeFault) → Result B NodeFault

@@ -14,7 +14,7 @@ use Rattle.ab_key_text.specs.declared.fault.KeyFault.{KeyFault}
 use Rattle.ab_key_text.specs.declared.fault.KeyFault.TheVariants as key_fault
 use Rattle.ab_key_text.specs.declared.fault.NodeFault.{NodeFault}
 use Rattle.ab_key_text.specs.declared.fault.NodeFault.TheVariants.{BadLine, NoEnd}
-use Rattle.ab_key_text.specs.Hex.{bytes_in}
+use Rattle.ab_text.specs.HexBytes.{bytes_in}
 use Rattle.ab_key_text.specs.Keys.{Secret, PartyKeys, peers_in, replicas}
 use Rattle.ab_key_text.specs.Lines.{◌>>=◌, line_at, own_schemes, number_in, party_in, bytes_after, key_in}
 use Rattle.ab_key_text.specs.Spelling.{keys_line}

@@ -1,5 +1,5 @@
 -- The options of a command, as clap has them.
-use Rattle.std.specs.Prelude.{List, Bool, true, false, not, ◌&&◌, Some, map, codes}
+use Rattle.std.specs.Prelude.{List, Bool, true, false, not, ◌&&◌, ◌||◌, Some, map, codes}
 use Rattle.std.specs.Str.{bytes_eq}
 use Rattle.std.specs.List.{list_any}
 use Rattle.clap.specs.Words.{App, Rule, Text, new_app, new_rule}
@@ -11,9 +11,9 @@ use Rattle.ab_words.specs.declared.options.TheConstants.{CLUSTER, KEYS, STORM, N
 abbrev pub is_flag : Text → Bool
 is_flag name = bytes_eq name (codes "trace")
 
--- the option that may be left out
+-- the options that may be left out
 abbrev pub is_optional : Text → Bool
-is_optional name = bytes_eq name (codes "journal")
+is_optional name = bytes_eq name (codes "journal") || bytes_eq name (codes "checkpoint")
 
 abbrev pub action_for : Bool → ArgAction
 action_for true = SetTrue

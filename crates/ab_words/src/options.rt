@@ -2,6 +2,9 @@
 
 pub(crate) const BASE: &str = "base";
 
+/// After how many requests a checkpoint is due, which may be missing.
+pub(crate) const CHECKPOINT: &str = "checkpoint";
+
 pub(crate) const CLIENTS: &str = "clients";
 
 pub(crate) const EVENTS: &str = "events";
@@ -32,7 +35,7 @@ pub(crate) const WAIT: &str = "wait";
 pub(crate) const WHY: &str = "--why";
 
 /// The options of the command `keys`.
-pub(crate) const KEYS: &[&str] = &[PLAN, F, CLIENTS, SERVICE, LMS, SEED, PARTY];
+pub(crate) const KEYS: &[&str] = &[PLAN, F, CLIENTS, SERVICE, LMS, SEED, PARTY, CHECKPOINT];
 
 /// The options of the command `cluster`.
 pub(crate) const CLUSTER: &[&str] = &[PLAN, F, SERVICE, LMS, SEED, BASE, WAIT, TURNS];

@@ -13,7 +13,7 @@ use crate::options::{
     WAIT, WHY,
 };
 use crate::uses::{Uses, uses_in};
-use crate::values::{journal_of, number_of};
+use crate::values::{checkpoint_of, journal_of, number_of};
 use ab_key_text::party_in;
 use ab_keys::is_party;
 use ab_num::OutOfMemory;
@@ -33,6 +33,7 @@ fn keys_in(uses: &Uses<'_>) -> Option<KeysCommand>
     let lms = scheme_named(uses.value_of(LMS)?)?;
     let seed = bytes_in(uses.value_of(SEED)?)?;
     let party = party_in(uses.value_of(PARTY)?)?;
+    checkpoint_of(uses)?;
     let cluster = cluster_of(f, clients, plan, 0);
     if is_party(&cluster, party) {
         Some(KeysCommand::new(cluster, service, lms, seed, party))

@@ -10,7 +10,7 @@ ghost use Rattle.ab_words.specs.Uses.{text_at, texts, uses_in};
 ghost use Rattle.ab_words.specs.Options.{action_for, app_with, is_flag, is_optional, rule_named};
 ghost use Rattle.ab_words.specs.Found.{HasOnly, Refuses, are_names, dashes};
 
-use crate::options::{JOURNAL, TRACE};
+use crate::options::{CHECKPOINT, JOURNAL, TRACE};
 use ab_num::OutOfMemory;
 use clap::error::ErrorKind;
 use clap::{Arg, ArgAction, ArgMatches, Command};
@@ -55,6 +55,13 @@ impl<'a> Uses<'a> {
         self.matches.get_str(JOURNAL)
     }
 
+    /// After how many requests a checkpoint is due, or None where the option is left out.
+    pub(crate) fn checkpoint(&self) -> Option<&'a str>
+        ensures { optional_of (codes "checkpoint") self.now ≡ Some (text_at result) }
+    {
+        self.matches.get_str(CHECKPOINT)
+    }
+
     /// Whether the flag is used.
     pub(crate) fn trace(&self) -> bool
         ensures { flag (of_name (codes "trace") self.now) ≡ Some result }
@@ -74,7 +81,7 @@ fn is_flag(name: &str) -> bool
 fn is_optional(name: &str) -> bool
     ensures { result ≡ is_optional name.now }
 {
-    name == JOURNAL
+    name == JOURNAL || name == CHECKPOINT
 }
 
 /// What is done at a use.
