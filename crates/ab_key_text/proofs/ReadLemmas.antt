@@ -1,18 +1,15 @@
 -- What is read of a key text, and of a node's text, is spelled there, and is in form; and what is spelled as a node's text is read.
-use Rattle.std.proofs.Common.{◌≡◌, ℕ, zero, suc, ◌+◌, ◌*◌, ◌≤◌, ◌<◌, List, [], ◌∷◌, ◌++◌, map, Bool, true, false, Option, None, Some, Result, Ok, Err, IsTrue, codes, decimal, get_or, take, drop, length, refl, sym, ap, ◌∙◌, subst, arith, nat_le, ◌&&◌, eqb, inl, inr, if◌then◌else◌, append-nil, append_assoc}
+use Rattle.std.proofs.Common.{◌≡◌, ℕ, zero, suc, ◌+◌, ◌*◌, ◌≤◌, List, [], ◌∷◌, ◌++◌, map, Bool, true, false, Option, None, Some, Result, Ok, Err, IsTrue, codes, decimal, get_or, take, drop, length, refl, sym, ap, ◌∙◌, subst, nat_le, ◌&&◌, eqb, inl, inr, if◌then◌else◌, append-nil, append_assoc}
 use Rattle.std.specs.Prelude.{flat_map}
 use Rattle.std.specs.List.{AllByRecursion, range_with_len}
 use Rattle.std.specs.Option.{option_and_then}
 use Rattle.std.specs.Str.{bytes_eq}
 use Rattle.std.proofs.lemmas.Bool.{cases_Bool}
 use Rattle.std.proofs.lemmas.Bool.Decides.{Decides-eqb}
-use Rattle.std.proofs.lemmas.Grind.{get_or_default_zero}
 use Rattle.std.proofs.lemmas.List.{take-append-drop}
 use Rattle.std.proofs.lemmas.Option.{cond_some, same_Some, none-some}
 use Rattle.std.proofs.lemmas.Slice.Eq.{bytes_eq-Decides}
-use Rattle.hex.specs.declared.error.FromHexError.{FromHexError}
-use Rattle.hex.specs.Hex.{decode_sized, encode_lower}
-use Rattle.hex.proofs.HexLemmas.{decode_of-ok, decode_sized-ok, decode_sized-twice}
+use Rattle.hex.specs.Hex.{encode_lower}
 use Rattle.ab_num.specs.declared.party.Party.{Party}
 use Rattle.ab_num.specs.declared.party.Party.TheVariants.{Replica, Client}
 use Rattle.ab_num.specs.declared.plan.Plan.{Plan}
@@ -33,7 +30,7 @@ use Rattle.ab_text.proofs.HexLemmas.{bytes_were as spelled_bytes}
 use Rattle.ab_text.proofs.WordLemmas.{stripped-is}
 use Rattle.ab_key_text.specs.declared.fault.NodeFault.{NodeFault}
 use Rattle.ab_key_text.specs.declared.fault.NodeFault.TheVariants.{BadLine}
-use Rattle.ab_text.specs.HexBytes.{bytes_in, in_lower_case}
+use Rattle.ab_text.specs.HexBytes.{bytes_in}
 use Rattle.ab_key_text.specs.Keys.{Secret, PartyKeys, IsBytes, IsSecretOf, IsPartyKeys, peers_in, replicas}
 use Rattle.ab_key_text.specs.Lines.{◌>>=◌, found_at, line_at, own_schemes, bounded, number_in, numbered, or_else, party_in, bytes_after, key_in}
 use Rattle.ab_key_text.specs.Nodes.{NodeText, AreCommandsOf, IsNodeText, command_in, command_line, command_lines, commands_at, commands_in, checked_command, is_command, node_in, node_lines, node_of}

@@ -1,12 +1,11 @@
 -- What is spelled as a key text is read as it.
-use Rattle.std.proofs.Common.{◌≡◌, ℕ, zero, suc, ◌+◌, ◌*◌, ◌<◌, ◌≤◌, ◌^◌, List, [], ◌∷◌, ◌++◌, map, Option, None, Some, Result, Ok, All, codes, decimal, take, drop, length, refl, sym, ap, ◌∙◌, arith, if◌then◌else◌, append-nil, append_assoc}
+use Rattle.std.proofs.Common.{◌≡◌, ℕ, zero, ◌+◌, ◌*◌, ◌<◌, ◌≤◌, ◌^◌, List, [], ◌∷◌, ◌++◌, map, Option, None, Some, Result, Ok, codes, decimal, take, drop, length, refl, sym, ap, ◌∙◌, arith, if◌then◌else◌, append-nil, append_assoc}
 use Rattle.std.specs.Prelude.{flat_map, ◌&&◌}
 use Rattle.std.specs.List.{AllByRecursion, range_with_len}
 use Rattle.std.specs.Option.{option_and_then}
 use Rattle.std.proofs.lemmas.Bool.{le-leb}
-use Rattle.std.proofs.lemmas.Slice.Eq.{bytes_eq-Decides}
-use Rattle.hex.specs.Hex.{encode_lower, lower_digits, IsBytes as AreBytes}
-use Rattle.hex.proofs.HexLemmas.{decode_sized-encode_lower, length-encode_with}
+use Rattle.hex.specs.Hex.{encode_lower, lower_digits}
+use Rattle.hex.proofs.HexLemmas.{length-encode_with}
 use Rattle.ab_num.specs.declared.party.Party.{Party}
 use Rattle.ab_num.specs.declared.party.Party.TheVariants.{Replica, Client}
 use Rattle.ab_keys.specs.Rings.{Peer}
@@ -16,7 +15,7 @@ use Rattle.ab_text.proofs.HexLemmas.{read_bytes}
 use Rattle.ab_text.proofs.NumberLemmas.{is_some_number}
 use Rattle.ab_text.proofs.WordLemmas.{stripped-is}
 use Rattle.ab_key_text.specs.declared.fault.NodeFault.{NodeFault}
-use Rattle.ab_text.specs.HexBytes.{bytes_in, in_lower_case}
+use Rattle.ab_text.specs.HexBytes.{bytes_in}
 use Rattle.ab_key_text.specs.Keys.{Secret, IsBytes, IsSecretOf}
 use Rattle.ab_key_text.specs.Lines.{◌>>=◌, found_at, line_at, bounded, number_in, numbered, or_else, party_in, bytes_after, key_in}
 use Rattle.ab_key_text.specs.Reading.{Read, secret_of_parts, secret_text_in, secret_in, secret_at, peers_at, publics_at}

@@ -1,7 +1,5 @@
 -- What is read of a node's text is whole, and so is what a seed gives.
-use Rattle.std.proofs.Common.{◌≡◌, ℕ, ◌+◌, ◌*◌, List, [], ◌∷◌, ◌++◌, map, Bool, true, false, Option, Some, Result, Ok, Err, codes, length, refl, sym, ap, ◌∙◌, subst, arith, if◌then◌else◌, length-append}
-use Rattle.std.specs.List.{range_with_len}
-use Rattle.std.specs.Str.{bytes_eq}
+use Rattle.std.proofs.Common.{◌≡◌, ℕ, ◌+◌, ◌*◌, List, [], ◌∷◌, ◌++◌, Option, Some, Result, Ok, Err, codes, length, refl, ap, ◌∙◌, subst, arith, length-append}
 use Rattle.std.proofs.lemmas.List.FromFn.{length-map-range_with_len}
 use Rattle.ab_num.specs.declared.party.Party.{Party}
 use Rattle.ab_num.specs.declared.party.Party.TheVariants.{Replica}
@@ -13,9 +11,9 @@ use Rattle.ab_num.specs.declared.plan.ServiceName.{ServiceName}
 use Rattle.ab_num.specs.declared.plan.Scheme.{Scheme}
 use Rattle.ab_key_text.specs.Derived.{keys_of, own_secret, public_of, secret_of}
 use Rattle.ab_key_text.specs.Keys.{Secret, PartyKeys, IsWhole, peers_in, replicas}
-use Rattle.ab_key_text.specs.Lines.{◌>>=◌, found_at, line_at, key_in}
+use Rattle.ab_key_text.specs.Lines.{◌>>=◌, line_at, key_in}
 use Rattle.ab_key_text.specs.Nodes.{NodeText, commands_at, node_in, node_of}
-use Rattle.ab_key_text.specs.Reading.{Read, KeyLines, ended, keys_after, keys_at, peers_at, publics_at, put_together, secret_at, secret_in, setting_at}
+use Rattle.ab_key_text.specs.Reading.{Read, KeyLines, keys_after, keys_at, peers_at, publics_at, put_together, secret_at, secret_in, setting_at}
 
 abbrev Lines : Type 0
 Lines = List (List ℕ)

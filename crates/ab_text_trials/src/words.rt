@@ -94,6 +94,38 @@ fn commands(rt: HostRuntime) {
 }
 
 #[test]
+fn keys_with_a_checkpoint(rt: HostRuntime) {
+    let alloc = rt.alloc();
+    let cases = [
+        ("", true),
+        (" --checkpoint 0", true),
+        (" --checkpoint=0", true),
+        (" --checkpoint 00", false),
+        (" --checkpoint 1", false),
+        (" --checkpoint 64", false),
+        (" --checkpoint 128", false),
+        (" --checkpoint 129", false),
+        (" --checkpoint 18446744073709551616", false),
+        (" --checkpoint -1", false),
+        (" --checkpoint=", false),
+        (" --checkpoint", false),
+        (" --checkpoint 0 --checkpoint 0", false),
+        (" --every 0", false),
+    ];
+    for (more, taken) in cases {
+        let text = format!(in alloc;
+            "keys --plan quorum --f 1 --clients 1 --service kv --lms 10 --seed {ZERO} --party r3{more}"
+        ).expect(&rt, "memory");
+        assert!(rt;
+            is_command(&rt, text.as_str()).expect(&rt, "memory") == taken,
+            "{more}"
+        );
+    }
+    let other = "node --base 1 --wait 1 --turns 1 --checkpoint 0";
+    assert!(rt; !is_command(&rt, other).expect(&rt, "memory"));
+}
+
+#[test]
 fn keys(rt: HostRuntime) {
     let words = [
         "keys",
