@@ -1,0 +1,7 @@
+-- Lemmas of this crate.
+pub mod Chains
+pub mod Stands
+pub mod Counts
+pub mod Agreed
+pub mod There
+pub mod KnownPlaces

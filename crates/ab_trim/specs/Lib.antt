@@ -1,0 +1,5 @@
+-- Lists that have forgotten their first entries.
+pub mod Trimmed
+pub mod Links
+pub mod Points
+pub mod Known
