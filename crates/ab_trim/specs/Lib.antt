@@ -3,3 +3,5 @@ pub mod Trimmed
 pub mod Links
 pub mod Points
 pub mod Known
+pub mod Chained
+pub mod Logs
