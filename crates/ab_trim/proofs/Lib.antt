@@ -5,3 +5,5 @@ pub mod Counts
 pub mod Agreed
 pub mod There
 pub mod KnownPlaces
+pub mod ChunkLemmas
+pub mod HeadLemmas

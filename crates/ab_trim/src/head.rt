@@ -44,13 +44,20 @@ fn may_follow(m: &Request, e: &Request) -> bool
     e.client != m.client || e.stamp < m.stamp
 }
 
+/// Whether `m` may follow all of the entries.
+fn follows_all(requests: &[Request], m: &Request) -> bool
+    ensures { IsTrue result ↔ IsNext requests.now m.now }
+{
+    requests.iter().all(|e| may_follow(m, e))
+}
+
 /// Whether `m` may follow all entries behind the first `n` of a chunk. They are walked only if it may not follow all of the chunk.
 fn follows(part: &Part, n: usize, m: &Request) -> bool
     requires { n ≤ length part.now.requests }
     ensures { IsTrue result ↔ IsNext (drop n part.now.requests) m.now }
 {
     match part.is_later(m) {
-        Some(false) => part.requests()[n..].iter().all(|e| may_follow(m, e)),
+        Some(false) => follows_all(&part.requests()[n..], m),
         _ => true,
     }
 }
