@@ -3,17 +3,17 @@ use Rattle.std.proofs.Common.{◌≡◌, ℕ, zero, suc, ◌+◌, ◌*◌, ◌-�
 use Rattle.std.proofs.Math.Seq.{take-append-add}
 use Rattle.std.proofs.Math.Nat.{div-add-mod}
 use Rattle.std.proofs.lemmas.Bool.{cases_lt}
-use Rattle.std.proofs.lemmas.List.{length-take, length-drop, take-append-le, take-append-drop, take-take, drop-take, take_at, drop_all, get_or-append-add, get_or_append_left, get_or_default}
+use Rattle.std.proofs.lemmas.List.{length-take, length-drop, take-append-le, take-append-drop, take-take, drop-take, take_at, take_all, take_more, drop_at, drop-drop, drop-append-le, drop_all, get_or-drop, get_or-append-add, get_or_append_left, get_or_default}
 use Rattle.std.proofs.lemmas.List.Elements.{All-append, Contains-append_cases}
 use Rattle.std.proofs.lemmas.List.Sums.{fold-append}
 use Rattle.std.proofs.lemmas.List.Concat.{flat_map-append}
-use Rattle.std.proofs.lemmas.Option.{slice_get_within}
+use Rattle.std.proofs.lemmas.Option.{slice_get_within, slice_get_read, get_or_from_slice_get}
 use Rattle.ab_hist.specs.declared.request.Request.{Request}
 use Rattle.ab_hist.specs.Histories.{IsHistory, IsNext, Knows, Precedes}
 use Rattle.ab_hist.specs.Digests.{link}
 use Rattle.ab_hist.specs.Chunks.{Chunk, front, grown, entries_of, digest_from}
 use Rattle.ab_num.proofs.Lists.{slice_get-push}
-use Rattle.ab_hist.proofs.KeptLemmas.{slice_get-append-lt, slice_get-take}
+use Rattle.ab_hist.proofs.KeptLemmas.{slice_get-append-lt, slice_get-take, history-take}
 use Rattle.ab_trim.specs.Chained.{AreFilled, StartFrom}
 
 -- all are full
@@ -38,7 +38,7 @@ at_most : (cs : List Chunk) → AllSmall cs → length (entries_of cs) ≤ 64 * 
 at_most [] small = omega arith
 at_most (c ∷ cs) small = omega (arith, length-append c.requests (entries_of cs), small 0 c refl, at_most cs (λ k d at. small (suc k) d at))
 
-slice_get-add : {X : Type 0} → (xs ys : List X) (n : ℕ) → slice_get (xs ++ ys) (length xs + n) ≡ slice_get ys n
+pub slice_get-add : {X : Type 0} → (xs ys : List X) (n : ℕ) → slice_get (xs ++ ys) (length xs + n) ≡ slice_get ys n
 slice_get-add [] ys n = ap (slice_get ys) (zero-add n)
 slice_get-add (x ∷ xs) ys n = let e : length (x ∷ xs) + n ≡ suc (length xs + n) = omega arith in ap (slice_get (x ∷ (xs ++ ys))) e ∙ slice_get-add xs ys n
 
@@ -156,7 +156,7 @@ entries-parts cs q = ap entries_of (sym (take-append-drop q cs)) ∙ flat_map-ap
 pub take_add : {X : Type 0} → (k n : ℕ) (xs : List X) → take (k + n) xs ≡ take k xs ++ take n (drop k xs)
 take_add k n xs = sym (take-append-drop k (take (k + n) xs)) ∙ λ i. take-take k (k + n) xs (omega arith) i ++ drop-take k n xs i
 
-slice_get-drop : {X : Type 0} → (q : ℕ) (xs : List X) (n : ℕ) → slice_get (drop q xs) n ≡ slice_get xs (q + n)
+pub slice_get-drop : {X : Type 0} → (q : ℕ) (xs : List X) (n : ℕ) → slice_get (drop q xs) n ≡ slice_get xs (q + n)
 slice_get-drop zero xs n = ap (slice_get xs) (let e : n ≡ 0 + n = omega arith in e)
 slice_get-drop (suc q) [] n = refl
 slice_get-drop (suc q) (x ∷ xs) n = slice_get-drop q xs n ∙ ap (slice_get (x ∷ xs)) (let e : suc (q + n) ≡ suc q + n = omega arith in e)
@@ -248,7 +248,7 @@ entry_in cs is q c at m p found =
     let splits : q * 64 + p - 1 ≡ 64 * q + (p - 1) = omega (arith, found.0) in
     entry_at cs is (q * 64 + p - 1) q (p - 1) splits c at (slice_get_within c.requests (p - 1) m found.1) ∙ found.1
 
-drop_here : {X : Type 0} → (xs : List X) (n : ℕ) (x : X) → slice_get xs n ≡ Some x → drop n xs ≡ x ∷ drop (suc n) xs
+pub drop_here : {X : Type 0} → (xs : List X) (n : ℕ) (x : X) → slice_get xs n ≡ Some x → drop n xs ≡ x ∷ drop (suc n) xs
 drop_here [] n x at = cc
 drop_here (y ∷ xs) zero x at = let one : y ≡ x = cc in ap (λ z. z ∷ xs) one
 drop_here (y ∷ xs) (suc n) x at = drop_here xs n x at
@@ -301,3 +301,76 @@ next_by cs n c some at m history knows none next =
     let rest : suc (n - 1) ≡ n = omega arith in
     let parts = split cs (n - 1) c at ∙ ap (λ k. entries_of (take (n - 1) cs) ++ (c.requests ++ entries_of (drop k cs))) rest in
     subst (λ h. IsNext h m) (sym parts) (next_all (entries_of (take (n - 1) cs)) c.requests (entries_of (drop n cs)) m (subst IsHistory parts history) next knows none)
+
+-- ---- the first n entries taken off
+
+-- the entries behind whole chunks
+pub whole_front : (cs : List Chunk) → AreFilled cs → (q k : ℕ) → k ≡ 64 * q → entries_of (take q cs) ≡ take k (entries_of cs)
+whole_front cs is q k e = elim (cases_lt q (length cs)) [
+  | inl lt ↦ front_whole cs is q k e lt
+  | inr past ↦ ap entries_of (take_all q cs past) ∙ sym (take_all k (entries_of cs) (omega (arith, at_most cs is.small, past, e)))
+]
+
+pub whole_rest : (cs : List Chunk) → AreFilled cs → (q k : ℕ) → k ≡ 64 * q → k ≤ length (entries_of cs) → entries_of (drop q cs) ≡ drop k (entries_of cs)
+whole_rest cs is q k e le =
+    let before = entries_of (take q cs) in
+    let long : length before ≡ k = omega (arith, ap length (whole_front cs is q k e), length-take k (entries_of cs), le) in
+    sym (ap (drop k) (entries-parts cs q) ∙ drop_at before (entries_of (drop q cs)) k long)
+
+pub chunks_within : (cs : List Chunk) → AreFilled cs → (n : ℕ) → n ≤ length (entries_of cs) → n / 64 ≤ length cs
+chunks_within cs is n le = omega (arith, at_most cs is.small, in_chunks n, le)
+
+pub chunk_there : (cs : List Chunk) → AreFilled cs → (n : ℕ) → n ≤ length (entries_of cs) → 0 < n % 64 → n / 64 < length cs
+chunk_there cs is n le some = omega (arith, at_most cs is.small, in_chunks n, le, some)
+
+-- the first of the chunks that are left, and those behind it
+pub first_left : (cs ds : List Chunk) (q : ℕ) (c : Chunk) → ds ≡ drop q cs → q < length cs → c ≡ get_or ds 0 c → slice_get cs q ≡ Some c
+first_left cs ds q c is lt at =
+    let some : 0 < length ds = omega (arith, ap length is, length-drop q cs, lt) in
+    ap (slice_get cs) (let e : q ≡ q + 0 = omega arith in e) ∙ sym (slice_get-drop q cs 0) ∙ ap (λ l. slice_get l 0) (sym is)
+    ∙ slice_get_read ds (length ds) 0 c refl some at
+
+pub left_behind : (cs ds es : List Chunk) (q : ℕ) → ds ≡ drop q cs → es ≡ drop 1 ds → es ≡ drop (suc q) cs
+left_behind cs ds es q is of = of ∙ ap (drop 1) is ∙ drop-drop 1 q cs ∙ ap (λ k. drop k cs) (let e : q + 1 ≡ suc q = omega arith in e)
+
+pub history_drop : (n : ℕ) (h : List Request) → IsHistory h → IsHistory (drop n h)
+history_drop n h history i j d lt within =
+    rw (get_or-drop n h i d, get_or-drop n h j d) (history (n + i) (n + j) d (omega (arith, lt)) (omega (arith, within, length-drop n h)))
+
+module _ (cs : List Chunk) (is : AreFilled cs) (q : ℕ) (c : Chunk) (at : slice_get cs q ≡ Some c) where
+  low_is : length (entries_of (take q cs)) ≡ 64 * q
+  low_is = length_before cs q is.full (slice_get_within cs q c at)
+
+  pub rest_is : (n r : ℕ) → n ≡ 64 * q + r → r ≤ length c.requests → drop n (entries_of cs) ≡ drop r c.requests ++ entries_of (drop (suc q) cs)
+  rest_is n r splits room =
+      let before = entries_of (take q cs) in
+      let mine = c.requests ++ entries_of (drop (suc q) cs) in
+      let place : n ≡ length before + r = omega (arith, low_is, splits) in
+      (λ i. drop (place i) (split cs q c at i)) ∙ sym (drop-drop r (length before) (before ++ mine)) ∙ ap (drop r) (drop_at before mine (length before) refl)
+      ∙ drop-append-le r c.requests (entries_of (drop (suc q) cs)) room
+
+  pub after_len : length (entries_of cs) ≡ 64 * q + length c.requests + length (entries_of (drop (suc q) cs))
+  after_len =
+      omega (arith, low_is, ap length (split cs q c at), length-append (entries_of (take q cs)) (c.requests ++ entries_of (drop (suc q) cs)), length-append c.requests (entries_of (drop (suc q) cs)))
+
+  pub after_history : IsHistory (entries_of cs) → IsHistory (entries_of (drop (suc q) cs))
+  after_history history =
+      let whole = rest_is (64 * q + length c.requests) (length c.requests) refl (omega arith) in
+      subst IsHistory (whole ∙ ap (λ l. l ++ entries_of (drop (suc q) cs)) (drop_all (length c.requests) c.requests (omega arith))) (history_drop (64 * q + length c.requests) (entries_of cs) history)
+
+  pub chunk_history : IsHistory (entries_of cs) → IsHistory c.requests
+  chunk_history history =
+      let whole = rest_is (64 * q) 0 (omega arith) (omega arith) in
+      let after = entries_of (drop (suc q) cs) in
+      subst IsHistory (ap (take (length c.requests)) whole ∙ take_at c.requests after (length c.requests) refl)
+      (history-take (drop (64 * q) (entries_of cs)) (length c.requests) (history_drop (64 * q) (entries_of cs) history))
+
+  pub after_starts : (s : List ℕ) → StartFrom s cs → StartFrom (digest_from c.start c.requests) (drop (suc q) cs)
+  after_starts s starts =
+      let more : take (suc q) cs ≡ take q cs ++ c ∷ [] =
+      ap (λ k. take k cs) (let e : suc q ≡ q + 1 = omega arith in e) ∙ take_more cs q c (slice_get_within cs q c at) ∙ ap (λ d. take q cs ++ d ∷ []) (get_or_from_slice_get cs q c c at)
+      in
+      subst (λ d. StartFrom d (drop (suc q) cs))
+      (ap (λ l. digest_from s (entries_of l)) more ∙ ap (digest_from s) (entries-end (take q cs) c) ∙ digest_on s (entries_of (take q cs)) c.requests
+      ∙ ap (λ d. digest_from d c.requests) (sym (starts q c at)))
+      (drop-starts s cs (suc q) starts)

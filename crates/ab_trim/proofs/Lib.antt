@@ -7,3 +7,5 @@ pub mod There
 pub mod KnownPlaces
 pub mod ChunkLemmas
 pub mod HeadLemmas
+pub mod RestLemmas
+pub mod LastLemmas

@@ -1,7 +1,7 @@
 //! What is left of a chunk whose first entries are forgotten.
 
 ghost use Rattle.std.specs.Prelude.{◌≡◌, ◌-◌, ◌<◌, ◌≤◌, ◌↔◌, [], length, take, drop, slice_get, IsTrue, Some, IfOk, IfSome, IfNone, Contains};
-ghost use Rattle.ab_hist.specs.Histories.{IsNext};
+ghost use Rattle.ab_hist.specs.Histories.{IsHistory, IsNext};
 ghost use Rattle.ab_hist.specs.Chunks.{begun, front, digest_from};
 ghost use Rattle.ab_trim.specs.Chained.{IsHidden, behind};
 
@@ -60,6 +60,16 @@ fn follows(part: &Part, n: usize, m: &Request) -> bool
         Some(false) => follows_all(&part.requests()[n..], m),
         _ => true,
     }
+}
+
+/// The place whose entry equals `m`, behind the first `n` of a chunk.
+fn place_behind(part: &Part, n: usize, m: &Request) -> Option<usize>
+    requires { IsHistory part.now.requests }
+    ensures found { IfSome result (λ k. (1 ≤ k) × (slice_get (drop n part.now.requests) (k - 1) ≡ Some m.now)) }
+    ensures none { IfNone result (¬ Contains (drop n part.now.requests) m.now) }
+{
+    let place = part.place_of(m)?;
+    if place > n { Some(place - n) } else { None }
 }
 
 impl Head {
@@ -133,12 +143,9 @@ impl Head {
         ensures found { IfSome result (λ n. (1 ≤ n) × (slice_get self.now.requests (n - 1) ≡ Some m.now)) }
         ensures none { IfNone result (¬ Contains self.now.requests m.now) }
     {
-        let part = self.part.as_ref()?;
-        let place = part.place_of(m)?;
-        if place > self.hidden {
-            Some(place - self.hidden)
-        } else {
-            None
+        match &self.part {
+            Some(part) => place_behind(part, self.hidden, m),
+            None => None,
         }
     }
 

@@ -92,7 +92,8 @@ impl Rest {
 
     /// The place whose entry equals `m`.
     pub(crate) fn place_of(&self, m: &Request) -> Option<usize>
-        ensures { result ≡ place_in self.now.requests m.now }
+        ensures place { result ≡ place_in self.now.requests m.now }
+        ensures few { IfSome result (λ n. n ≤ 1024) }
     {
         if let Some(place) = self.chain.place_of(m) {
             return Some(self.head.len() + place);

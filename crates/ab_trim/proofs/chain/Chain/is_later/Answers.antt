@@ -32,4 +32,4 @@ returns c =
     let items = c.self.inside.parts.items in
     let none : c.chunks.n ≡ 0 = omega (arith, c.chunks-test.false) in
     let unknown = subst (λ h. Knows h c.args.m.now.client → ⊥) (ap (λ k. entries_of (drop k items)) none ∙ ap (λ k. k.requests) c.self.view_is) c.chunks.invariant in
-    (λ _. next_unknown c.args.self.now c.args.m.now unknown, λ _. refl)
+    (λ _. next_unknown c.args.self.now.requests c.args.m.now unknown, λ _. refl)

@@ -16,5 +16,5 @@ invariant_of-self c part is =
       history = was.history;
       small = was.small;
       within = omega (arith, was.within, length-drop hidden part.requests, ap length shows, c.requires);
-      digest = ? ∙ (λ i. digest_from (sym starts i) (take c.args.n (sym shows i))) ∙ sym (digest_behind d part hidden c.args.n was.digest);
+      digest = c.digest_at-self-inside.ensures ∙ (λ i. digest_from (sym starts i) (take c.args.n (sym shows i))) ∙ sym (digest_behind d part hidden c.args.n was.digest);
     }
