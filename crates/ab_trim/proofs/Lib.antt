@@ -9,3 +9,4 @@ pub mod ChunkLemmas
 pub mod HeadLemmas
 pub mod RestLemmas
 pub mod LastLemmas
+pub mod TrimmedLemmas

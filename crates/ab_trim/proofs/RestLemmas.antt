@@ -1,5 +1,5 @@
 -- Entries in two parts, of which the second goes on where the first ends.
-use Rattle.std.proofs.Common.{◌≡◌, ℕ, ◌+◌, ◌-◌, ◌<◌, ◌≤◌, Bool, Option, Some, None, Ok, Err, IfSome, IfNone, OnOk, OnErr, List, [], ◌∷◌, ◌++◌, Contains, length, take, drop, slice_get, append_assoc, arith, sym, ◌∙◌, ap, refl, subst, length-append}
+use Rattle.std.proofs.Common.{◌≡◌, ℕ, ◌+◌, ◌-◌, ◌<◌, ◌≤◌, true, Option, Some, None, Ok, Err, IfSome, IfNone, OnOk, OnErr, List, [], ◌∷◌, ◌++◌, Contains, length, take, drop, slice_get, append_assoc, arith, sym, ◌∙◌, ap, refl, subst, length-append}
 use Rattle.std.specs.Prelude.{Result, Decides}
 use Rattle.std.specs.List.{list_all}
 use Rattle.std.proofs.Math.Seq.{take-append-add}

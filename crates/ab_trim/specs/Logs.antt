@@ -80,3 +80,4 @@ pub record IsTrimmed (n : ℕ) (rest : Chunk) (lasts : List (Option (ℕ × Requ
   pub within : n + length rest.requests ≤ 65535
   pub clients : All (λ m. m.client < 16) rest.requests
   pub room : 0 < length rest.requests → length lasts ≡ 16
+  pub each : 0 < length lasts → length lasts ≡ 16

@@ -2,7 +2,7 @@
 
 ghost use Rattle.std.specs.Prelude.{◌≡◌, ◌+◌, ◌<◌, ◌≤◌, All, length, take, IfOk};
 ghost use Rattle.ab_trim.specs.Known.{place_of_last as place_by_last, follows_last as follows_by_last};
-ghost use Rattle.ab_trim.specs.Logs.{last_at, noted, no_lasts as without};
+ghost use Rattle.ab_trim.specs.Logs.{last_at, noted, no_lasts as without, padded};
 
 use crate::rest::Rest;
 use ab_hist::Request;
@@ -85,4 +85,18 @@ pub(crate) fn copy_lasts(
         copies.push(copy)?;
     }
     Ok(copies)
+}
+
+/// The same requests and places, with a place for each client.
+pub(crate) fn all_lasts(
+    alloc: Global,
+    lasts: &[Option<(usize, Request)>],
+) -> Result<Vec<Option<(usize, Request)>>, OutOfMemory>
+    ensures { IfOk result (λ v. v.items ≡ padded lasts.now) }
+{
+    if lasts.len() == 0 {
+        Ok(no_lasts(alloc)?)
+    } else {
+        copy_lasts(alloc, lasts)
+    }
 }

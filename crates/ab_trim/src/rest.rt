@@ -101,6 +101,21 @@ impl Rest {
         self.head.place_of(m)
     }
 
+    /// Whether `r` begins with these entries.
+    pub(crate) fn is_front_of(&self, r: &Rest) -> bool
+        ensures { IsTrue result ↔ (take (length self.now.requests) r.now.requests ≡ self.now.requests) }
+    {
+        if r.len() < self.len() {
+            return false;
+        }
+        'entries: for k in 0..self.len() {
+            if self.at(k + 1) != r.at(k + 1) {
+                return false;
+            }
+        }
+        true
+    }
+
     /// Adds an entry that may come next.
     pub(crate) fn push(&mut self, alloc: Global, m: Request) -> Result<(), AllocError>
         requires { (length self.old.requests < 1024) × IsNext self.old.requests m }

@@ -1,11 +1,11 @@
 //! Lists that have forgotten their first entries.
 
 ghost use Rattle.std.specs.Prelude.{◌≡◌, ◌-◌, ◌<◌, ◌≤◌, ◌↔◌, true, false, replicate, slice_get, IsTrue, Some, IsErrOf, OnOk, OnErr, IfOk};
-ghost use Rattle.ab_trim.specs.Trimmed.{end_of, digest_at as digest_of_front, holds as test_point};
+ghost use Rattle.ab_trim.specs.Trimmed.{end_of, forget, cut, digest_at as digest_of_front, holds as test_point};
 ghost use Rattle.ab_trim.specs.Known.{place_by, can_push_by, forget_log};
-ghost use Rattle.ab_trim.specs.Logs.{IsFull, follows_by, log_of, begun_log, push_log, cut_log, trim_log};
+ghost use Rattle.ab_trim.specs.Logs.{IsFull, follows_by, log_of, begun_log, push_log, cut_log, trim_log, lasts_to, grounded_log};
 
-use crate::lasts::{copy_lasts, follows_last, no_lasts, note_all, place_of_last};
+use crate::lasts::{all_lasts, copy_lasts, follows_last, no_lasts, note_all, place_of_last};
 use crate::rest::Rest;
 use ab_hist::{PushFault, Request};
 use ab_num::OutOfMemory;
@@ -197,6 +197,55 @@ impl Trimmed {
         let lasts = copy_lasts(alloc, &self.lasts)?;
         Ok(Trimmed {
             start: self.start,
+            rest,
+            lasts,
+        })
+    }
+
+    /// Whether `list` has forgotten the same entries, and goes on as this one as far as it goes.
+    pub fn is_prefix_of(&self, list: &Trimmed) -> bool
+        ensures { IsTrue result ↔ (cut (end_of self.now.list) list.now.list ≡ self.now.list) }
+    {
+        self.start == list.start
+            && self.digest() == list.digest()
+            && self.rest.is_front_of(&list.rest)
+    }
+
+    /// Whether the two have forgotten the same entries, and have the same others.
+    pub fn is_equal(&self, list: &Trimmed) -> bool
+        ensures { IsTrue result ↔ (self.now.list ≡ list.now.list) }
+    {
+        self.len() == list.len() && self.is_prefix_of(list)
+    }
+
+    /// The offered list, which shows where this one begins or whose beginning this one shows, by this one: it forgets as much as
+    /// each of the two, and has the last requests of this one. None if neither list shows where the other begins.
+    pub fn grounded(&self, alloc: Global, offered: &Trimmed) -> Result<Option<Trimmed>, OutOfMemory>
+        ensures { IfOk result (λ b. b ≡ grounded_log self.now offered.now.list) }
+    {
+        if self.holds(offered.start, &offered.digest()) {
+            let known = self.with_lasts(alloc, offered, offered.start)?;
+            return Ok(Some(known));
+        }
+        if offered.start < self.start && offered.holds(self.start, &self.digest()) {
+            let known = self.with_lasts(alloc, offered, self.start)?;
+            return Ok(Some(known));
+        }
+        Ok(None)
+    }
+
+    /// A list without its first `n` entries, with the last requests of this one as far as there.
+    fn with_lasts(&self, alloc: Global, list: &Trimmed, n: usize) -> Result<Trimmed, OutOfMemory>
+        requires own { (self.now.list.start ≤ n) × (n ≤ end_of self.now.list) }
+        requires other { (list.now.list.start ≤ n) × (n ≤ end_of list.now.list) }
+        ensures { IfOk result (λ k. k ≡ record { list = forget n list.now.list; lasts = lasts_to n self.now }) }
+    {
+        let mut lasts = all_lasts(alloc, &self.lasts)?;
+        note_all(&mut lasts, &self.rest, self.start, n - self.start);
+        let mut rest = list.rest.copy(alloc)?;
+        rest.forget(n - list.start);
+        Ok(Trimmed {
+            start: n,
             rest,
             lasts,
         })

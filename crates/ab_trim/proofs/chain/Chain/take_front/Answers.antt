@@ -79,7 +79,7 @@ of-requires c =
       small = c.self.invariant.filled.small q part at;
       within = room;
       digest = c.digest_at-digest.ensures ∙ ap (λ k. digest_from k.start (take n k.requests)) (sym c.self.view_is)
-      ∙ sym (digest_to cs c.self.invariant.filled q part at c.self.inside.start n (n % 64) (in_chunks n) room c.self.invariant.starts);
+          ∙ sym (digest_to cs c.self.invariant.filled q part at c.self.inside.start n (n % 64) (in_chunks n) room c.self.invariant.starts);
     }
 
 pub invariant_of-self-2 : goal.invariant_of-self-2
