@@ -6,6 +6,7 @@ use Rattle.std.proofs.lemmas.Bool.Decides.{nat_tests}
 use Rattle.std.proofs.lemmas.List.Elements.{All-head, All-tail}
 use Rattle.std.proofs.lemmas.Option.{slice_get_within, get_or_from_slice_get}
 use Rattle.ab_hist.specs.declared.request.Request.{Request}
+use Rattle.ab_trim.proofs.RestLemmas.{place_more}
 use Rattle.ab_trim.specs.Known.{Last, last_from}
 use Rattle.ab_trim.specs.Logs.{as_last, last_at, noted, padded}
 
@@ -14,13 +15,6 @@ noted-push n [] m lasts = ap (λ k. set lasts m.client (Some (k, m))) (let e : n
 noted-push n (x ∷ h) m lasts =
     noted-push (n + 1) h m (set lasts x.client (Some (n + 1, x)))
     ∙ ap (λ k. set (noted (n + 1) h (set lasts x.client (Some (n + 1, x)))) m.client (Some (k, m))) (let e : n + 1 + length h + 1 ≡ n + suc (length h) + 1 = omega arith in e)
-
--- the request at place k + 1 comes behind the first k
-pub place_more : (h : List Request) (k : ℕ) (m : Request) → slice_get h (k + 1 - 1) ≡ Some m → (k < length h) × (take (k + 1) h ≡ take k h ++ m ∷ [])
-place_more h k m at =
-    let here : slice_get h k ≡ Some m = ap (slice_get h) (let e : k ≡ k + 1 - 1 = omega arith in e) ∙ at in
-    let within = slice_get_within h k m here in
-    (within, take_more h k m within ∙ ap (λ d. take k h ++ d ∷ []) (get_or_from_slice_get h k m m here))
 
 pub noted_more : (n k i : ℕ) (h : List Request) (m copy : Request) (lasts now : List (Option (ℕ × Request))) → slice_get h (k + 1 - 1) ≡ Some m → copy ≡ m → i ≡ m.client
     → now ≡ noted n (take k h) lasts → set now i (Some (n + k + 1, copy)) ≡ noted n (take (k + 1) h) lasts

@@ -4,14 +4,14 @@ use Rattle.std.specs.Prelude.{Result, Decides}
 use Rattle.std.specs.List.{list_all}
 use Rattle.std.proofs.Math.Seq.{take-append-add}
 use Rattle.std.proofs.lemmas.Bool.Decides.{Decides-by_and, nat_tests}
-use Rattle.std.proofs.lemmas.List.{length-take, length-drop, drop-drop, drop_at, drop-append-le, take-append-drop, get_or_append_left, get_or-append-add}
+use Rattle.std.proofs.lemmas.List.{length-take, length-drop, take_more, drop-drop, drop_at, drop-append-le, take-append-drop, get_or_append_left, get_or-append-add}
 use Rattle.std.proofs.lemmas.List.Quantifiers.{all_pairs_push}
-use Rattle.std.proofs.lemmas.Option.{slice_get_within}
+use Rattle.std.proofs.lemmas.Option.{slice_get_within, get_or_from_slice_get}
 use Rattle.ab_hist.specs.declared.request.Request.{Request}
 use Rattle.ab_hist.specs.Histories.{IsHistory, IsNext, Precedes, may_follow, place_in}
 use Rattle.ab_hist.specs.Chunks.{Chunk, front, grown, digest_from}
 use Rattle.ab_hist.proofs.RequestLemmas.{place_in-at, place_in-none}
-use Rattle.ab_hist.proofs.KeptLemmas.{history-take, slice_get-append-lt}
+use Rattle.ab_hist.proofs.KeptLemmas.{history-take, slice_get-append-lt, slice_get-take}
 use Rattle.ab_trim.specs.Chained.{AreJoined, behind}
 use Rattle.ab_trim.proofs.ChunkLemmas.{digest_on, history_drop, none_more, slice_get-add}
 
@@ -43,6 +43,20 @@ place_first xs ys m (Some n) history found none more =
 pub place_few : (xs : List Request) (m : Request) (o : Option ℕ) → length xs ≤ 1024 → IfSome o (λ n. (1 ≤ n) × (slice_get xs (n - 1) ≡ Some m)) → IfSome o (λ n. n ≤ 1024)
 place_few xs m None few found = tt
 place_few xs m (Some n) few found = omega (arith, slice_get_within xs (n - 1) m found.1, found.0, few)
+
+-- the request at place k + 1 comes behind the first k
+pub place_more : (h : List Request) (k : ℕ) (m : Request) → slice_get h (k + 1 - 1) ≡ Some m → (k < length h) × (take (k + 1) h ≡ take k h ++ m ∷ [])
+place_more h k m at =
+    let here : slice_get h k ≡ Some m = ap (slice_get h) (let e : k ≡ k + 1 - 1 = omega arith in e) ∙ at in
+    let within = slice_get_within h k m here in
+    (within, take_more h k m within ∙ ap (λ d. take k h ++ d ∷ []) (get_or_from_slice_get h k m m here))
+
+-- what stands at one place in a list and in one that begins with it
+pub same_there : (xs ys : List Request) (k : ℕ) (x y : Request) → slice_get xs (k + 1 - 1) ≡ Some x → slice_get ys (k + 1 - 1) ≡ Some y → take (length xs) ys ≡ xs → x ≡ y
+same_there xs ys k x y at there front =
+    let both : Some x ≡ Some y =
+    sym at ∙ ap (λ l. slice_get l (k + 1 - 1)) (sym front) ∙ slice_get-take (length xs) ys (k + 1 - 1) (slice_get_within xs (k + 1 - 1) x at) ∙ there in
+    cc (both)
 
 -- ---- what may come next
 

@@ -55,6 +55,17 @@ module _ (n : ℕ) (rest : Chunk) (lasts : List (Option (ℕ × Request))) (is :
     forgot_lasts more more_is =
         ap padded more_is ∙ padded-noted n (take (j - n) rest.requests) lasts (λ some. is.room (omega (arith, some, length-take (j - n) rest.requests)))
 
+    pub with_trimmed : (k : Chunk) (more : List (Option (ℕ × Request))) → k ≡ behind (j - n) rest → length more ≡ 16 → IsTrimmed j k more
+    with_trimmed k more k_is long =
+        subst (λ c. IsTrimmed j c more) (sym k_is) (record {
+          history = history_drop (j - n) rest.requests is.history;
+          few = omega (arith, is.few, length-drop (j - n) rest.requests);
+          within = omega (arith, is.within, length-drop (j - n) rest.requests, first, last);
+          clients = All-drop (λ e. e.client < 16) (j - n) rest.requests is.clients;
+          room = λ _. long;
+          each = λ _. long;
+        })
+
     abbrev kept : TrimmedLog
     kept = record { list = record { start = n; digest = rest.start; rest = rest.requests }; lasts = padded lasts }
 

@@ -38,6 +38,13 @@ impl Model for Rest {
     ghost invariant = { λ r. AreJoined r.head r.chain };
 }
 
+/// Whether two requests are equal.
+fn are_same(a: &Request, b: &Request) -> bool
+    ensures { IsTrue result ↔ (a.now ≡ b.now) }
+{
+    a == b
+}
+
 impl Rest {
     /// No entries yet after those with the digest `start`.
     pub(crate) fn new(alloc: Global, start: [u8; 32]) -> Rest
@@ -109,7 +116,7 @@ impl Rest {
             return false;
         }
         'entries: for k in 0..self.len() {
-            if self.at(k + 1) != r.at(k + 1) {
+            if !are_same(self.at(k + 1), r.at(k + 1)) {
                 return false;
             }
         }
