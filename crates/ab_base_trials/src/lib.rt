@@ -1,4 +1,4 @@
-//! Tests of numbers, digests, tags, parts of bytes, the outside, histories and services: apart from their crates, so that none is proved once more.
+//! Tests of numbers, digests, tags, parts of bytes, the outside, histories, trimmed lists and services: apart from their crates, so that none is proved once more.
 #![tactic(auto)]
 
 #[cfg(test)]
@@ -23,3 +23,5 @@ mod shares;
 mod stores;
 #[cfg(test)]
 mod tags;
+#[cfg(test)]
+mod trimmed;

@@ -1,0 +1,154 @@
+//! Lists that forget their first entries, beside a history of the same requests.
+
+use ab_hist::{History, PushFault, Request};
+use ab_trim::Trimmed;
+use arrayvec::ArrayVec;
+use std::alloc::Global;
+use std::process::Abort;
+
+fn request(client: u16, stamp: u64) -> Request {
+    let command = ArrayVec::new();
+    Request {
+        client,
+        stamp,
+        command,
+    }
+}
+
+/// The request at place `k` of the lists here, of one of three clients.
+fn nth(k: u64) -> Request {
+    request((k % 3) as u16, k)
+}
+
+/// Adds the requests at the places behind `from`, as far as `to`.
+fn grow(rt: &impl Abort, alloc: Global, list: &mut Trimmed, from: u64, to: u64) {
+    for k in from..to {
+        assert!(rt; list.push(alloc, nth(k.wrapping_add(1))) == Ok(()));
+    }
+}
+
+/// A list of so many requests.
+fn list_of(rt: &impl Abort, alloc: Global, n: u64) -> Trimmed {
+    let mut list = Trimmed::new(alloc);
+    grow(rt, alloc, &mut list, 0, n);
+    list
+}
+
+/// A history of so many requests.
+fn history_of(rt: &impl Abort, alloc: Global, n: u64) -> History {
+    let mut history = History::new(alloc);
+    for k in 0..n {
+        assert!(rt; history.push(alloc, nth(k.wrapping_add(1))) == Ok(()));
+    }
+    history
+}
+
+/// What a list shows at place `n` is what the history has there.
+fn expect_same_at(rt: &impl Abort, list: &Trimmed, history: &History, n: usize) {
+    assert!(rt; list.start() <= n && n <= list.len() && n <= history.len());
+    assert!(rt; list.digest_at(n) == history.digest_at(n));
+    assert!(rt; list.holds(n, &history.digest_at(n)) && !list.holds(n, &[7; 32]));
+    if n > list.start() && n >= 1 {
+        assert!(rt; list.at(n) == history.at(n));
+        assert!(rt; list.place_of(list.at(n)) == Some(n));
+    }
+}
+
+/// The list shows what the history has, from place `from` on.
+fn expect_same(rt: &impl Abort, list: &Trimmed, history: &History, from: usize) {
+    assert!(rt; list.start() == from && list.len() == history.len());
+    for n in from..history.len() {
+        expect_same_at(rt, list, history, n);
+    }
+    expect_same_at(rt, list, history, history.len());
+}
+
+#[test]
+fn forgotten_lists_show_what_histories_do(rt: HostRuntime) {
+    let alloc = rt.alloc();
+    let history = history_of(&rt, alloc, 300);
+    let mut list = list_of(&rt, alloc, 300);
+    expect_same(&rt, &list, &history, 0);
+    for n in [1, 63, 64, 65, 100, 128, 130, 256, 299] {
+        assert!(rt; list.start() <= n && n <= list.len());
+        list.forget(n);
+        expect_same(&rt, &list, &history, n);
+    }
+    list.forget(300);
+    expect_same(&rt, &list, &history, 300);
+    assert!(rt; list.digest() == history.digest_at(300));
+}
+
+/// Of what is forgotten the last request of each client is known, and no other.
+#[test]
+fn last_requests_are_known(rt: HostRuntime) {
+    let alloc = rt.alloc();
+    let mut list = list_of(&rt, alloc, 200);
+    assert!(rt; list.start() <= 100 && 100 <= list.len());
+    list.forget(100);
+    for n in [98, 99, 100, 101, 200] {
+        assert!(rt; list.place_of(&nth(n)) == Some(n as usize));
+        assert!(rt; !list.can_push(&nth(n)));
+    }
+    for n in [1, 3, 60, 97] {
+        assert!(rt; list.place_of(&nth(n)) == None);
+        assert!(rt; !list.can_push(&nth(n)));
+        assert!(rt; list.push(alloc, nth(n)) == Err(PushFault::Repeat));
+    }
+    assert!(rt; list.place_of(&nth(201)) == None && list.can_push(&nth(201)));
+    assert!(rt; list.place_of(&request(15, 1)) == None && list.can_push(&request(15, 1)));
+    assert!(rt; list.len() == 200);
+}
+
+/// A list that is cut goes on from there, whatever was behind.
+#[test]
+fn lists_are_cut_and_go_on(rt: HostRuntime) {
+    let alloc = rt.alloc();
+    for (start, end) in [(0, 0), (0, 64), (0, 100), (70, 70), (70, 90), (70, 128), (70, 140), (128, 140)] {
+        let mut list = list_of(&rt, alloc, 200);
+        let mut other = list.copy(alloc).expect(&rt, "memory");
+        assert!(rt; list.start() <= start && start <= list.len());
+        list.forget(start);
+        assert!(rt; list.start() <= end && end <= list.len());
+        list.cut(end);
+        let history = history_of(&rt, alloc, end as u64);
+        expect_same(&rt, &list, &history, start);
+        grow(&rt, alloc, &mut list, end as u64, 220);
+        let history = history_of(&rt, alloc, 220);
+        expect_same(&rt, &list, &history, start);
+        assert!(rt; other.len() == 200 && other.start() == 0);
+        grow(&rt, alloc, &mut other, 200, 220);
+        expect_same(&rt, &other, &history, 0);
+    }
+}
+
+#[test]
+fn room_is_behind_what_is_forgotten(rt: HostRuntime) {
+    let alloc = rt.alloc();
+    let mut list = list_of(&rt, alloc, 1024);
+    assert!(rt; list.push(alloc, nth(1025)) == Err(PushFault::Full));
+    assert!(rt; !list.can_push(&nth(1025)));
+    assert!(rt; list.start() <= 500 && 500 <= list.len());
+    list.forget(500);
+    grow(&rt, alloc, &mut list, 1024, 1500);
+    assert!(rt; list.start() <= 1000 && 1000 <= list.len());
+    list.forget(1000);
+    assert!(rt; list.start() == 1000 && list.len() == 1500);
+    grow(&rt, alloc, &mut list, 1500, 2024);
+    assert!(rt; list.push(alloc, nth(2025)) == Err(PushFault::Full));
+    assert!(rt; list.push(alloc, nth(2024)) == Err(PushFault::Full));
+    assert!(rt; list.len() == 2024);
+}
+
+#[test]
+fn no_list_has_more_entries(rt: HostRuntime) {
+    let alloc = rt.alloc();
+    let mut list = Trimmed::begin(alloc, 65_534, [5; 32]);
+    assert!(rt; list.start() == 65_534 && list.len() == 65_534 && list.digest() == [5; 32]);
+    assert!(rt; list.push(alloc, request(3, 9)) == Ok(()));
+    assert!(rt; list.len() == 65_535 && list.place_of(&request(3, 9)) == Some(65_535));
+    assert!(rt; list.push(alloc, request(4, 9)) == Err(PushFault::Full));
+    let mut full = Trimmed::begin(alloc, 65_535, [5; 32]);
+    assert!(rt; !full.can_push(&request(3, 9)));
+    assert!(rt; full.push(alloc, request(3, 9)) == Err(PushFault::Full));
+}

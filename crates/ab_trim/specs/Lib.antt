@@ -1,0 +1,7 @@
+-- Lists that have forgotten their first entries.
+pub mod Trimmed
+pub mod Links
+pub mod Points
+pub mod Known
+pub mod Chained
+pub mod Logs
