@@ -1,0 +1,11 @@
+-- Lemmas of this crate.
+pub mod WholeLists
+pub mod WholeCerts
+pub mod LeftOut
+pub mod Fronts
+pub mod CertActs
+pub mod MarkedActs
+pub mod LaterInstances
+pub mod NamedLists
+pub mod DueMarks
+pub mod AnswerLaws

@@ -1,0 +1,8 @@
+-- What lists that forgot their first entries say of certificates, instances and runs.
+pub mod Stable
+pub mod Certs
+pub mod Answers
+pub mod Checkpoints
+pub mod Leaving
+pub mod Instances
+pub mod Wholes

@@ -1,0 +1,24 @@
+//! Lists that forgot their first entries, and what they say of certificates, instances and runs.
+#![tactic(auto)]
+
+mod answers;
+mod certs;
+mod checkpoints;
+mod instances;
+mod leaving;
+mod points;
+mod wholes;
+
+pub use answers::answers_are_right;
+pub use certs::{
+    certificates_are_whole, enough_lists_share_a_point, equal_lists_are_whole,
+    stable_fronts_are_common,
+};
+pub use checkpoints::{due_checkpoints_are_of_the_log, stable_beginnings_are_marked};
+pub use instances::{
+    common_beginnings_are_certified, common_beginnings_go_on, forgotten_beginnings_are_common,
+    stable_beginnings_stay, trimmed_certificates_are_valid,
+};
+pub use leaving::checkpoints_can_be_left_out;
+pub use points::whole_lists_agree_by_points;
+pub use wholes::{named_lists_are_whole, whole_places_are_states};
