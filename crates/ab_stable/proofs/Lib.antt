@@ -1,5 +1,6 @@
 -- Lemmas of this crate.
 pub mod WholeLists
+pub mod FoundLists
 pub mod WholeCerts
 pub mod LeftOut
 pub mod Fronts

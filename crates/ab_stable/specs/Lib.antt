@@ -1,5 +1,6 @@
 -- What lists that forgot their first entries say of certificates, instances and runs.
 pub mod Stable
+pub mod AgreedLists
 pub mod Certs
 pub mod Answers
 pub mod Checkpoints

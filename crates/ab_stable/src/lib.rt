@@ -20,5 +20,5 @@ pub use instances::{
     stable_beginnings_stay, trimmed_certificates_are_valid,
 };
 pub use leaving::checkpoints_can_be_left_out;
-pub use points::whole_lists_agree_by_points;
+pub use points::{agreed_lists_are_found, whole_lists_agree_by_points};
 pub use wholes::{named_lists_are_whole, whole_places_are_states};
