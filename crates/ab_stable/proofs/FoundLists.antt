@@ -5,8 +5,8 @@ use Rattle.std.specs.Option.{option_map}
 use Rattle.std.proofs.lemmas.Bool.{cases_Bool, cases_lt, and_parts, le-leb, leb-true, ltb-true}
 use Rattle.std.proofs.lemmas.Bool.Decides.{nat_tests}
 use Rattle.ab_num.proofs.Lists.{Contains-cons_cases}
-use Rattle.ab_trim.specs.Trimmed.{Trimmed, end_of, digest_at, Holds, holds, cut}
-use Rattle.ab_trim.specs.Points.{point_holders, IsLastPoint, least_holder, IsAgreedList}
+use Rattle.ab_trim.specs.Trimmed.{Trimmed, digest_at, holds, cut}
+use Rattle.ab_trim.specs.Points.{point_holders, least_holder, IsAgreedList}
 use Rattle.ab_trim.proofs.Stands.{holds-Decides}
 use Rattle.ab_trim.proofs.Counts.{some_passes}
 use Rattle.ab_trim.proofs.Agreed.{one_list, least_there}

@@ -10,3 +10,7 @@ pub mod LaterInstances
 pub mod NamedLists
 pub mod DueMarks
 pub mod AnswerLaws
+pub mod SmallPoints
+pub mod SmallVotes
+pub mod SmallMarked
+pub mod SmallForgotten

@@ -7,3 +7,5 @@ pub mod Checkpoints
 pub mod Leaving
 pub mod Instances
 pub mod Wholes
+pub mod SmallVotes
+pub mod SmallMarks

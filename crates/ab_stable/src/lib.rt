@@ -4,6 +4,7 @@
 mod answers;
 mod certs;
 mod checkpoints;
+mod examples;
 mod instances;
 mod leaving;
 mod points;
@@ -15,6 +16,10 @@ pub use certs::{
     stable_fronts_are_common,
 };
 pub use checkpoints::{due_checkpoints_are_of_the_log, stable_beginnings_are_marked};
+pub use examples::{
+    small_beginnings_are_forgotten, small_certificates_are_known, small_checkpoints_are_there,
+    two_trimmed_lists_agree, two_whole_lists_agree,
+};
 pub use instances::{
     common_beginnings_are_certified, common_beginnings_go_on, forgotten_beginnings_are_common,
     stable_beginnings_stay, trimmed_certificates_are_valid,
