@@ -17,7 +17,7 @@ use Rattle.ab_abs.specs.Rules.{Held, IsValidCert}
 use Rattle.ab_abs.proofs.Certified.{all_of}
 use Rattle.ab_abs.proofs.Voters.{faulty_few}
 use Rattle.ab_stable.specs.Certs.{Stated, AreTold, IsWholeCert}
-use Rattle.ab_stable.specs.Instances.{IsTrimmedCert, MeetsForgetting, faulty_in, whole_claims}
+use Rattle.ab_stable.specs.CertActs.{IsTrimmedCert, MeetsForgetting, faulty_in, whole_claims}
 use Rattle.ab_stable.proofs.WholeCerts.{whole_cert}
 
 map_after : {A B C : Type 0} (f : A → B) (g : B → C) (xs : List A) → map g (map f xs) ≡ map (λ x. g (f x)) xs

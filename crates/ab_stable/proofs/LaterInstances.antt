@@ -12,7 +12,7 @@ use Rattle.ab_abs.specs.declared.seen.Seen.{Seen}
 use Rattle.ab_abs.specs.declared.seen.Seen.TheVariants.{Init}
 use Rattle.ab_abs.specs.Instances.{EachIsAbstract, EachInitHasCert}
 use Rattle.ab_abs.specs.Observations.{IsCertHistory, IsInitHistory}
-use Rattle.ab_stable.specs.Instances.{IsForgotten, settled, brought}
+use Rattle.ab_stable.specs.Forgotten.{IsForgotten, settled, brought}
 
 module _ {S : Type 0} (machine : Machine S) (seen : List Seen) (named : ℕ → ℕ → List ℕ → List Request) (faulty : List Party) (each : EachIsAbstract machine seen named faulty) (entered : EachInitHasCert seen)
     (i : ℕ) (front : List Request) (one : 1 ≤ i) (begins : (h : List Request) → IsCertHistory seen i h → IsPrefix front h) where

@@ -7,6 +7,7 @@ pub mod Fronts
 pub mod CertActs
 pub mod MarkedActs
 pub mod LaterInstances
+pub mod Reasons
 pub mod NamedLists
 pub mod DueMarks
 pub mod AnswerLaws

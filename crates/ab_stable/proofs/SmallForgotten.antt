@@ -9,7 +9,7 @@ use Rattle.ab_abs.specs.declared.seen.Seen.{Seen}
 use Rattle.ab_abs.specs.declared.seen.Seen.TheVariants.{Invoked, Init, Cert, Committed}
 use Rattle.ab_abs.specs.Examples.{two_instances}
 use Rattle.ab_abs.specs.Observations.{IsCertHistory}
-use Rattle.ab_stable.specs.Instances.{IsForgotten, settled, brought}
+use Rattle.ab_stable.specs.Forgotten.{IsForgotten, settled, brought}
 
 module _ (a b c : Request) (d : List ℕ) (reply : Reply) where
   abbrev seen : List Seen

@@ -11,7 +11,8 @@ use Rattle.ab_abs.specs.SmallActs.{small, small_acts, holding, asks_for, aborts_
 use Rattle.ab_abs.proofs.Witness.{witness, cert_is_made}
 use Rattle.ab_stable.specs.Stable.{HasFront}
 use Rattle.ab_stable.specs.Leaving.{Leaves, nothing, kept, marks, forgets}
-use Rattle.ab_stable.specs.Instances.{AreMarked, AreAllThere}
+use Rattle.ab_abs.specs.Rules.{IsSound}
+use Rattle.ab_stable.specs.MarkedActs.{AreMarked, AreActsWithMarks, AreAllThere, IsStable}
 use Rattle.ab_stable.specs.SmallMarks.{tag_of, is_tag, marks_small, marked_once, marked_twice, marked_thrice, marked_early, marked_aborted, marked_acts}
 
 module _ {S : Type 0} (machine : Machine S) (m : Request) where
@@ -24,10 +25,10 @@ module _ {S : Type 0} (machine : Machine S) (m : Request) where
       forgets 0 _ _ (marks 3 (tag_of 3 1 (digest_of (m ∷ []))) _ _ refl (marks 2 (tag_of 2 1 (digest_of (m ∷ []))) _ _ refl
       (marks 1 (tag_of 1 1 (digest_of (m ∷ []))) _ _ refl (marks 0 (tag_of 0 1 (digest_of (m ∷ []))) _ _ refl committed_left))))
 
-  pub leaves : Leaves is_tag (marked_acts machine m) (small_acts machine m)
+  leaves : Leaves is_tag (marked_acts machine m) (small_acts machine m)
   leaves = kept _ _ _ (kept _ _ _ (kept _ _ _ (kept _ _ _ (kept _ _ _ (kept _ _ _ (kept _ _ _ early_left))))))
 
-  pub honest : NoCollision (histories (small_acts machine m)) → SlotsApart (histories (small_acts machine m)) (requests (small_acts machine m)) → IsHonest small (marked_acts machine m)
+  honest : NoCollision (histories (small_acts machine m)) → SlotsApart (histories (small_acts machine m)) (requests (small_acts machine m)) → IsHonest small (marked_acts machine m)
   honest apart slots =
       let committed : IsHonest small (committed_acts machine m) = (witness machine m apart slots).premises.honest.1.1.1.1.1.1.1 in (
         λ c has _. cert_is_made machine m (marked_aborted machine m) (2, omega arith, refl) (1, omega arith, refl) (0, omega arith, refl) c has,
@@ -101,7 +102,7 @@ module _ {S : Type 0} (machine : Machine S) (m : Request) where
     ),
   )
 
-  pub marked : AreMarked tag_of (marked_acts machine m)
+  marked : AreMarked tag_of (marked_acts machine m)
   marked = (
     λ r n d has. absurd (Contains-none (tag_of r n d) has),
     (
@@ -119,9 +120,22 @@ module _ {S : Type 0} (machine : Machine S) (m : Request) where
   made_by : (r : ℕ) → Contains (marked_acts machine m) (marks_small machine m r) → WasMade (marked_acts machine m) (tag_of r 1 (digest_of (m ∷ [])))
   made_by r has = (marks_small machine m r, has, Contains-head (tag_of r 1 (digest_of (m ∷ []))) [])
 
-  pub all : AreAllThere small tag_of (marked_acts machine m) 1 (digest_of (m ∷ []))
+  all : AreAllThere small tag_of (marked_acts machine m) 1 (digest_of (m ∷ []))
   all zero lt = inr (made_by 0 (11, omega arith, refl))
   all (suc zero) lt = inr (made_by 1 (10, omega arith, refl))
   all (suc (suc zero)) lt = inr (made_by 2 (9, omega arith, refl))
   all (suc (suc (suc zero))) lt = inr (made_by 3 (8, omega arith, refl))
   all (suc (suc (suc (suc r)))) lt = absurd (omega (arith, lt))
+
+  pub with_marks : NoCollision (histories (small_acts machine m)) → SlotsApart (histories (small_acts machine m)) (requests (small_acts machine m)) → AreActsWithMarks (IsSound machine small) small is_tag tag_of (marked_acts machine m)
+  with_marks apart slots = record {
+    bare = small_acts machine m;
+    left = leaves;
+    sound = witness machine m apart slots;
+    honest = honest apart slots;
+    owned = λ r n d. refl;
+    marked = marked;
+  }
+
+  pub stable : IsStable small tag_of (marked_acts machine m) (m ∷ [])
+  stable = record { number = 1; digest = digest_of (m ∷ []); all = all; holder = 0; within = omega arith; correct = refl; reaches = omega arith; is_front = refl }

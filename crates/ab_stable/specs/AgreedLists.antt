@@ -9,7 +9,7 @@ pub record Point : Type 0 where
   pub number : ℕ
   pub digest : List ℕ
 
--- the n th point that the list shows, counted from the one where it starts
+-- the point that the list shows behind n of its rest
 abbrev pub point_of : Trimmed → ℕ → Point
 point_of t n = record { number = t.start + n; digest = digest_at t (t.start + n) }
 
@@ -21,7 +21,7 @@ is_beyond n (Some p) = nat_lt p.number n
 abbrev pub farther : ℕ → List Trimmed → Point → Option Point → Option Point
 farther q ts p best = if nat_le q (point_holders ts p.number p.digest) && is_beyond p.number best then Some p else best
 
--- the best of the first points of t, up to the n th, and one that is given
+-- the best of the points of t up to that behind n of its rest, and one that is given
 abbrev pub best_point : ℕ → List Trimmed → Trimmed → ℕ → Option Point → Option Point
 best_point q ts t zero best = farther q ts (point_of t 0) best
 best_point q ts t (suc n) best = farther q ts (point_of t (suc n)) (best_point q ts t n best)

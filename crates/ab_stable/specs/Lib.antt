@@ -5,7 +5,9 @@ pub mod Certs
 pub mod Answers
 pub mod Checkpoints
 pub mod Leaving
-pub mod Instances
+pub mod CertActs
+pub mod MarkedActs
+pub mod Forgotten
 pub mod Wholes
 pub mod SmallVotes
 pub mod SmallMarks

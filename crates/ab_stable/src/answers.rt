@@ -1,4 +1,4 @@
-//! What a replica answers that has forgotten the first entries of its log.
+//! What a replica answers that forgot the first entries of its log.
 
 ghost use Rattle.std.specs.Prelude.{◌≡◌, ℕ, ◌≤◌, Some, List, length};
 ghost use Rattle.ab_hist.specs.declared.request.Request.{Request};
@@ -9,8 +9,8 @@ ghost use Rattle.ab_stable.specs.Answers.{answer_from, logged_from, IsVoteFrom};
 
 use ab_svc::Service;
 
-/// An answer is right for the whole log, and its number is one whose digest is still shown. Where
-/// nothing is forgotten the rule is the answer rule.
+/// An answer is right for the whole log, and its number is one whose digest the list still shows. If
+/// nothing is forgotten, the rule is today's answer rule.
 pub fn answers_are_right<S: Service>()
     ensures right { (n b : ℕ) (log : List Request) (m : Request) (vote : VoteOf) → b ≤ length log → n ≤ length log → answer_from S.machine n b log m ≡ Some vote → IsVoteFrom S.machine n b (logged_from n log m) m vote }
     ensures rises { (n : ℕ) (log : List Request) (m : Request) → IsHistory log → IsHistory (logged_from n log m) }

@@ -9,13 +9,14 @@ ghost use Rattle.ab_trim.specs.Trimmed.{untrimmed};
 ghost use Rattle.ab_trim.specs.Links.{AreApart};
 ghost use Rattle.ab_trim.specs.Points.{IsAgreedList};
 ghost use Rattle.ab_abs.specs.declared.seen.Seen.TheVariants.{Committed};
-ghost use Rattle.ab_abs.specs.Acts.{IsHonest, histories, requests, SlotsApart};
+ghost use Rattle.ab_abs.specs.Acts.{histories, requests, SlotsApart};
 ghost use Rattle.ab_abs.specs.Examples.{first_of, two_instances};
+ghost use Rattle.ab_abs.specs.Rules.{IsSound};
 ghost use Rattle.ab_abs.specs.SmallActs.{small, small_acts};
 ghost use Rattle.ab_stable.specs.AgreedLists.{agreed_list};
 ghost use Rattle.ab_stable.specs.Certs.{AreKnown, AreTold, lists_of};
-ghost use Rattle.ab_stable.specs.Leaving.{Leaves};
-ghost use Rattle.ab_stable.specs.Instances.{AreMarked, AreAllThere, IsForgotten};
+ghost use Rattle.ab_stable.specs.MarkedActs.{AreActsWithMarks, IsStable};
+ghost use Rattle.ab_stable.specs.Forgotten.{IsForgotten};
 ghost use Rattle.ab_stable.specs.SmallVotes.{small_bad, small_logs, small_votes, small_links};
 ghost use Rattle.ab_stable.specs.SmallMarks.{tag_of, is_tag, marked_acts};
 
@@ -52,12 +53,12 @@ pub fn small_certificates_are_known()
     ensures agreed { (a b c : Request) → IsAgreedList 2 (lists_of (small_votes a b c)) (untrimmed (a ∷ b ∷ [])) }
 {}
 
-/// A run in which each replica makes a CHECKPOINT of its first entry meets what is asked for it to stay.
+/// In the small run, each replica makes a CHECKPOINT of the one entry of its log, and replica 0 then
+/// forgets it: the entry is stable.
 pub fn small_checkpoints_are_there<S: Service>()
-    ensures leaves { (m : Request) → Leaves is_tag (marked_acts S.machine m) (small_acts S.machine m) }
-    ensures honest { (m : Request) → NoCollision (histories (small_acts S.machine m)) → SlotsApart (histories (small_acts S.machine m)) (requests (small_acts S.machine m)) → IsHonest small (marked_acts S.machine m) }
-    ensures marked { (m : Request) → AreMarked tag_of (marked_acts S.machine m) }
-    ensures all { (m : Request) → AreAllThere small tag_of (marked_acts S.machine m) 1 (digest_of (m ∷ [])) }
+    ensures acts { (m : Request) → NoCollision (histories (small_acts S.machine m)) → SlotsApart (histories (small_acts S.machine m)) (requests (small_acts S.machine m))
+        → AreActsWithMarks (IsSound S.machine small) small is_tag tag_of (marked_acts S.machine m) }
+    ensures stable { (m : Request) → IsStable small tag_of (marked_acts S.machine m) (m ∷ []) }
 {}
 
 /// In a run of two instances whose certificates of instance 1 have three requests, two of these may be

@@ -1,5 +1,5 @@
 use Rattle.ab_stable.proofs.LaterInstances.{forgotten_begins, forgotten_entered}
-use Rattle.ab_stable.proofs.instances.forgotten_beginnings_are_common.Goals as goal
+use Rattle.ab_stable.proofs.runs.forgotten_beginnings_are_common.Goals as goal
 
 pub returns : goal.returns
 returns g c = record {
