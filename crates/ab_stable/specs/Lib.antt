@@ -1,0 +1,13 @@
+-- What lists that forgot their first entries say of certificates, instances and runs.
+pub mod Stable
+pub mod AgreedLists
+pub mod Certs
+pub mod Answers
+pub mod Checkpoints
+pub mod Leaving
+pub mod CertActs
+pub mod MarkedActs
+pub mod Forgotten
+pub mod Wholes
+pub mod SmallVotes
+pub mod SmallMarks

@@ -1,0 +1,33 @@
+//! Lists that forgot their first entries, and what they say of certificates, instances and runs: laws
+//! alone. A CHECKPOINT is what a replica states of the first entries of its log, by their number and
+//! digest; these entries are stable once all replicas have stated so. No program makes one yet.
+#![tactic(auto)]
+
+mod acts;
+mod answers;
+mod certs;
+mod checkpoints;
+mod examples;
+mod points;
+mod runs;
+mod wholes;
+
+pub use acts::{
+    checkpoints_can_be_left_out, common_beginnings_are_certified, stable_beginnings_are_certified,
+    stable_beginnings_are_kept, stable_beginnings_stay, trimmed_certificates_are_valid,
+};
+pub use answers::answers_are_right;
+pub use certs::{
+    certificates_are_whole, enough_lists_share_a_point, equal_lists_are_whole,
+    stable_fronts_are_common,
+};
+pub use checkpoints::{due_checkpoints_are_of_the_log, stable_beginnings_are_marked};
+pub use examples::{
+    small_beginnings_are_forgotten, small_certificates_are_known, small_checkpoints_are_there,
+    two_trimmed_lists_agree, two_whole_lists_agree,
+};
+pub use points::{agreed_lists_are_found, whole_lists_agree_by_points};
+pub use runs::{
+    common_beginnings_go_on, forgotten_beginnings_are_common, reasoned_lists_are_forgotten,
+};
+pub use wholes::{named_lists_are_whole, whole_places_are_states};
