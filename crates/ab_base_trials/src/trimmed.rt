@@ -1,12 +1,16 @@
 //! Lists that forget their first entries, beside a history of the same requests.
 
+ghost use Rattle.std.specs.Prelude.{◌≡◌, ◌<◌};
+
 use ab_hist::{History, PushFault, Request};
 use ab_trim::Trimmed;
 use arrayvec::ArrayVec;
 use std::alloc::Global;
 use std::process::Abort;
 
-fn request(client: u16, stamp: u64) -> Request {
+fn request(client: u16, stamp: u64) -> Request
+    ensures { result.client ≡ client }
+{
     let command = ArrayVec::new();
     Request {
         client,
@@ -16,7 +20,9 @@ fn request(client: u16, stamp: u64) -> Request {
 }
 
 /// The request at place `k` of the lists here, of one of three clients.
-fn nth(k: u64) -> Request {
+fn nth(k: u64) -> Request
+    ensures { result.client < 16 }
+{
     request((k % 3) as u16, k)
 }
 
@@ -104,7 +110,16 @@ fn last_requests_are_known(rt: HostRuntime) {
 #[test]
 fn lists_are_cut_and_go_on(rt: HostRuntime) {
     let alloc = rt.alloc();
-    for (start, end) in [(0, 0), (0, 64), (0, 100), (70, 70), (70, 90), (70, 128), (70, 140), (128, 140)] {
+    for (start, end) in [
+        (0, 0),
+        (0, 64),
+        (0, 100),
+        (70, 70),
+        (70, 90),
+        (70, 128),
+        (70, 140),
+        (128, 140),
+    ] {
         let mut list = list_of(&rt, alloc, 200);
         let mut other = list.copy(alloc).expect(&rt, "memory");
         assert!(rt; list.start() <= start && start <= list.len());
@@ -151,4 +166,87 @@ fn no_list_has_more_entries(rt: HostRuntime) {
     let mut full = Trimmed::begin(alloc, 65_535, [5; 32]);
     assert!(rt; !full.can_push(&request(3, 9)));
     assert!(rt; full.push(alloc, request(3, 9)) == Err(PushFault::Full));
+}
+
+#[test]
+fn prefixes_have_one_beginning(rt: HostRuntime) {
+    let alloc = rt.alloc();
+    let long = list_of(&rt, alloc, 200);
+    let mut short = long.copy(alloc).expect(&rt, "memory");
+    assert!(rt; short.is_equal(&long) && short.is_prefix_of(&long));
+    assert!(rt; short.start() <= 130 && 130 <= short.len());
+    short.cut(130);
+    assert!(rt; short.is_prefix_of(&long) && !long.is_prefix_of(&short) && !short.is_equal(&long));
+    let mut other = long.copy(alloc).expect(&rt, "memory");
+    assert!(rt; other.start() <= 70 && 70 <= other.len());
+    other.forget(70);
+    assert!(rt; !short.is_prefix_of(&other) && !long.is_equal(&other));
+    assert!(rt; short.start() <= 70 && 70 <= short.len());
+    short.forget(70);
+    assert!(rt; short.is_prefix_of(&other) && !other.is_prefix_of(&short));
+    // The same entries in other chunks.
+    let mut read = Trimmed::begin(alloc, 70, other.digest());
+    grow(&rt, alloc, &mut read, 70, 200);
+    assert!(rt; read.is_equal(&other) && other.is_equal(&read) && short.is_prefix_of(&read));
+    assert!(rt; read.push(alloc, request(9, 1)) == Ok(()));
+    assert!(rt; other.push(alloc, request(9, 2)) == Ok(()));
+    assert!(rt; !read.is_equal(&other) && !read.is_prefix_of(&other));
+}
+
+/// The list that two replicas agree on begins where the one that forgot more does, and knows what its own does.
+#[test]
+fn offered_lists_are_grounded(rt: HostRuntime) {
+    let alloc = rt.alloc();
+    let history = history_of(&rt, alloc, 250);
+    let whole = list_of(&rt, alloc, 200);
+    assert!(rt; history.len() == 250);
+    let mut offered = Trimmed::begin(alloc, 100, history.digest_at(100));
+    grow(&rt, alloc, &mut offered, 100, 250);
+    assert!(rt; offered.place_of(&nth(99)) == None);
+    // The own list shows where the offered one begins.
+    let told = whole
+        .grounded(alloc, &offered)
+        .expect(&rt, "memory")
+        .expect(&rt, "a list");
+    expect_same(&rt, &told, &history, 100);
+    assert!(rt; told.place_of(&nth(99)) == Some(99) && told.place_of(&nth(97)) == None);
+    // The offered list shows where the own one begins.
+    let mut later = list_of(&rt, alloc, 200);
+    assert!(rt; later.start() <= 150 && 150 <= later.len());
+    later.forget(150);
+    let told = later
+        .grounded(alloc, &offered)
+        .expect(&rt, "memory")
+        .expect(&rt, "a list");
+    expect_same(&rt, &told, &history, 150);
+    assert!(rt; told.place_of(&nth(149)) == Some(149) && told.place_of(&nth(147)) == None);
+    // Neither shows where the other begins.
+    let strange = Trimmed::begin(alloc, 100, [7; 32]);
+    assert!(rt;
+        whole
+            .grounded(alloc, &strange)
+            .expect(&rt, "memory")
+            .is_none()
+    );
+    let short = list_of(&rt, alloc, 50);
+    assert!(rt;
+        short
+            .grounded(alloc, &offered)
+            .expect(&rt, "memory")
+            .is_none()
+    );
+}
+
+/// A list that knows nothing of the first entries can be asked for them, and forgets and gets others.
+#[test]
+fn unknown_beginnings_are_kept_by_digest(rt: HostRuntime) {
+    let alloc = rt.alloc();
+    let history = history_of(&rt, alloc, 250);
+    assert!(rt; history.len() == 250);
+    let mut read = Trimmed::begin(alloc, 10, history.digest_at(10));
+    grow(&rt, alloc, &mut read, 10, 250);
+    expect_same(&rt, &read, &history, 10);
+    assert!(rt; read.start() <= 77 && 77 <= read.len());
+    read.forget(77);
+    expect_same(&rt, &read, &history, 77);
 }

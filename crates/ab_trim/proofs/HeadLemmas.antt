@@ -1,11 +1,10 @@
 -- What is left of a chunk whose first entries are forgotten.
-use Rattle.std.proofs.Common.{◌≡◌, ℕ, ◌+◌, ◌-◌, ◌≤◌, List, Contains, Some, slice_get, get_or, length, take, drop, arith, sym, ◌∙◌, ap, refl, subst}
+use Rattle.std.proofs.Common.{◌≡◌, ℕ, ◌+◌, ◌-◌, ◌≤◌, List, Contains, Some, slice_get, get_or, take, drop, arith, sym, ◌∙◌, ap, refl, subst}
 use Rattle.std.proofs.lemmas.List.{length-drop, get_or-drop}
 use Rattle.std.proofs.lemmas.Option.{get_or_from_slice_get}
 use Rattle.ab_hist.specs.declared.request.Request.{Request}
 use Rattle.ab_hist.specs.Histories.{IsHistory, Precedes}
 use Rattle.ab_hist.specs.Chunks.{Chunk, digest_from}
-use Rattle.ab_trim.specs.Chained.{IsHidden}
 use Rattle.ab_trim.proofs.ChunkLemmas.{take_add, digest_on}
 
 -- the digest of the first n entries behind those that are forgotten

@@ -13,9 +13,10 @@ use Rattle.ab_hist.specs.Requests.{request_eq}
 use Rattle.ab_hist.specs.Histories.{IsHistory, Precedes, may_follow, place_in, can_push}
 use Rattle.ab_hist.proofs.RequestLemmas.{request_eq-Decides, place_in-none}
 use Rattle.ab_hist.proofs.KeptLemmas.{history-take}
+use Rattle.ab_trim.specs.Trimmed.{digest_at}
 use Rattle.ab_trim.specs.Known.{known_place, can_push_after, Last, last_from, last_of, Log, IsLogOf, place_of_last, place_behind, place_by, follows_last, can_push_by, forget_log}
 use Rattle.ab_trim.proofs.Chains.{Contains-head, Contains-tail, Contains-cons_cases}
-use Rattle.ab_trim.proofs.Stands.{ends, forgets, front_split}
+use Rattle.ab_trim.proofs.Stands.{ends, digests, forgets, front_split}
 
 -- ---- the last request of a client
 
@@ -348,6 +349,26 @@ same_push h m = by_room (nat_lt (length h) 1024) refl
     by_room false is =
         let full : nat_lt (length h) (0 + 1024) ≡ false = grind (arith, nat_tests, is) in
         ap (λ b. b && (nat_lt (length h) 65535 && list_all (may_follow m) h)) full ∙ sym (ap (λ b. b && list_all (may_follow m) h) is)
+
+-- two logs of one history
+module _ (m : Request) (n : ℕ) (l k : Log) (h : List Request) (l_is : IsLogOf l h) (k_is : IsLogOf k h) (history : IsHistory h) (le : k.list.start ≤ l.list.start) where
+  fewer_tests : list_all (later_test m) (take l.list.start h) ≡ true → list_all (later_test m) (take k.list.start h) ≡ true
+  fewer_tests is =
+      let front = take k.list.start h in
+      let more = take (l.list.start - k.list.start) (drop k.list.start h) in
+      (and_parts (list_all (later_test m) front) (list_all (later_test m) more) (sym (all-append (later_test m) front more) ∙ (ap (list_all (later_test m)) (sym (front_split k.list.start l.list.start h le)) ∙ is))).0
+
+  known_with : (b : Bool) → list_all (later_test m) (take l.list.start h) ≡ b → (if list_all (later_test m) (take l.list.start h) then place_in h m else None) ≡ Some n → place_by k m ≡ Some n
+  known_with true is at =
+      places_agree m k h k_is history
+      ∙ (ap (λ b. if b then place_in h m else None) (fewer_tests is) ∙ (sym (ap (λ b. if b then place_in h m else None) is) ∙ at))
+  known_with false is at = absurd (let two : None ≡ Some n = sym (ap (λ b. if b then place_in h m else None) is) ∙ at in cc (two))
+
+  pub known_by_less : place_by l m ≡ Some n → place_by k m ≡ Some n
+  known_by_less at = known_with (list_all (later_test m) (take l.list.start h)) refl (sym (places_agree m l h l_is history) ∙ at)
+
+pub same_digests : (n : ℕ) (l k : Log) (h : List Request) → IsLogOf l h → IsLogOf k h → l.list.start ≤ n → k.list.start ≤ n → digest_at l.list n ≡ digest_at k.list n
+same_digests n l k h l_is k_is above also = digests l.list h l_is.stands n above ∙ sym (digests k.list h k_is.stands n also)
 
 -- a log that forgets more is that of the same history
 pub log_forgets : (n : ℕ) (l : Log) (h : List Request) → IsLogOf l h → l.list.start ≤ n → n ≤ length h → IsLogOf (forget_log n l) h

@@ -1,13 +1,12 @@
 -- The last requests of clients, as more entries are noted.
 use Rattle.std.proofs.Common.{◌≡◌, ℕ, zero, suc, ◌+◌, ◌-◌, ◌<◌, Option, Some, None, List, [], ◌∷◌, ◌++◌, length, take, set, slice_get, get_or, replicate, arith, sym, ◌∙◌, ap, refl, subst}
-use Rattle.std.proofs.lemmas.List.{length-set, length-take, take_more, get_or-set_same, get_or-set_other}
+use Rattle.std.proofs.lemmas.List.{length-set, length-take, get_or-set_same, get_or-set_other}
 use Rattle.std.specs.Prelude.{All, Bool, true, false, nat_eq, if◌then◌else◌}
 use Rattle.std.proofs.lemmas.Bool.Decides.{nat_tests}
 use Rattle.std.proofs.lemmas.List.Elements.{All-head, All-tail}
-use Rattle.std.proofs.lemmas.Option.{slice_get_within, get_or_from_slice_get}
 use Rattle.ab_hist.specs.declared.request.Request.{Request}
 use Rattle.ab_trim.proofs.RestLemmas.{place_more}
-use Rattle.ab_trim.specs.Known.{Last, last_from}
+use Rattle.ab_trim.specs.Known.{last_from}
 use Rattle.ab_trim.specs.Logs.{as_last, last_at, noted, padded}
 
 pub noted-push : (n : ℕ) (h : List Request) (m : Request) (lasts : List (Option (ℕ × Request))) → noted n (h ++ m ∷ []) lasts ≡ set (noted n h lasts) m.client (Some (n + length h + 1, m))

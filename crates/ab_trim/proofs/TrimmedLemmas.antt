@@ -1,5 +1,5 @@
 -- What stays of a trimmed list's keeping, as it changes.
-use Rattle.std.proofs.Common.{◌≡◌, ℕ, ◌+◌, ◌-◌, ◌<◌, ◌≤◌, Bool, true, false, Option, Some, Ok, Err, OnOk, OnErr, IsTrue, ◌↔◌, List, [], ◌∷◌, ◌++◌, length, take, drop, arith, sym, ◌∙◌, ap, refl, subst, inl, inr, length-append}
+use Rattle.std.proofs.Common.{◌≡◌, ℕ, ◌+◌, ◌-◌, ◌<◌, ◌≤◌, Bool, true, false, Option, Ok, Err, OnOk, OnErr, IsTrue, ◌↔◌, List, [], ◌∷◌, length, take, arith, sym, ◌∙◌, ap, subst, inl, inr, length-append}
 use Rattle.std.specs.Prelude.{All, Result}
 use Rattle.std.proofs.lemmas.Bool.{cases_lt}
 use Rattle.std.proofs.lemmas.List.{length-take, length-drop}

@@ -1,5 +1,5 @@
 -- Logs as they are kept: trimmed lists, and the last requests of at most 16 clients.
-use Rattle.std.specs.Prelude.{◌≡◌, ℕ, ◌+◌, ◌-◌, ◌<◌, ◌≤◌, List, [], ◌∷◌, ◌++◌, All, length, take, set, get_or, replicate, Option, None, Some, ◌⊎◌, Bool, ◌&&◌}
+use Rattle.std.specs.Prelude.{◌≡◌, ℕ, ◌+◌, ◌-◌, ◌<◌, ◌≤◌, List, [], ◌∷◌, All, length, take, set, get_or, replicate, Option, None, Some, ◌⊎◌, Bool, ◌&&◌}
 use Rattle.std.specs.List.{list_all}
 use Rattle.ab_hist.specs.declared.request.Request.{Request}
 use Rattle.ab_hist.specs.Histories.{IsHistory, may_follow}

@@ -10,7 +10,10 @@ mod points;
 mod rest;
 mod trimmed;
 
-pub use known::{nothing_forgotten_all_known, requests_are_known, unknown_requests_stay_out};
+pub use known::{
+    logs_of_one_history_agree, nothing_forgotten_all_known, requests_are_known,
+    unknown_requests_stay_out,
+};
 pub use lists::{
     grounded_lists_are_whole, links_are_histories, lists_stand_for_one_history, lists_stay,
 };

@@ -1,4 +1,4 @@
-use Rattle.std.proofs.Common.{◌≡◌, ◌+◌, ◌-◌, ◌*◌, drop, length, slice_get, Some, ap, arith, sym, ◌∙◌, refl, subst, Contains}
+use Rattle.std.proofs.Common.{◌≡◌, ◌+◌, ◌-◌, ◌*◌, drop, length, slice_get, ap, arith, sym, ◌∙◌, refl, subst, Contains}
 use Rattle.std.proofs.lemmas.Option.{slice_get_read, slice_get_within}
 use Rattle.ab_hist.specs.Chunks.{entries_of}
 use Rattle.ab_trim.proofs.ChunkLemmas.{chunk_room, entry_in, entries_behind, none_more}

@@ -1,4 +1,4 @@
-use Rattle.std.proofs.Common.{◌≡◌, ◌-◌, arith, ap, sym, ◌∙◌, subst}
+use Rattle.std.proofs.Common.{arith, ap, sym, ◌∙◌, subst}
 use Rattle.ab_hist.specs.Chunks.{front}
 use Rattle.ab_trim.specs.Chained.{AreJoined}
 use Rattle.ab_trim.specs.contracts.rest.Rest.{the_view}

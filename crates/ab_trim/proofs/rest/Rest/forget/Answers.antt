@@ -1,4 +1,4 @@
-use Rattle.std.proofs.Common.{◌≡◌, ◌++◌, arith, ap, sym, ◌∙◌, subst}
+use Rattle.std.proofs.Common.{arith, ap, sym, ◌∙◌, subst}
 use Rattle.ab_trim.specs.Chained.{AreJoined, behind}
 use Rattle.ab_trim.proofs.RestLemmas.{digest_past, drop_past, forgot_joined, took_joined}
 use Rattle.ab_trim.proofs.rest.Rest.forget.Goals as goal

@@ -1,4 +1,4 @@
-use Rattle.std.proofs.Common.{◌≡◌, ◌+◌, ◌≤◌, length, arith, ap, sym, ◌∙◌}
+use Rattle.std.proofs.Common.{◌+◌, ◌≤◌, length, arith, ap, sym, ◌∙◌}
 use Rattle.ab_trim.specs.Trimmed.{end_of}
 use Rattle.ab_trim.specs.Known.{forget_log}
 use Rattle.ab_trim.specs.Logs.{log_of, trim_log}
