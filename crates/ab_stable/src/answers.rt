@@ -1,4 +1,4 @@
-//! What a replica answers that forgot the first entries of its log.
+//! Answers of a replica that forgot the first entries of its log.
 
 ghost use Rattle.std.specs.Prelude.{◌≡◌, ℕ, ◌≤◌, Some, List, length};
 ghost use Rattle.ab_hist.specs.declared.request.Request.{Request};

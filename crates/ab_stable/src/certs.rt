@@ -18,7 +18,7 @@ pub fn certificates_are_whole()
         → (h : List Request) × IsWholeCert f bad log links votes t h }
 {}
 
-/// f + 1 of such lists share a point, so there is a list that they agree on.
+/// f + 1 of such lists share a point, so they agree on a list.
 pub fn enough_lists_share_a_point()
     ensures { (f : ℕ) (bad : ℕ → Bool) (log : ℕ → List Request) (links : List (List ℕ × Request)) (votes : List Stated)
         → length votes ≡ 2 * f + 1 → AreKnown f bad log votes → AreTold links bad log votes → (n : ℕ) × (d : List ℕ) × (f + 1 ≤ point_holders (lists_of votes) n d) }

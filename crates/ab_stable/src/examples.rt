@@ -22,8 +22,8 @@ ghost use Rattle.ab_stable.specs.SmallMarks.{tag_of, is_tag, marked_acts};
 
 use ab_svc::Service;
 
-/// What two of three lists agree on that forgot nothing: if they part after the first request, that
-/// request; if two are equal, all of it.
+/// What two of three lists agree on, none of which forgot anything: if they part after the first
+/// request, that request; if two are equal, all of it.
 pub fn two_whole_lists_agree()
     ensures on_first { (x y z : ArrayVec ℕ) → let a = first_of 0 x in let b = first_of 1 y in let c = first_of 2 z in let hs : List (List Request) = (a ∷ b ∷ []) ∷ (a ∷ c ∷ []) ∷ (a ∷ []) ∷ [] in
         NoCollision hs → agreed_list 2 (map untrimmed hs) ≡ Some (untrimmed (a ∷ [])) }
@@ -31,9 +31,9 @@ pub fn two_whole_lists_agree()
         NoCollision hs → agreed_list 2 (map untrimmed hs) ≡ Some (untrimmed (a ∷ b ∷ [])) }
 {}
 
-/// What two of three lists agree on that forgot five requests, two and none. If the first two end at
-/// one point, it is the second list; if the last two do, the third; and if no two share a point, there
-/// is none.
+/// The first of three lists forgot five requests, the second two, and the third none. If the first two
+/// end at one point, two of the three agree on the second list; if the last two do, on the third. If no
+/// two share a point, they agree on none.
 pub fn two_trimmed_lists_agree()
     ensures on_late { (a b c e : Request) (d : List ℕ) → let end = link (link (link d a) b) c in
         agreed_list 2 (record { start = 5; digest = end; rest = [] } ∷ record { start = 2; digest = d; rest = a ∷ b ∷ c ∷ [] } ∷ untrimmed (e ∷ []) ∷ [])
@@ -45,8 +45,8 @@ pub fn two_trimmed_lists_agree()
         agreed_list 2 (record { start = 5; digest = d; rest = [] } ∷ record { start = 2; digest = e; rest = a ∷ [] } ∷ untrimmed (b ∷ []) ∷ []) ≡ None }
 {}
 
-/// Three lists meet what is asked of those of a certificate, and two of them agree: a correct replica's
-/// forgot a request, the other correct one's forgot nothing, and the third is a faulty replica's.
+/// Three lists meet what is asked of the lists of a certificate, and two of them agree. One correct
+/// replica's list forgot a request, the other's forgot nothing, and the third is a faulty replica's.
 pub fn small_certificates_are_known()
     ensures known { (a b c : Request) → AreKnown 1 small_bad (small_logs a b c) (small_votes a b c) }
     ensures told { (a b c : Request) → AreApart (small_links a b c) → AreTold (small_links a b c) small_bad (small_logs a b c) (small_votes a b c) }

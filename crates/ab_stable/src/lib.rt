@@ -29,5 +29,6 @@ pub use examples::{
 pub use points::{agreed_lists_are_found, whole_lists_agree_by_points};
 pub use runs::{
     common_beginnings_go_on, forgotten_beginnings_are_common, reasoned_lists_are_forgotten,
+    replicas_forget_what_is_common,
 };
 pub use wholes::{named_lists_are_whole, whole_places_are_states};
