@@ -18,6 +18,8 @@ if the replay doesn't commit exactly what the nodes did, or says anything but `p
 
 import contextlib
 import functools
+import hashlib
+import hmac
 import itertools
 import os
 import pathlib
@@ -44,6 +46,16 @@ KEPT = []
 ANSWERED, SPENT = 0, 8
 # How often noise is made and a stop is thought of.
 PAUSE = 0.005
+
+
+def bytes_of(party):
+    return bytes([party[0] == "c"]) + int(party[1:]).to_bytes(2, "big")
+
+
+def tag_of(maker, receiver, content):
+    """The tag of a party for another over a content, in a cluster with the seed of zeros."""
+    key = hashlib.sha256(b"\x02" + bytes.fromhex(SEED) + bytes_of(maker) + bytes_of(receiver)).digest()
+    return hmac.digest(key, content, "sha256")
 
 
 def bound(port):
