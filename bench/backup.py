@@ -10,21 +10,30 @@ program. With trees of height 10, as without `--lms`, a replica can sign 1,024 t
 enough for some 900. With `--lms 20` it signs in two levels and goes on, until the bytes of
 all packets reach the limit of a replay.
 
-How many packets a round sends is learned from the program, round by round, which takes some minutes."""
+How many packets a round sends is learned from the program first, by seven replays."""
 
-from programs import need, parser_of
-from schedules import Schedule, head, packets_of
+import re
+import sys
+
+from programs import need, parser_of, ran
+from schedules import Schedule, deliveries, head, text_of
 from timing import time_replay
 
 CLIENTS = 16
+# So many packets a round doesn't send.
+MOST = 20_000
 
 
 def drain(made):
-    """Delivers all that is sent, until nothing more is. Returns how many packets that were."""
-    before = made.delivered
-    while waiting := packets_of(made.lines) - made.delivered:
-        made.deliver(waiting)
-    return made.delivered - before
+    """Delivers all that is sent, until nothing more is. Returns how many packets that were: the first line too many is refused."""
+    lines = [*made.lines, *deliveries(range(made.delivered + 1, made.delivered + MOST + 1))]
+    _, _, said = ran(["replay"], text_of(lines))
+    refused = re.fullmatch(rb"line (\d+): no packet\n", said)
+    if not refused:
+        sys.exit(f"more than {MOST} packets, or {said.decode()}")
+    packets = int(refused[1]) - 1 - len(made.lines)
+    made.deliver(packets)
+    return packets
 
 
 def invoke_at_once(made, clients=CLIENTS):

@@ -17,6 +17,9 @@ other than 0 and 8; if a replica ends that isn't stopped, or one isn't stopped t
 if the replay doesn't commit exactly what the nodes did, or says anything but `premise held`."""
 
 import contextlib
+import functools
+import hashlib
+import hmac
 import itertools
 import os
 import pathlib
@@ -45,6 +48,16 @@ ANSWERED, SPENT = 0, 8
 PAUSE = 0.005
 
 
+def bytes_of(party):
+    return bytes([party[0] == "c"]) + int(party[1:]).to_bytes(2, "big")
+
+
+def tag_of(maker, receiver, content):
+    """The tag of a party for another over a content, in a cluster with the seed of zeros."""
+    key = hashlib.sha256(b"\x02" + bytes.fromhex(SEED) + bytes_of(maker) + bytes_of(receiver)).digest()
+    return hmac.digest(key, content, "sha256")
+
+
 def bound(port):
     """A socket that has this port."""
     held = socket.socket(socket.AF_INET, socket.SOCK_DGRAM)
@@ -68,8 +81,18 @@ def free_base():
             return base
 
 
+@functools.cache
+def keys_of(party, clients, lms, seed):
+    """The keys of a party under Quorum. They take seconds, and are the same under each plan."""
+    words = ["--plan", "quorum", "--f", "1", "--clients", str(clients), "--service", "kv", "--lms", str(lms)]
+    words = [PROGRAM, "keys", *words, "--seed", seed, "--party", party]
+    return subprocess.run(words, capture_output=True, check=True, timeout=SECONDS).stdout
+
+
 class Cluster:
     """The nodes of a cluster with f 1, as processes whose lines go to one file."""
+
+    seed = SEED
 
     def __init__(self, folder, asked):
         self.folder, self.asked = pathlib.Path(folder), asked
@@ -88,22 +111,25 @@ class Cluster:
         """The folder of this party's journal."""
         return self.journals
 
+    def path_of(self, party):
+        """The file to which this party writes its lines."""
+        return self.lines
+
     def start(self, party, turns, wait):
         words = ["node", "--base", self.asked.base, "--wait", wait, "--turns", turns]
         if not self.asked.quiet:
             words.append("--trace")
         if self.journals:
             words += ["--journal", party]
-        with (self.folder / party).open("rb") as given, self.lines.open("ab") as taken:
+        with (self.folder / party).open("rb") as given, self.path_of(party).open("ab") as taken:
             self.nodes[party] = subprocess.Popen(
                 [PROGRAM, *map(str, words)], stdin=given, stdout=taken, stderr=subprocess.PIPE, cwd=self.folder_of(party)
             )
 
     def keys(self, party):
         asked = self.asked
-        words = ["--plan", asked.plan, "--f", "1", "--clients", str(asked.clients), "--service", "kv", "--lms", asked.lms]
-        words = [PROGRAM, "keys", *words, "--seed", SEED, "--party", party]
-        return subprocess.run(words, capture_output=True, check=True, timeout=SECONDS).stdout
+        text = keys_of(party, asked.clients, asked.lms, self.seed)
+        return text.replace(b"plan quorum\n", b"plan %s\n" % asked.plan.encode())
 
     def wait_for_ports(self, seconds):
         """Waits until each replica listens: nobody answers a datagram to a port that isn't open but the system, which refuses it."""
@@ -148,9 +174,13 @@ class Cluster:
         ports = {party: self.asked.base + int(party[1:]) + 100 * party.startswith("c") for party in self.running()}
         return {party: drops[port] for party, port in ports.items() if drops.get(port)}
 
+    def written(self):
+        """All that its nodes wrote."""
+        return self.lines.read_bytes()
+
     def lines_of(self, *words):
         """Its lines that begin with one of these words."""
-        return [line for line in self.lines.read_bytes().splitlines() if line.split(b" ")[0] in words]
+        return [line for line in self.written().splitlines() if line.split(b" ")[0] in words]
 
     def replies(self):
         """What was committed: stamp, instance, number and reply of each."""
@@ -274,7 +304,7 @@ class Trouble:
         for port in (*range(base, base + REPLICAS), *range(base + 100, base + 100 + self.asked.clients)):
             data = draws.randbytes(draws.choice([0, 1, 16, 17, 100, 8208]))
             if len(data) >= 17 and draws.random() < 0.5:
-                data = b"\x01\x00\x00" + bytes([draws.randrange(REPLICAS)]) + data[4:13] + b"\x00\x00\x00\x01" + data[17:]
+                data = b"\x01\x00\x00" + bytes([draws.randrange(REPLICAS)]) + data[4:12] + b"\x00\x00\x00\x01" + data[16:]
             self.sender.sendto(data, (HOST, port))
 
 

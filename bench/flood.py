@@ -4,9 +4,10 @@
 usage: flood.py [--plan P] [--rate N] [--commands N] [--wait W] [--base B] [--lms H]
 
 A cluster of each plan (of all six without `--plan`) runs twice: without junk, and while N datagrams a second (20,000) go to its nodes, to
-one port after the other. A third of them are random bytes. A third are pieces of messages of 512 pieces that never come whole, in the name
-of each party. A third are one right request of a client whose keys the sender has, which the replicas have answered long ago. The other
-client has so many commands (200), one after the other.
+one port after the other. A quarter of them are random bytes. A quarter are pieces of messages of 512 pieces that never come whole, in the
+name of each party. A quarter are one right request of a client whose keys the sender has, which the replicas have answered long ago. A
+quarter are messages with right tags of replica r3, whose keys the sender has too, of an instance that is far away. The other client has so
+many commands (200), one after the other.
 
 Of each run it tells the commands a second and the most memory of a replica. It ends with 1 if a command isn't answered, or otherwise than
 without junk, if a replica ends by itself, or if one has more memory than pieces may take (FORMATS.md, "What a flood can hold")."""
@@ -27,7 +28,9 @@ from programs import end_in_order, need, parser_of
 from storms import PLANS
 
 REPLICAS = [f"r{r}" for r in range(cluster.REPLICAS)]
-CLIENT, FLOODER = "c0", "c1"
+CLIENT, FLOODER, FAULTY = "c0", "c1", "r3"
+# An instance in which nobody is, and how much junk comes before the first command.
+FAR, FIRST = 4_000_000_000, 100
 TURNS = 1_000_000_000
 # Bodies of pieces, their tables, and what a node has without them.
 MOST_MEMORY = 771_751_936 + 184 * 512 * 64 + (256 << 20)
@@ -47,21 +50,36 @@ def piece(draws, number):
     return head + draws.randrange(COUNT - 1).to_bytes(2, "big") + COUNT.to_bytes(2, "big") + b"\xa5" * BODY
 
 
-def junk(draws, request):
-    """Datagrams without end: random bytes, a piece, the request."""
+def of_faulty(receiver, number):
+    """A message of r3 with a right tag for this party: of a client a RESP, and of a replica a COMMIT of a Backup."""
+    head = cluster.bytes_of(FAULTY) + FAR.to_bytes(4, "big")
+    if receiver == CLIENT:
+        code, content = b"\3", b"\3" + head + bytes(2) + (1).to_bytes(8, "big") + (1).to_bytes(2, "big") + bytes(32) + b"\2ok"
+    else:
+        code, content = b"\x0a", b"\x09" + head + (1).to_bytes(4, "big") + b"\1" + bytes(32)
+    message = code + content + cluster.tag_of(FAULTY, receiver, content)
+    return b"\1" + cluster.bytes_of(FAULTY) + number.to_bytes(8, "big") + b"\0\0\0\1" + message
+
+
+def junk(draws, request, receivers):
+    """Datagrams without end, each with its receiver: random bytes, a piece, the request, a message of a faulty replica."""
     for number in itertools.count(1):
-        yield draws.randbytes(draws.choice([0, 1, 16, 17, 100, 8208]))
-        yield piece(draws, number)
-        yield request
+        for receiver in receivers:
+            yield receiver, draws.randbytes(draws.choice([0, 1, 16, 17, 100, 8208]))
+            yield receiver, piece(draws, number)
+            yield receiver, request
+            yield receiver, of_faulty(receiver, number)
 
 
-def flood(ports, rate, request, sent):
+def flood(base, rate, request, sent):
     """Sends so many datagrams a second, and counts them."""
-    datagrams, begin = junk(random.Random(7), request), time.monotonic()
+    ports = dict(zip([*REPLICAS, CLIENT], ports_of(base)))
+    datagrams, begin = junk(random.Random(7), request, [party for party in ports if party != FAULTY]), time.monotonic()
     with socket.socket(socket.AF_INET, socket.SOCK_DGRAM) as sender:
         while True:
             for number in range(sent.value, int((time.monotonic() - begin) * rate)):
-                sender.sendto(next(datagrams), (cluster.HOST, ports[number % len(ports)]))
+                receiver, datagram = next(datagrams)
+                sender.sendto(datagram, (cluster.HOST, ports[receiver]))
                 sent.value = number + 1
             time.sleep(0.001)
 
@@ -115,12 +133,16 @@ class Flooded:
             nodes.start(replica, TURNS, self.asked.wait)
         nodes.set_up(CLIENT, [b"put k%d v%d" % (n % 50, n) for n in range(self.asked.commands)])
         nodes.wait_for_ports(60)
-        sender = multiprocessing.Process(target=flood, args=(ports_of(self.asked.base), self.rate, request, self.sent), daemon=True)
-        begin = time.monotonic()
+        sender = multiprocessing.Process(target=flood, args=(self.asked.base, self.rate, request, self.sent), daemon=True)
         if self.rate:
             sender.start()
+        while self.rate and self.sent.value < FIRST:
+            time.sleep(0.001)
+        before, begin = self.sent.value, time.monotonic()
         nodes.start(CLIENT, TURNS, self.asked.wait)
         self.seconds = nodes.wait_for([CLIENT], 60 + self.asked.commands) - begin
+        self.junk = (self.sent.value - before) / self.seconds
+        self.dropped = sum(nodes.dropped().values())
         self.memory = most_memory(nodes)
         if self.rate:
             sender.kill()
@@ -135,7 +157,7 @@ def tried(plan, asked):
         for fault in run.run():
             yield f"{plan}, {rate} datagrams a second: {fault}"
         told = f"{len(run.replies) / run.seconds:.0f} commands a second, {run.memory / 2**20:.0f} MiB at most"
-        print(f"{plan}, {run.sent.value / run.seconds:.0f} junk datagrams a second: {told}", flush=True)
+        print(f"{plan}, {run.junk:.0f} junk datagrams a second, {run.dropped} datagrams dropped: {told}", flush=True)
         first = first or run.replies
         if run.replies != first:
             yield f"{plan}: replies differ from those without junk"

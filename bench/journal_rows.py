@@ -2,8 +2,6 @@
 
 import argparse
 import contextlib
-import hashlib
-import hmac
 import os
 import pathlib
 import socket
@@ -13,6 +11,7 @@ import time
 
 import cluster
 from journals import COMMAND, MESSAGE, TIMEOUT, Kept, bodies_at, entry, faults_of, line_of, mark_of, opened, read, spelled
+from journals import torn as torn_journals
 from programs import PROGRAM, ran
 
 SECONDS = 300
@@ -68,21 +67,16 @@ def wait_until(holds):
         time.sleep(0.001)
 
 
-def bytes_of(party):
-    return bytes([party[0] == "c"]) + int(party[1:]).to_bytes(2, "big")
-
-
 def answer(replica):
     """The message in which a replica answers the request of stamp 1 of c0 in instance 1, `put a 1`, with its number 1."""
-    head = bytes([3]) + bytes_of(replica) + (1).to_bytes(4, "big")
+    head = bytes([3]) + cluster.bytes_of(replica) + (1).to_bytes(4, "big")
     content = head + bytes(2) + (1).to_bytes(8, "big") + (1).to_bytes(2, "big") + bytes.fromhex(DIGEST) + b"\x02ok"
-    key = hashlib.sha256(b"\x02" + bytes.fromhex(cluster.SEED) + bytes_of(replica) + bytes_of("c0")).digest()
-    return b"\x03" + content + hmac.digest(key, content, "sha256")
+    return b"\x03" + content + cluster.tag_of(replica, "c0", content)
 
 
 def send(port, sender, number, message):
     """Sends a message of one piece."""
-    data = b"\x01" + bytes_of(sender) + number.to_bytes(8, "big") + (0).to_bytes(2, "big") + (1).to_bytes(2, "big") + message
+    data = b"\x01" + cluster.bytes_of(sender) + number.to_bytes(8, "big") + (0).to_bytes(2, "big") + (1).to_bytes(2, "big") + message
     with socket.socket(socket.AF_INET, socket.SOCK_DGRAM) as link:
         link.sendto(data, (cluster.HOST, port))
 
@@ -225,9 +219,7 @@ def together(folder, differs):
 
 def torn(folder, differs, bodies, text):
     """A journal of r0 that is cut at each byte of its last two entries, and one whose last gate isn't open."""
-    path, base, whole = folder / NAME, cluster.free_base(), spelled(bodies)
-    begin, shut = (len(spelled(bodies[:-count])) - 1 for count in (2, 1))
-    cuts = [whole[:length] for length in range(begin, len(whole) + 1)] + [whole[:shut] + b"\0" + whole[shut + 1 :]]
+    path, base, whole, cuts = folder / NAME, cluster.free_base(), spelled(bodies), [*torn_journals(bodies)]
     for data in cuts:
         path.write_bytes(data)
         left, _ = read(data)

@@ -44,6 +44,14 @@ def opened(data):
     return data[:at] + SHUT + data[at + 1 :] if data[at : at + 1] in (b"", OPEN) else data
 
 
+def torn(bodies):
+    """The bytes of a journal with these bodies, cut at each byte of its last two entries, and one whose last gate isn't open."""
+    whole = spelled(bodies)
+    begin, shut = (len(spelled(bodies[:-count])) - 1 for count in (2, 1))
+    yield from (whole[:length] for length in range(begin, len(whole) + 1))
+    yield whole[:shut] + SHUT + whole[shut + 1 :]
+
+
 def bodies_at(path):
     """The bodies of the journal in this file, which may not be there yet."""
     return read(path.read_bytes())[0] if path.exists() else []

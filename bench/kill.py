@@ -2,7 +2,7 @@
 """Kills the nodes of clusters with journals at random moments, starts them again, and looks at what all of them did.
 
 usage: kill.py [--plan P] [--kills N] [--seed S] [--clients N] [--commands N] [--wait W] [--pause T] [--seconds S] [--lms H] [--timed N]
-               [--folder F]
+               [--folder F] [--torn N]
 
 Without `--plan` all six plans are tried. Of each plan one cluster after another runs, until N nodes (200) were killed by SIGKILL. A
 cluster has four replicas and N clients (2), each with so many commands (40), all with journals and traces. Nodes are killed after random
@@ -15,6 +15,11 @@ It ends with 1 if the replay says anything but `premise held`; if a process writ
 of a client writes other replies than the first ones that the replay commits, in their order and each once; if a client's commands aren't
 its first ones, each once; if a node ends by itself otherwise than a client whose commands are answered; or if a cluster answers nothing.
 Then it tells where it left a copy of the cluster's files.
+
+The journals of a further cluster, of one client with N commands (4) and trees of height 5, are torn: that of each party is cut at each byte
+of its last two entries, and opened. Its node has to write the lines of the entries that are left, in an order in which nothing more
+than replies, a command, a timeout and the line of the end are behind or between them, replies as the client had them before, and to leave
+these entries in the file.
 
 Then each plan is timed: N commands (200) of one client, without traces, with journals and without. A replica and the client have journals
 of so many bytes a command. Journals lie in a folder of F, by default where temporary files do: where that is no disk, a sync costs
@@ -31,8 +36,9 @@ import tempfile
 import time
 
 import cluster
+import journals
 from journals import Kept, faults_of
-from programs import end_in_order, need, parser_of
+from programs import end_in_order, need, parser_of, ran
 from storms import PLANS
 
 REPLICAS = [f"r{r}" for r in range(cluster.REPLICAS)]
@@ -147,6 +153,49 @@ def killed(plan, asked):
     print(f"{plan}: {kills} kills in {clusters} clusters, {answered} of {wanted} commands answered", flush=True)
 
 
+def reopened(folder, asked, party, text, data):
+    """What a node of a party writes that opens these bytes as its journal and has one short turn, and the bytes that it leaves."""
+    (folder / party).write_bytes(data)
+    words = ["node", "--base", str(asked.base), "--wait", "1", "--turns", "1", "--trace", "--journal", party]
+    status, out, said = ran(words, text, folder=folder)
+    return status, out.splitlines(), said, (folder / party).read_bytes()
+
+
+def torn_faults(nodes, party, replies, folder):
+    """What is wrong with a party's journal that is torn: the first fault, and how many ways were tried."""
+    text, bodies = (nodes.folder / party).read_bytes(), nodes.bodies(party)
+    for count, data in enumerate(journals.torn(bodies), 1):
+        left = journals.read(data)[0]
+        status, lines, said, kept = reopened(folder, nodes.asked, party, text, data)
+        events = [line for line in lines if not line.startswith((b"reply ", b"end "))]
+        wanted = [journals.line_of(party, body) for body in left[1:]]
+        more = [journals.line_of(party, body) for body in journals.read(kept)[0][1:]]
+        told = [line for line in lines if line.startswith(b"reply ")]
+        is_right = status in (cluster.ANSWERED, cluster.SPENT) and events[: len(wanted)] == wanted and more == events
+        if not (is_right and kept.startswith(journals.spelled(left)[:-1]) and told == replies[: len(told)]):
+            return count, f"the journal of {party}, cut to {len(data)} bytes: status {status}, {len(events)} events, {said!r}"
+    return len([*journals.torn(bodies)]), None
+
+
+def torn(plan, asked):
+    """A cluster whose journals are torn. Yields what is wrong."""
+    asked = told_of(plan, asked, clients=1, commands=asked.torn, lms="5", wait=2000)
+    with tempfile.TemporaryDirectory(dir=asked.folder) as folder, tempfile.TemporaryDirectory(dir=asked.folder) as other:
+        nodes = Kept(folder, asked)
+        try:
+            begin(nodes, asked)
+            nodes.wait_for(["c0"], asked.seconds)
+        finally:
+            nodes.stop()
+        replies, ways = nodes.lines_of(b"reply"), 0
+        for party in (*REPLICAS, "c0"):
+            tried, fault = torn_faults(nodes, party, replies, pathlib.Path(other))
+            ways += tried
+            if fault:
+                yield f"{plan}: {fault}"
+        print(f"{plan}: {len(replies)} commands answered, then journals torn in {ways} ways", flush=True)
+
+
 def timed(plan, asked, with_journals):
     """How many commands a second one client has answered, and the bytes of journals a command."""
     asked = told_of(plan, asked, clients=1, commands=asked.timed, wait=1000, length=0, quiet=True, stop=None, noise=False)
@@ -232,6 +281,7 @@ def options():
     parser.add_argument("--lms", default="10")
     parser.add_argument("--timed", type=int, default=200)
     parser.add_argument("--folder")
+    parser.add_argument("--torn", type=int, default=4)
     return parser.parse_args()
 
 
@@ -242,7 +292,8 @@ def main():
     asked.base = cluster.free_base()
     faults = []
     for plan in [asked.plan] if asked.plan else PLANS:
-        for fault in (*killed(plan, asked), *(tell_times(plan, asked) if asked.timed else ())):
+        torn_ones = torn(plan, asked) if asked.torn else ()
+        for fault in (*killed(plan, asked), *torn_ones, *(tell_times(plan, asked) if asked.timed else ())):
             print(fault, flush=True)
             faults.append(fault)
     for fault in full(asked):

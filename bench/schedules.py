@@ -5,12 +5,15 @@ import sys
 from programs import ran
 
 
-def head(plan, f=1, clients=1, service="kv", lms=10, faulty=(), seed=None):
-    """The lines before the events, with some that declare parties faulty. Keys are those of the seed, or of zeros without one."""
+ZEROS = "0" * 64
+
+
+def head(plan, f=1, clients=1, service="kv", lms=10, faulty=(), seed=ZEROS):
+    """The lines before the events, with some that declare parties faulty. Keys are those of the seed."""
     settings = [f"f {f}", f"plan {plan}", f"clients {clients}", f"service {service}", f"lms {lms}"]
+    if seed != ZEROS:
+        return ["abstract 4", *settings, "checkpoint 0", f"seed {seed}", *faulty, "run"]
     version = 2 if int(lms) == 20 else 1
-    if seed:
-        version, settings = 4, [*settings, "checkpoint 0", f"seed {seed}"]
     return [f"abstract {version}", *settings, *faulty, "run"]
 
 
