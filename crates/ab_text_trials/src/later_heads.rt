@@ -13,6 +13,9 @@ const DIGITS: &str = "000102030405060708090a0b0c0d0e0f101112131415161718191a1b1c
 /// The same number of digits, with one in upper case.
 const UPPER: &str = "000102030405060708090A0b0c0d0e0f101112131415161718191a1b1c1d1eff";
 
+/// A digit less.
+const SHORT: &str = "000102030405060708090a0b0c0d0e0f101112131415161718191a1b1c1d1ef";
+
 /// The head that a text has from its first line and what comes after the sixth, or what is wrong with it.
 fn head_by(alloc: Global, first: &str, rest: &str) -> Option<Result<Head, TextFault>> {
     let text = format!(in alloc;
@@ -72,11 +75,7 @@ fn checkpoints(rt: HostRuntime) {
             "checkpoint 0\nfaulty r0 1\nrun\nfoo\n",
             TextFault::BadLine(10),
         ),
-        (
-            "3",
-            "checkpoint 0\nrun\nend\nend\n",
-            TextFault::BadLine(10),
-        ),
+        ("3", "checkpoint 0\nrun\nend\nend\n", TextFault::BadLine(10)),
     ];
     refused(&rt, rt.alloc(), &cases).expect(&rt, "memory");
 }
@@ -107,11 +106,11 @@ fn seeds(rt: HostRuntime) {
     let good = format!(in alloc; "seed {DIGITS}").expect(&rt, "memory");
     let longer = format!(in alloc; "seed {DIGITS}0").expect(&rt, "memory");
     let spaced = format!(in alloc; "seed  {DIGITS}").expect(&rt, "memory");
-    let short = &good.as_str()[..68];
+    let short = format!(in alloc; "seed {SHORT}").expect(&rt, "memory");
     expect_fault(&rt, alloc, "4", upper.as_str(), TextFault::BadLine(8));
     expect_fault(&rt, alloc, "4", longer.as_str(), TextFault::BadLine(8));
     expect_fault(&rt, alloc, "4", spaced.as_str(), TextFault::BadLine(8));
-    expect_fault(&rt, alloc, "4", short, TextFault::BadLine(8));
+    expect_fault(&rt, alloc, "4", short.as_str(), TextFault::BadLine(8));
     expect_fault(&rt, alloc, "3", good.as_str(), TextFault::BadLine(8));
 }
 

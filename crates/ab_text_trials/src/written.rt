@@ -78,12 +78,18 @@ fn text_by(alloc: Global, every: u16, seed: [u8; 32]) -> Option<Vec<u8>> {
 fn checkpoints_and_seeds_are_written(rt: HostRuntime) {
     let alloc = rt.alloc();
     let text = text_by(alloc, 0, [0; 32]).expect(&rt, "memory");
-    assert!(rt; text.as_slice()
-        == b"abstract 1\nf 2\nplan zlight\nclients 16\nservice echo\nlms 10\nrun\nend\n".as_slice());
+    assert!(rt;
+        text.as_slice()
+            == b"abstract 1\nf 2\nplan zlight\nclients 16\nservice echo\nlms 10\nrun\nend\n".as_slice()
+    );
     let text = text_by(alloc, 128, [0; 32]).expect(&rt, "memory");
-    assert!(rt; text.as_slice()
-        == b"abstract 3\nf 2\nplan zlight\nclients 16\nservice echo\nlms 10\ncheckpoint 128\nrun\nend\n".as_slice());
+    assert!(rt;
+        text.as_slice()
+            == b"abstract 3\nf 2\nplan zlight\nclients 16\nservice echo\nlms 10\ncheckpoint 128\nrun\nend\n".as_slice()
+    );
     let text = text_by(alloc, 1, [0xa1; 32]).expect(&rt, "memory");
-    assert!(rt; text.as_slice()
-        == b"abstract 4\nf 2\nplan zlight\nclients 16\nservice echo\nlms 10\ncheckpoint 1\nseed a1a1a1a1a1a1a1a1a1a1a1a1a1a1a1a1a1a1a1a1a1a1a1a1a1a1a1a1a1a1a1a1\nrun\nend\n".as_slice());
+    assert!(rt;
+        text.as_slice()
+            == b"abstract 4\nf 2\nplan zlight\nclients 16\nservice echo\nlms 10\ncheckpoint 1\nseed a1a1a1a1a1a1a1a1a1a1a1a1a1a1a1a1a1a1a1a1a1a1a1a1a1a1a1a1a1a1a1a1\nrun\nend\n".as_slice()
+    );
 }
