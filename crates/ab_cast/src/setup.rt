@@ -47,11 +47,7 @@ impl Model for Setup {
 }
 
 /// The rings that a seed gives to the replicas, by their numbers.
-fn replica_rings(
-    alloc: Global,
-    c: &Cluster,
-    seed: &[u8; 32],
-) -> Result<Vec<KeyRing>, OutOfMemory>
+fn replica_rings(alloc: Global, c: &Cluster, seed: &[u8; 32]) -> Result<Vec<KeyRing>, OutOfMemory>
     ensures { IfOk result (λ rings. rings.items ≡ map (λ r. ring_of c.now.f c.now.clients c.now.plan seed.now (Replica r)) (range_with_len 0 (3 * c.now.f + 1))) }
 {
     let mut rings = Vec::new(alloc);
@@ -62,11 +58,7 @@ fn replica_rings(
 }
 
 /// The rings that a seed gives to the clients, by their numbers.
-fn client_rings(
-    alloc: Global,
-    c: &Cluster,
-    seed: &[u8; 32],
-) -> Result<Vec<KeyRing>, OutOfMemory>
+fn client_rings(alloc: Global, c: &Cluster, seed: &[u8; 32]) -> Result<Vec<KeyRing>, OutOfMemory>
     ensures { IfOk result (λ rings. rings.items ≡ map (λ n. ring_of c.now.f c.now.clients c.now.plan seed.now (Client n)) (range_with_len 0 c.now.clients)) }
 {
     let mut rings = Vec::new(alloc);

@@ -83,7 +83,13 @@ fn faults_of_texts_name_the_line(rt: HostRuntime) {
     let alloc = rt.alloc();
     assert!(rt; says(alloc, &TextFault::BadLine(3), "line 3 is out of form"));
     assert!(rt; says(alloc, &TextFault::NoEnd(4), "the text ends before line 4"));
-    assert!(rt; says(alloc, &TextFault::NotBuilt(7), "what line 7 asks for is not built"));
+    assert!(rt;
+        says(
+            alloc,
+            &TextFault::NotBuilt(7),
+            "what line 7 asks for is not built"
+        )
+    );
     assert!(rt;
         says(
             alloc,

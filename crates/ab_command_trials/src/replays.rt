@@ -20,14 +20,15 @@ struct Case {
 const QUORUM: &str = "abstract 1\nf 1\nplan quorum\nclients 1\nservice kv\nlms 5\n";
 
 /// The same with the keys of a seed, and a faulty replica.
-const SEEDED: &str = "abstract 4\nf 1\nplan quorum\nclients 1\nservice kv\nlms 5\ncheckpoint 0\nseed 000102030405060708090a0b0c0d0e0f101112131415161718191a1b1c1d1e1f\nfaulty r3 1\n";
+const SEEDED: &str =
+    "abstract 4\nf 1\nplan quorum\nclients 1\nservice kv\nlms 5\ncheckpoint 0\nseed 000102030405060708090a0b0c0d0e0f101112131415161718191a1b1c1d1e1f\nfaulty r3 1\n";
 
 /// The same, and another seed.
-const OTHERWISE: &str = "abstract 4\nf 1\nplan quorum\nclients 1\nservice kv\nlms 5\ncheckpoint 0\nseed 0102030405060708090a0b0c0d0e0f101112131415161718191a1b1c1d1e1f20\nfaulty r3 1\n";
+const OTHERWISE: &str =
+    "abstract 4\nf 1\nplan quorum\nclients 1\nservice kv\nlms 5\ncheckpoint 0\nseed 0102030405060708090a0b0c0d0e0f101112131415161718191a1b1c1d1e1f20\nfaulty r3 1\n";
 
 /// One client, and checkpoints.
-const CHECKED: &str =
-    "abstract 3\nf 1\nplan quorum\nclients 1\nservice kv\nlms 5\ncheckpoint 64\n";
+const CHECKED: &str = "abstract 3\nf 1\nplan quorum\nclients 1\nservice kv\nlms 5\ncheckpoint 64\n";
 
 /// Two clients of a chain whose head is faulty and has two cores.
 const TWINS: &str = "abstract 1\nf 1\nplan chain\nclients 2\nservice kv\nlms 5\nfaulty r0 2\n";
@@ -91,7 +92,8 @@ fn reports_are_written(rt: HostRuntime) -> Result<(), Fail> {
 
 /// A request to four replicas, the answers of three of them, and an answer of the faulty r3 whose tag has the key of the first of
 /// two seeds.
-const BY_A_SEED: &str = "run\ninvoke c0 put a 1\ndeliver 1\ndeliver 2\ndeliver 3\ndeliver 4\ndeliver 5\ndeliver 6\ndeliver 7\ninject c0 030300000300000001000000000000000000010001688e05e3250f603fe42468fe71560525868d0b254ba6463c94985b87d2909ac0026f6b1e1179380e45a152952ca2ca2a2b10b3dfb8bc9506dc0c383d13fc6ee67d4433\nend\n";
+const BY_A_SEED: &str =
+    "run\ninvoke c0 put a 1\ndeliver 1\ndeliver 2\ndeliver 3\ndeliver 4\ndeliver 5\ndeliver 6\ndeliver 7\ninject c0 030300000300000001000000000000000000010001688e05e3250f603fe42468fe71560525868d0b254ba6463c94985b87d2909ac0026f6b1e1179380e45a152952ca2ca2a2b10b3dfb8bc9506dc0c383d13fc6ee67d4433\nend\n";
 
 #[test]
 fn keys_are_those_of_the_seed(rt: HostRuntime) -> Result<(), Fail> {

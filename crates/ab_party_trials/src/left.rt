@@ -85,7 +85,13 @@ fn cluster_tells(alloc: Global, cluster: &Cluster) -> bool
     if !is_party(cluster, faulty) {
         return false;
     }
-    match Setup::new(alloc, cluster, &[(faulty, 1)], Scheme::Lms(Height::Five), &[0; 32]) {
+    match Setup::new(
+        alloc,
+        cluster,
+        &[(faulty, 1)],
+        Scheme::Lms(Height::Five),
+        &[0; 32],
+    ) {
         Ok(setup) => switches_and_tells::<Echo, Quorum<Echo>>(alloc, setup),
         Err(_) => false,
     }

@@ -74,7 +74,13 @@ pub fn play<S: Service, P: Protocol<S>>(
     ensures counts { IfOk result (λ p. p.counts.items ≡ counts_in P.proto head.now.cluster (script_of head.now events.now)) }
     ensures cause { IfErr result (λ e. EventsCause e line (run_in P.proto head.now.cluster (script_of head.now events.now))) }
 {
-    let setup = Setup::new(alloc, &head.cluster, head.faulty.as_slice(), head.lms, &head.seed)?;
+    let setup = Setup::new(
+        alloc,
+        &head.cluster,
+        head.faulty.as_slice(),
+        head.lms,
+        &head.seed,
+    )?;
     let mut world = World::<S, P>::new(alloc, setup)?;
     match step_through(alloc, &mut world, events, line) {
         Ok(counts) => Ok(Played { world, counts }),

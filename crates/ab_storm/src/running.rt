@@ -165,7 +165,13 @@ pub fn storm<S: Service, P: Protocol<S>>(
     ensures replicas { IfOk result (λ s. length s.world.cast.replicas ≡ 3 * s.world.cast.setup.cluster.f + 1) }
     ensures cause { IfErr result (λ e. StormCause P.proto e asked.now) }
 {
-    let setup = Setup::new(alloc, asked.cluster(), &[], Scheme::Lms(Height::Ten), &[0; 32])?;
+    let setup = Setup::new(
+        alloc,
+        asked.cluster(),
+        &[],
+        Scheme::Lms(Height::Ten),
+        &[0; 32],
+    )?;
     storm_over(alloc, asked, setup)
 }
 
