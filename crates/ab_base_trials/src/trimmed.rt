@@ -80,9 +80,10 @@ fn forgotten_lists_show_what_histories_do(rt: HostRuntime) {
         list.forget(n);
         expect_same(&rt, &list, &history, n);
     }
+    assert!(rt; list.start() <= 300 && list.len() == 300 && history.len() == 300);
     list.forget(300);
-    expect_same(&rt, &list, &history, 300);
     assert!(rt; list.digest() == history.digest_at(300));
+    expect_same(&rt, &list, &history, 300);
 }
 
 /// Of what is forgotten the last request of each client is known, and no other.
