@@ -24,7 +24,12 @@ impl Cluster {
         ensures made { IfSome result (λ c. (c.f ≡ f) × (c.clients ≡ clients) × (c.plan ≡ plan) × (c.every ≡ every)) }
     {
         if f >= 1 && f <= 2 && clients >= 1 && clients <= 16 && every <= 128 {
-            Some(Cluster { f, clients, plan, every })
+            Some(Cluster {
+                f,
+                clients,
+                plan,
+                every,
+            })
         } else {
             None
         }

@@ -128,6 +128,7 @@ built_decided (Some k) = by (nat_le 0 k && nat_le k 128)
     asked : (b : Bool) → Decided 7 (λ ls. if b then Ok (k, ls) else Err (NotBuilt 7))
     asked true = inl (k, λ ls. refl)
     asked false = inr (NotBuilt 7, refl, λ ls. refl)
+
     by : (b : Bool) → Decided 7 (λ ls. (if b then Ok (k, ls) else Err (BadLine 7)) >>= built 7)
     by true = asked (nat_eq k 0)
     by false = inr (BadLine 7, refl, λ ls. refl)
@@ -333,24 +334,24 @@ begun : (w : Version) (f : ℕ) (p : Plan) (c : ℕ) (v : ServiceName) (h : Sche
 begun w f p c v h k (inl three) bounds allows few = (
   codes "run" ∷ codes "end" ∷ [],
   subst (λ x. Spell (first_lines x f p c v h (checkpoint_line k ∷ codes "run" ∷ codes "end" ∷ [])) (script f p c v h k no_seed)) (sym three)
-  (record {
-    schedule = record { bounds = bounds; dense = few; seed = IsSeed-none; faulty = tt; events = tt };
-    version = Three;
-    allows = subst (λ x. Allows x h) three allows;
-    omits = refl;
-    lines = refl;
-  }),
+      (record {
+        schedule = record { bounds = bounds; dense = few; seed = IsSeed-none; faulty = tt; events = tt };
+        version = Three;
+        allows = subst (λ x. Allows x h) three allows;
+        omits = refl;
+        lines = refl;
+      }),
 )
 begun w f p c v h k (inr four) bounds allows few = (
   seed_line no_seed ∷ codes "run" ∷ codes "end" ∷ [],
   subst (λ x. Spell (first_lines x f p c v h (checkpoint_line k ∷ seed_line no_seed ∷ codes "run" ∷ codes "end" ∷ [])) (script f p c v h k no_seed)) (sym four)
-  (record {
-    schedule = record { bounds = bounds; dense = few; seed = IsSeed-none; faulty = tt; events = tt };
-    version = Four;
-    allows = subst (λ x. Allows x h) four allows;
-    omits = tt;
-    lines = refl;
-  }),
+      (record {
+        schedule = record { bounds = bounds; dense = few; seed = IsSeed-none; faulty = tt; events = tt };
+        version = Four;
+        allows = subst (λ x. Allows x h) four allows;
+        omits = tt;
+        lines = refl;
+      }),
 )
 
 pub unbuilt_line : (text : List ℕ) (n : ℕ) → ReadsText text (Err (NotBuilt n)) → (1 ≤ n) × (n ≤ length (lines_of text)) × BeginsUnbuilt (take n (lines_of text))
@@ -362,7 +363,7 @@ unbuilt_line text n h =
     let asks = found.asks in
     let all = begun six.version six.f six.plan six.clients six.service six.lms asks.every found.later six.bounds six.allows asks.few in
     let front : take n ls ≡ first_lines six.version six.f six.plan six.clients six.service six.lms (checkpoint_line asks.every ∷ []) =
-        (λ j. take (asks.seventh j) ((six.lines ∙ ap (λ t. first_lines six.version six.f six.plan six.clients six.service six.lms t) asks.lines) j)) in (
+    (λ j. take (asks.seventh j) ((six.lines ∙ ap (λ t. first_lines six.version six.f six.plan six.clients six.service six.lms t) asks.lines) j)) in (
       bad.low,
       bad.high,
       record {

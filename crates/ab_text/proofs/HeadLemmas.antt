@@ -278,9 +278,9 @@ unbuilt_says : (n m : ℕ) (p : ℕ × Rest) → built n p ≡ Err (NotBuilt m) 
 unbuilt_says n m p h = elim (cases_Bool (nat_eq p.0 0)) [
   | inl none ↦ absurd (let e : ◌≡◌ {A = Result (ℕ × Rest) TextFault} (Ok p) (Err (NotBuilt m)) = sym (ap (λ b. if b then Ok p else Err (NotBuilt n)) none) ∙ h in cc)
   | inr some ↦ (
-      λ z. let e : true ≡ false = sym ((Decides-eqb p.0 0).1 z) ∙ some in cc,
-      let e : ◌≡◌ {A = Result (ℕ × Rest) TextFault} (Err (NotBuilt n)) (Err (NotBuilt m)) = sym (ap (λ b. if b then Ok p else Err (NotBuilt n)) some) ∙ h in (let k : m ≡ n = cc in k),
-    )
+    λ z. let e : true ≡ false = sym ((Decides-eqb p.0 0).1 z) ∙ some in cc,
+    let e : ◌≡◌ {A = Result (ℕ × Rest) TextFault} (Err (NotBuilt n)) (Err (NotBuilt m)) = sym (ap (λ b. if b then Ok p else Err (NotBuilt n)) some) ∙ h in (let k : m ≡ n = cc in k),
+  )
 ]
 
 -- the line of checkpoints, which says that none is due
@@ -359,14 +359,19 @@ whole_head x ls six = by six.version six.allows six.lines six.gives
   where
     f : ℕ
     f = six.f
+
     p : Plan
     p = six.plan
+
     c : ℕ
     c = six.clients
+
     v : ServiceName
     v = six.service
+
     h : Scheme
     h = six.lms
+
     plain : (w : Version) (rest : Rest) → Allows w h → Omits w (script f p c v h 0 no_seed) → ls ≡ first_lines w f p c v h rest → later_lines w 0 no_seed ≡ [] → front w (script f p c v h 0 no_seed) rest ≡ x → IsHead x ls
     plain w rest allows omits lines none same = subst (λ y. IsHead y ls) same (record {
       version = w;
@@ -379,6 +384,7 @@ whole_head x ls six = by six.version six.allows six.lines six.gives
       faulty = refl;
       events = refl;
     })
+
     by : (w : Version) → Allows w h → ls ≡ first_lines w f p c v h six.rest → from7 w f p c v h six.rest ≡ Ok x → IsHead x ls
     by One allows lines gives = plain One six.rest allows (refl, refl) lines refl (same_front One _ six.rest x gives)
     by Two allows lines gives = plain Two six.rest allows (refl, refl) lines refl (same_front Two _ six.rest x gives)
@@ -442,6 +448,7 @@ unbuilt_later Four f p c v h n ls e = by (checkpoint_at ls) refl e
     after k rest (Err (BadLine m)) plain g = cc
     after k rest (Err (NoEnd m)) plain g = cc
     after k rest (Err OutOfMemory) plain g = cc
+
     by : (r : Result (ℕ × Rest) TextFault) → checkpoint_at ls ≡ r → (r >>= λ (x : ℕ × Rest). from8 Four f p c v h x.0 x.1) ≡ Err (NotBuilt n) → AsksCheckpoints n ls × ((Four ≡ Three) ⊎ (Four ≡ Four))
     by (Ok (k, rest)) is g = absurd (after k rest (seed_at rest) (plain_seed rest) g)
     by (Err d) is k = (checkpoints_asked ls n (is ∙ (let same : ◌≡◌ {A = Result (ℕ × Rest) TextFault} (Err d) (Err (NotBuilt n)) = cc in same)), inr refl)

@@ -161,7 +161,7 @@ lines_read ls s spell built =
     let rest = faulty_lines s.faulty s.events in
     let bare = script s.f s.plan s.clients s.service s.lms s.every s.seed in
     let read : head_at ls ≡ Ok (front spell.version bare rest) =
-        ap head_at spell.lines ∙ head_reads spell.version s rest schedule.bounds spell.allows spell.omits built schedule.seed in
+    ap head_at spell.lines ∙ head_reads spell.version s rest schedule.bounds spell.allows spell.omits built schedule.seed in
     subst (λ o. Continues o (Ok s)) (sym read)
     (body_read s.faulty s.events (head_count spell.version + 1) (record s { faulty = []; events = [] }) schedule.faulty schedule.events)
 
