@@ -3,7 +3,7 @@
 ghost use Rattle.std.specs.Prelude.{◌≡◌, ◌<◌};
 
 use ab_hist::{History, PushFault, Request};
-use ab_trim::Trimmed;
+use ab_trim::{Trimmed, agreed_list};
 use arrayvec::ArrayVec;
 use std::alloc::Global;
 use std::process::Abort;
@@ -250,4 +250,80 @@ fn unknown_beginnings_are_kept_by_digest(rt: HostRuntime) {
     assert!(rt; read.start() <= 77 && 77 <= read.len());
     read.forget(77);
     expect_same(&rt, &read, &history, 77);
+}
+
+/// A list of the first `n` requests here and then one of another client, that has forgotten `start`.
+fn branch_of(rt: &impl Abort, alloc: Global, start: usize, n: u64, stamp: u64) -> Trimmed {
+    let mut list = list_of(rt, alloc, n);
+    assert!(rt; list.push(alloc, request(9, stamp)) == Ok(()));
+    assert!(rt; list.start() <= start && start <= list.len());
+    list.forget(start);
+    list
+}
+
+/// The list on which two of these three agree.
+fn agreed_of(
+    rt: &impl Abort,
+    alloc: Global,
+    a: Trimmed,
+    b: Trimmed,
+    c: Trimmed,
+) -> Option<Trimmed> {
+    let mut lists = Vec::new(alloc);
+    for list in [a, b, c] {
+        lists.push(list).expect(rt, "memory");
+    }
+    agreed_list(alloc, &lists, 2).expect(rt, "memory")
+}
+
+#[test]
+fn two_lists_agree_to_their_last_point(rt: HostRuntime) {
+    let alloc = rt.alloc();
+    for (a, b, c, n) in [(1, 2, 3, 5), (1, 1, 2, 6), (2, 1, 1, 6), (1, 2, 1, 6)] {
+        let agreed = agreed_of(
+            &rt,
+            alloc,
+            branch_of(&rt, alloc, 0, 5, a),
+            branch_of(&rt, alloc, 0, 5, b),
+            branch_of(&rt, alloc, 0, 5, c),
+        )
+        .expect(&rt, "a list");
+        assert!(rt; agreed.start() == 0 && agreed.len() == n);
+        assert!(rt; agreed.place_of(&nth(5)) == Some(5));
+        assert!(rt; (agreed.place_of(&request(9, 1)) == Some(6)) == (n == 6));
+        assert!(rt; agreed.place_of(&request(9, 2)) == None);
+    }
+    let agreed = agreed_of(
+        &rt,
+        alloc,
+        list_of(&rt, alloc, 4),
+        list_of(&rt, alloc, 0),
+        list_of(&rt, alloc, 9),
+    );
+    assert!(rt; agreed.expect(&rt, "a list").len() == 4);
+}
+
+/// Of the holders the one that has forgotten the least is taken, without what it knows of what it has forgotten.
+#[test]
+fn what_is_agreed_on_forgets_least(rt: HostRuntime) {
+    let alloc = rt.alloc();
+    let agreed = agreed_of(
+        &rt,
+        alloc,
+        branch_of(&rt, alloc, 20, 90, 1),
+        branch_of(&rt, alloc, 70, 90, 2),
+        branch_of(&rt, alloc, 5, 60, 3),
+    )
+    .expect(&rt, "a list");
+    expect_same(&rt, &agreed, &history_of(&rt, alloc, 90), 20);
+    assert!(rt; agreed.place_of(&nth(21)) == Some(21) && agreed.place_of(&nth(20)) == None);
+    // The point behind which two lists differ is forgotten by one of them.
+    let none = agreed_of(
+        &rt,
+        alloc,
+        branch_of(&rt, alloc, 91, 90, 1),
+        branch_of(&rt, alloc, 91, 90, 2),
+        branch_of(&rt, alloc, 91, 90, 3),
+    );
+    assert!(rt; none.is_none());
 }

@@ -10,3 +10,4 @@ pub mod HeadLemmas
 pub mod RestLemmas
 pub mod LastLemmas
 pub mod TrimmedLemmas
+pub mod FoundLemmas

@@ -24,7 +24,7 @@ bound (t ∷ ts) =
 
 module _ (q : ℕ) (ts : List Trimmed) (some : 1 ≤ q) where
   -- a point with a holder is that of a list
-  holder_of : (n : ℕ) (d : List ℕ) → q ≤ point_holders ts n d → (t : Trimmed) × Contains ts t × Holds t n d
+  pub holder_of : (n : ℕ) (d : List ℕ) → q ≤ point_holders ts n d → (t : Trimmed) × Contains ts t × Holds t n d
   holder_of n d enough =
       let r = some_passes (holds n d) ts (omega (arith, some, enough)) in
       (r.0, r.1, (holds-Decides n d r.0).0 r.2)

@@ -5,9 +5,10 @@ use Rattle.std.proofs.lemmas.Bool.{cases_lt}
 use Rattle.std.proofs.lemmas.List.{length-take, length-drop}
 use Rattle.std.proofs.lemmas.List.Elements.{All-drop, All-push, All-take}
 use Rattle.std.proofs.lemmas.List.Quantifiers.{all_pairs_push}
+use Rattle.ab_hist.proofs.KeptLemmas.{history-take}
 use Rattle.ab_hist.specs.declared.request.Request.{Request}
 use Rattle.ab_hist.specs.Histories.{IsNext, Precedes}
-use Rattle.ab_hist.specs.Chunks.{Chunk, grown}
+use Rattle.ab_hist.specs.Chunks.{Chunk, grown, front}
 use Rattle.ab_trim.specs.Trimmed.{Trimmed, end_of}
 use Rattle.ab_trim.specs.Known.{forget_log}
 use Rattle.ab_trim.specs.Chained.{behind}
@@ -37,6 +38,17 @@ module _ (n : ℕ) (rest : Chunk) (lasts : List (Option (ℕ × Request))) (is :
         each = is.each;
       })
   pushed_trimmed k m (Err e) some room less next client ok err = subst (λ c. IsTrimmed n c lasts) (sym err) is
+
+  pub cut_trimmed : (j : ℕ) (k : Chunk) (more : List (Option (ℕ × Request))) → k ≡ front j rest → length more ≡ 16 → IsTrimmed n k more
+  cut_trimmed j k more k_is long =
+      subst (λ c. IsTrimmed n c more) (sym k_is) (record {
+        history = history-take rest.requests j is.history;
+        few = omega (arith, is.few, length-take j rest.requests);
+        within = omega (arith, is.within, length-take j rest.requests);
+        clients = All-take (λ e. e.client < 16) j rest.requests is.clients;
+        room = λ _. long;
+        each = λ _. long;
+      })
 
   module _ (j : ℕ) (first : n ≤ j) (last : j ≤ n + length rest.requests) where
     pub forgot_trimmed : (k : Chunk) (more : List (Option (ℕ × Request))) → k ≡ behind (j - n) rest → more ≡ noted n (take (j - n) rest.requests) lasts → IsTrimmed j k more

@@ -1,6 +1,7 @@
 //! Lists of requests that have forgotten their first entries.
 #![tactic(auto)]
 
+mod agreeing;
 mod chain;
 mod head;
 mod known;
@@ -10,6 +11,7 @@ mod points;
 mod rest;
 mod trimmed;
 
+pub use agreeing::agreed_list;
 pub use known::{
     logs_of_one_history_agree, nothing_forgotten_all_known, requests_are_known,
     unknown_requests_stay_out,

@@ -3,7 +3,7 @@
 ghost use Rattle.std.specs.Prelude.{◌≡◌, ◌-◌, ◌<◌, ◌≤◌, ◌↔◌, true, false, replicate, slice_get, IsTrue, Some, IsErrOf, OnOk, OnErr, IfOk};
 ghost use Rattle.ab_trim.specs.Trimmed.{end_of, forget, cut, digest_at as digest_of_front, holds as test_point};
 ghost use Rattle.ab_trim.specs.Known.{place_by, can_push_by, forget_log};
-ghost use Rattle.ab_trim.specs.Logs.{IsFull, follows_by, log_of, begun_log, push_log, cut_log, trim_log, lasts_to, grounded_log};
+ghost use Rattle.ab_trim.specs.Logs.{IsFull, follows_by, log_of, begun_log, push_log, cut_log, trim_log, lasts_to, grounded_log, no_lasts as without};
 
 use crate::lasts::{all_lasts, copy_lasts, follows_last, no_lasts, note_all, place_of_last};
 use crate::rest::Rest;
@@ -195,6 +195,21 @@ impl Trimmed {
     {
         let rest = self.rest.copy(alloc)?;
         let lasts = copy_lasts(alloc, &self.lasts)?;
+        Ok(Trimmed {
+            start: self.start,
+            rest,
+            lasts,
+        })
+    }
+
+    /// The first `n` entries, without the last requests.
+    pub(crate) fn front(&self, alloc: Global, n: usize) -> Result<Trimmed, OutOfMemory>
+        requires { (self.now.list.start ≤ n) × (n ≤ end_of self.now.list) }
+        ensures { IfOk result (λ t. t ≡ record { list = cut n self.now.list; lasts = without }) }
+    {
+        let mut rest = self.rest.copy(alloc)?;
+        rest.cut(n - self.start);
+        let lasts = no_lasts(alloc)?;
         Ok(Trimmed {
             start: self.start,
             rest,
