@@ -227,10 +227,12 @@ def faults_of(nodes):
     schedule = Schedule(nodes)
     status, report, said = schedule.report()
     commits = commits_by_client(report)
-    faults = [*schedule.faults, *command_faults(nodes), *reply_faults(nodes, schedule, commits)]
+    faults = [*schedule.faults, *command_faults(nodes)]
     premise = [line for line in report if line.startswith("premise")]
     if (status, premise) != (0, ["premise held"]):
-        faults.append(f"the replay of all journals ends with {status}: {', '.join(premise)} {said}")
+        # Without a report there is nothing with which replies could be compared.
+        return [*faults, f"the replay of all journals ends with {status}: {', '.join(premise)} {said}"], sum(map(len, commits.values()))
+    faults += reply_faults(nodes, schedule, commits)
     numbers = {}
     for line in (line for lines in commits.values() for line in lines):
         _, _, instance, number, reply = line.split(" ", 4)
