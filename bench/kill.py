@@ -14,8 +14,8 @@ What the journals have is then put together as one schedule: each event at the f
 It ends with 1 if the replay says anything but `premise held`; if a process writes other events again than its journal has; if a process
 of a client writes other replies than the first ones that the replay commits, in their order and each once; if a client's commands aren't
 its first ones, each once; if a node ends by itself otherwise than a client whose commands are answered; or if a cluster answers nothing.
-Then it tells where it left a copy of the cluster's files. With many switches a cluster's journals can be longer than what `replay` takes
-(`limit bytes`): then give its clients fewer commands.
+Then it tells where it left a copy of the cluster's files. Journals can be longer than what `replay`
+takes (`limit bytes`); such a cluster is told as a fault, since nothing was looked at.
 
 The journals of a further cluster, of one client with N commands (4) and trees of height 5, are torn: that of each party is cut at each byte
 of its last two entries, and opened. Its node has to write the lines of the entries that are left, in an order in which nothing more
