@@ -6,10 +6,11 @@ usage: bursts.py [--tries N] [--buffer BYTES].. [--base B]
 A node sends all pieces of a message one after the other, and its receiver takes a datagram a turn. What the receiver hasn't taken yet
 stands in its socket's buffer; what doesn't fit there the system drops. Messages of more and more pieces of 8,192 bytes go to the node of a
 replica, which tells by its trace which of them came whole: while it runs beside all else that runs on this machine, and while it is
-stopped until all pieces were sent, so that the buffer has to hold them all. Told are, for the system's own buffer (net.core.rmem_default)
-and for each of `--buffer` bytes, the most pieces that came whole each of N times (5), and the datagrams that the system dropped. Then it
-tells for each kind of message how many requests a history may have for that, with commands of 128 bytes and of 8: of those that correct
-parties send with `lms 10`, and how many pieces they have at most. A buffer needs a C compiler, and the right to set it."""
+stopped until all pieces were sent, so that the buffer has to hold them all. Told are, for the buffer that the program gets (twice
+net.core.rmem_max, and 16,777,216 bytes at most) and for each of `--buffer` bytes in its place, the most pieces that came whole each of N
+times (5), and the datagrams that the system dropped. Then it tells for each kind of message how many requests a history may have for that,
+with commands of 128 bytes and of 8: of those that correct parties send with `lms 10`, and how many pieces they have at most. A buffer needs
+a C compiler, and the right to set it."""
 
 import argparse
 import contextlib
@@ -28,18 +29,21 @@ from programs import PROGRAM, end_in_order, need, parser_of
 
 BODY, MOST = 8192, 512
 TURNS = 1_000_000_000
-# Sets the buffer of the socket that is bound.
+# What a socket of the program asks for.
+ASKED = 8_388_608
+# Gives a socket this buffer in place of the one that it asks for.
 WIDENER = r"""
 #define _GNU_SOURCE
 #include <dlfcn.h>
 #include <stdlib.h>
 #include <sys/socket.h>
-int bind(int fd, const struct sockaddr *a, socklen_t n) {
-    static int (*real)(int, const struct sockaddr *, socklen_t);
+int setsockopt(int fd, int level, int name, const void *value, socklen_t n) {
+    static int (*real)(int, int, int, const void *, socklen_t);
     int half = atoi(getenv("BUFFER")) / 2;
-    if (!real) real = dlsym(RTLD_NEXT, "bind");
-    if (setsockopt(fd, SOL_SOCKET, SO_RCVBUFFORCE, &half, sizeof half)) abort();
-    return real(fd, a, n);
+    if (!real) real = dlsym(RTLD_NEXT, "setsockopt");
+    if (level != SOL_SOCKET || name != SO_RCVBUF) return real(fd, level, name, value, n);
+    if (real(fd, level, SO_RCVBUFFORCE, &half, sizeof half)) abort();
+    return 0;
 }
 """
 SIGNATURE = 2 + 2508
@@ -80,7 +84,7 @@ def pieces_of(size):
 
 
 class Receiver:
-    """The node of r0, with a buffer of so many bytes; with that of the system for None."""
+    """The node of r0, with a buffer of so many bytes; with that for which it asks for None."""
 
     def __init__(self, folder, base, buffer):
         self.folder, self.base, self.number = folder, base, 0
@@ -160,7 +164,7 @@ def longest(size_of, pieces, command):
 
 
 def tell(buffer, most, dropped):
-    name = f"a buffer of {buffer} bytes" if buffer else f"the system's buffer, {system_buffer()} bytes"
+    name = f"a buffer of {buffer} bytes" if buffer else f"the program's own buffer, {own_buffer()} bytes"
     print(f"{name}: {most[False]} pieces came whole while the node ran, {most[True]} while it was stopped; {dropped} dropped")
     for kind, size_of in KINDS.items():
         counts = [longest(size_of, most[True], command) for command in (128, 8)]
@@ -169,8 +173,9 @@ def tell(buffer, most, dropped):
         print(f"    {kind}: histories of {shown[0]} requests of 128 bytes, {shown[1]} of 8; at most {size} bytes, {pieces_of(size)} pieces")
 
 
-def system_buffer():
-    return int(pathlib.Path("/proc/sys/net/core/rmem_default").read_text())
+def own_buffer():
+    """The system gives twice what is asked for, and at most twice its limit."""
+    return 2 * min(ASKED, int(pathlib.Path("/proc/sys/net/core/rmem_max").read_text()))
 
 
 def main():

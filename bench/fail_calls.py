@@ -1,13 +1,14 @@
 #!/usr/bin/env python3
 """Runs the built program again and again, and lets one call to the outside fail in each: the first, the second and the last read
-of the input, write of the output, write of the faults' output, opening of the port, wait for a datagram and sending of one; and, of a
-node with a journal, each write, each read and each sync of the journal.
+of the input, write of the output, write of the faults' output, opening of the port, request for a larger buffer, wait for a datagram and
+sending of one; and, of a node with a journal, each write, each read and each sync of the journal.
 
 usage: fail_calls.py
 
 Each run has to end as the table of statuses says, with the text of its status, and with a front of what it writes without
-the fault. A datagram that couldn't be sent is a loss, and the node goes on. Once a call of the journal failed, nothing is sent, and
-another run goes on with the journal that is left. What is otherwise is told, and the status is then 1. It needs a C compiler."""
+the fault. A datagram that couldn't be sent is a loss, and the node goes on; a buffer that wasn't got changes nothing. Once a call of the
+journal failed, nothing is sent, and another run goes on with the journal that is left. What is otherwise is told, and the status is then 1.
+It needs a C compiler."""
 
 import itertools
 import pathlib
@@ -28,8 +29,8 @@ FAILER = r"""
 #include <sys/socket.h>
 #include <sys/uio.h>
 #include <unistd.h>
-enum { IN, OUT, ERR, OPEN, RECV, SEND, SYNC, PUT, GET, KINDS };
-static const char *names[KINDS] = { "in", "out", "err", "open", "recv", "send", "sync", "put", "get" };
+enum { IN, OUT, ERR, OPEN, ROOM, RECV, SEND, SYNC, PUT, GET, KINDS };
+static const char *names[KINDS] = { "in", "out", "err", "open", "room", "recv", "send", "sync", "put", "get" };
 static long counts[KINDS];
 static int fails(int kind) {
     const char *which = getenv("FAIL_KIND"), *number = getenv("FAIL_NUMBER");
@@ -52,6 +53,11 @@ int bind(int fd, const struct sockaddr *a, socklen_t n) {
     REAL(bind);
     if (fails(OPEN)) { errno = EADDRINUSE; return -1; }
     return real(fd, a, n);
+}
+int setsockopt(int fd, int level, int name, const void *value, socklen_t n) {
+    REAL(setsockopt);
+    if (level == SOL_SOCKET && name == SO_RCVBUF && fails(ROOM)) { errno = EPERM; return -1; }
+    return real(fd, level, name, value, n);
 }
 ssize_t recvfrom(int fd, void *b, size_t n, int flags, struct sockaddr *a, socklen_t *l) {
     REAL(recvfrom);
@@ -89,10 +95,11 @@ __attribute__((destructor)) static void tell(void) {
     if (path && (f = fopen(path, "w"))) { for (int i = 0; i < KINDS; i++) fprintf(f, "%ld ", counts[i]); fclose(f); }
 }
 """
-KINDS = ("in", "out", "err", "open", "recv", "send", "sync", "put", "get")
+KINDS = ("in", "out", "err", "open", "room", "recv", "send", "sync", "put", "get")
 DISK = ("sync", "put", "get")
 # What a run of each of these calls at least once.
-CALLED = {"replay": {"in", "out"}, "replay, a bad line": {"in", "err"}, "keys": {"out"}, "node": {"in", "out", "err", "open", "recv", "send"}}
+NODES = {"in", "out", "err", "open", "room", "recv", "send"}
+CALLED = {"replay": {"in", "out"}, "replay, a bad line": {"in", "err"}, "keys": {"out"}, "node": NODES}
 JOURNAL = "node with a journal"
 KEYS = ["keys", *"--plan quorum --f 1 --clients 1 --service kv --lms 5 --party c0 --seed".split(), SEED]
 # It waits so long that no timer runs out before the wait does, however busy the machine is.
@@ -112,6 +119,8 @@ def wanted(kind, good, failed):
         return status == 5 and out == good_out and good_err.startswith(err) and err != good_err
     if kind in ("open", "recv"):
         return status == 6 and front and out != good_out and err == b"link fault\n"
+    if kind == "room":
+        return failed == good
     events, sent, lost, spent = (int(n) for n in good_out.split()[1:])
     return (status, out, err) == (good_status, b"end %d %d %d %d\n" % (events, sent, lost + 1, spent), good_err)
 

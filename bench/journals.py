@@ -1,6 +1,7 @@
 """The journals of nodes: their bytes, by code that shares nothing with the program, clusters whose nodes have journals and are killed, and
 the schedule of what all journals of a cluster have."""
 
+import collections
 import dataclasses
 import hashlib
 import re
@@ -13,6 +14,8 @@ from schedules import head
 MARK, COMMAND, MESSAGE, TIMEOUT = range(4)
 OPEN, SHUT = b"\1", b"\0"
 TURNS = 1_000_000_000
+# The messages that are long or come often, by their codes.
+KINDS = {6: "ABORT", 7: "INIT", 8: "PRE-PREPARE", 9: "PREPARE", 11: "VIEW-CHANGE", 12: "NEW-VIEW"}
 # Where a line begins, also behind one of which the end is missing since its writer was killed.
 BEGINNING = re.compile(rb"invoke c|inject [rc]|timeout [rc]|reply \d|end \d")
 
@@ -70,6 +73,17 @@ def line_of(party, body):
     if code == MESSAGE:
         return b"inject %s %s" % (party, rest.hex().encode())
     return b"timeout %s" % party
+
+
+def filling(journals):
+    """What fills these journals most, each a list of bodies: how many messages of a kind, and their bytes."""
+    messages = [body[1:] for bodies in journals for body in bodies[1:] if body[0] == MESSAGE]
+    counts, sizes = collections.Counter(), collections.Counter()
+    for message in messages:
+        kind = KINDS.get(message[0], "others")
+        counts[kind] += 1
+        sizes[kind] += len(message)
+    return ", ".join(f"{counts[kind]} {kind} of {size:,} bytes" for kind, size in sizes.most_common(4))
 
 
 def told(data):
@@ -231,7 +245,8 @@ def faults_of(nodes):
     premise = [line for line in report if line.startswith("premise")]
     if (status, premise) != (0, ["premise held"]):
         # Without a report there is nothing with which replies could be compared.
-        return [*faults, f"the replay of all journals ends with {status}: {', '.join(premise)} {said}"], sum(map(len, commits.values()))
+        fault = f"the replay of all journals ends with {status}: {', '.join(premise)} {said}; they have {filling(map(nodes.bodies, nodes.commands))}"
+        return [*faults, fault], sum(map(len, commits.values()))
     faults += reply_faults(nodes, schedule, commits)
     numbers = {}
     for line in (line for lines in commits.values() for line in lines):

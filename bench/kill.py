@@ -8,14 +8,15 @@ Without `--plan` all six plans are tried. Of each plan one cluster after another
 cluster has four replicas and N clients (2), each with so many commands (40), all with journals and traces. Nodes are killed after random
 pauses, T seconds in the middle (0.5): mostly one, sometimes two, sometimes all at once, also while they read their journals. They are
 started again after a further pause. S of `--seed` (1) gives the moments and who is killed, as far as the machine goes along. Once the
-clients have ended, or after S seconds (120), all is stopped.
+clients have ended, or after S seconds (120), or once the journals have 24 MiB, all is stopped. More than that may be more than `replay`
+takes: a schedule spells each byte with two digits. On a busy machine a Backup whose wait is too short changes its view again and again, and
+journals grow by a megabyte a second.
 
 What the journals have is then put together as one schedule: each event at the first line that its party wrote of it. That is replayed.
 It ends with 1 if the replay says anything but `premise held`; if a process writes other events again than its journal has; if a process
 of a client writes other replies than the first ones that the replay commits, in their order and each once; if a client's commands aren't
 its first ones, each once; if a node ends by itself otherwise than a client whose commands are answered; or if a cluster answers nothing.
-Then it tells where it left a copy of the cluster's files. Journals can be longer than what `replay`
-takes (`limit bytes`); such a cluster is told as a fault, since nothing was looked at.
+Then it tells where it left a copy of the cluster's files. Told too is how many clusters were stopped for the size of their journals.
 
 The journals of a further cluster, of one client with N commands (4) and trees of height 5, are torn: that of each party is cut at each byte
 of its last two entries, and opened. Its node has to write the lines of the entries that are left, in an order in which nothing more
@@ -45,6 +46,10 @@ from storms import PLANS
 REPLICAS = [f"r{r}" for r in range(cluster.REPLICAS)]
 # How often it is one node that is killed, two, or all.
 SHARES = (16, 3, 1)
+# So many bytes of journals are a schedule that `replay` takes.
+MOST_BYTES = 24 << 20
+# How long a wait for clients is before the journals are looked at again.
+LOOK = 1
 # So many commands fill a journal in a small file system.
 FULL = 300
 SMALL = "32k"
@@ -80,8 +85,11 @@ class Killer:
     def pause(self):
         time.sleep(self.draws.uniform(0, 2 * self.asked.pause))
 
+    def is_full(self):
+        return sum(path.stat().st_size for path in self.nodes.journals.iterdir()) > MOST_BYTES
+
     def goes_on(self):
-        return self.clients_left() and time.monotonic() < self.end
+        return self.clients_left() and time.monotonic() < self.end and not self.is_full()
 
     def victims(self):
         running = self.nodes.running()
@@ -97,7 +105,8 @@ class Killer:
                 self.pause()
             for party in killed:
                 self.nodes.begin(party)
-        self.nodes.wait_for(self.clients_left(), max(0, self.end - time.monotonic()))
+        while self.goes_on():
+            self.nodes.wait_for(self.clients_left(), min(LOOK, max(0, self.end - time.monotonic())))
 
 
 def end_faults(statuses, running):
@@ -113,14 +122,16 @@ def told_of(plan, asked, **others):
 
 
 def killed_once(plan, asked, draws, most):
-    """A cluster whose nodes are killed: how many were, how many commands were answered, and what is wrong."""
+    """A cluster whose nodes are killed: how many were, whether its journals grew too long, how many commands were answered, and what is
+    wrong."""
     asked = told_of(plan, asked)
     with tempfile.TemporaryDirectory(dir=asked.folder) as folder:
         nodes = Kept(folder, asked)
         try:
             begin(nodes, asked)
-            Killer(nodes, asked, draws, most).kill()
-            running = nodes.running()
+            killer = Killer(nodes, asked, draws, most)
+            killer.kill()
+            running, is_full = nodes.running(), killer.is_full()
         finally:
             statuses, said = nodes.stop()
         faults, answered = faults_of(nodes)
@@ -130,7 +141,7 @@ def killed_once(plan, asked, draws, most):
             faults.append("no command was answered")
         if faults:
             faults.append(f"its texts, lines, journals and schedule are in {copied(folder, asked)}")
-        return nodes.kills, answered, faults
+        return nodes.kills, is_full, answered, faults
 
 
 def copied(folder, asked):
@@ -143,15 +154,16 @@ def copied(folder, asked):
 def killed(plan, asked):
     """Clusters of this plan, until enough nodes were killed. Yields what is wrong."""
     draws = random.Random(f"{plan} {asked.seed}")
-    kills = answered = clusters = 0
+    kills = answered = clusters = full = 0
     while kills < asked.kills:
-        more, replies, faults = killed_once(plan, asked, draws, asked.kills - kills)
-        kills, answered, clusters = kills + more, answered + replies, clusters + 1
+        more, is_full, replies, faults = killed_once(plan, asked, draws, asked.kills - kills)
+        kills, answered, clusters, full = kills + more, answered + replies, clusters + 1, full + is_full
         yield from (f"{plan}, cluster {clusters}: {fault}" for fault in faults)
         if faults:
             break
     wanted = clusters * asked.clients * asked.commands
-    print(f"{plan}: {kills} kills in {clusters} clusters, {answered} of {wanted} commands answered", flush=True)
+    stopped = f", {full} of them stopped for the size of their journals" if full else ""
+    print(f"{plan}: {kills} kills in {clusters} clusters{stopped}, {answered} of {wanted} commands answered", flush=True)
 
 
 def reopened(folder, asked, party, text, data):

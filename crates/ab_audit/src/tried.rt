@@ -8,6 +8,7 @@ use crate::verdict::Verdict;
 use ab_mac::{hash, link};
 use ab_num::OutOfMemory;
 use ab_scheme::{PublicKey, verify_by};
+use ab_sign::{LONGEST_CONTENT, LONGEST_SIGNATURE};
 use indexmap::IndexMap;
 use std::alloc::Global;
 
@@ -67,7 +68,7 @@ impl Tried {
     ) -> Result<(), OutOfMemory>
         requires { right ≡ verified_by public.now content.now sig.now }
     {
-        if content.len() > 262_144 || sig.len() > 8_192 {
+        if content.len() > LONGEST_CONTENT || sig.len() > LONGEST_SIGNATURE {
             return Ok(());
         }
         let size = content.len() + sig.len();

@@ -4,6 +4,7 @@ use Rattle.std.specs.Str.{bytes_eq}
 use Rattle.std.specs.Option.{option_and_then}
 use Rattle.hex.specs.Hex.{decode_of}
 use Rattle.ab_num.specs.declared.plan.Scheme.{Scheme}
+use Rattle.ab_num.specs.Limits.{longest_message}
 use Rattle.ab_text.specs.Heads.{stripped, spelled_in, lms_line, schemes}
 use Rattle.ab_scheme.specs.Schemes.{public_length}
 use Rattle.ab_key_text.specs.declared.fault.NodeFault.{NodeFault}
@@ -27,7 +28,7 @@ audit_of f lms publics messages = record { f = f; lms = lms; publics = publics; 
 
 -- 1 to 4,194,304 bytes
 abbrev pub is_sized : List ℕ → Bool
-is_sized bytes = nat_le 1 (length bytes) && nat_le (length bytes) 4194304
+is_sized bytes = nat_le 1 (length bytes) && nat_le (length bytes) longest_message
 
 abbrev pub sized : Option (List ℕ) → Option (List ℕ)
 sized None = None

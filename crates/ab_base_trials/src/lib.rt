@@ -25,3 +25,5 @@ mod stores;
 mod tags;
 #[cfg(test)]
 mod trimmed;
+#[cfg(test)]
+mod trimmed_bytes;

@@ -4,6 +4,7 @@ use Rattle.std.specs.Option.{option_map}
 use Rattle.ab_num.specs.declared.cluster.Cluster.{Cluster}
 use Rattle.ab_num.specs.declared.party.Party.TheVariants.{Replica}
 use Rattle.ab_num.specs.declared.plan.Kind.{Kind}
+use Rattle.ab_num.specs.Limits.{most_events}
 use Rattle.ab_msg.specs.declared.message.Out.{Out}
 use Rattle.ab_abs.specs.declared.seen.Seen.{Seen}
 use Rattle.ab_abs.specs.Ensembles.{Proto}
@@ -166,4 +167,4 @@ pub record IsCast {P : Type 0} (proto : Proto P) (serves : Kind → Bool) (x : C
   pub twin_replicas : AreTwins proto serves x.setup (replica_twins x.setup.faulty) x.replica_twins
   pub seats : AreSeats x.setup.cluster x.events x.clients
   pub twin_seats : AreTwinSeats x.setup.cluster x.events (client_twins x.setup.faulty) x.client_twins
-  pub few_events : x.events ≤ 100000
+  pub few_events : x.events ≤ most_events

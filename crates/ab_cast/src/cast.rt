@@ -3,6 +3,7 @@
 ghost use Rattle.std.specs.Prelude.{option_and_then, ◌≡◌, ◌+◌, ◌*◌, ◌<◌, ◌≤◌, ℕ, IsOkAnd, IfOk, IfErr, OnOk, OnErr, Option, Some, None, [], ◌∷◌, length, slice_get};
 ghost use Rattle.std.specs.Option.{option_map};
 ghost use Rattle.ab_num.specs.declared.party.Party.{Party as TheParty};
+ghost use Rattle.ab_num.specs.Limits.{most_events};
 ghost use Rattle.ab_abs.specs.declared.seen.Seen.{Seen};
 ghost use Rattle.ab_abs.specs.Promises.{ServesAll};
 ghost use Rattle.ab_wire.specs.Views.{IsReceived, message as message_of};
@@ -106,7 +107,7 @@ impl<S: Service, P: Protocol<S>> Cast<S, P> {
     /// How many events there were.
     pub fn events(&self) -> u32
         ensures number { result ≡ self.now.events }
-        ensures few { result ≤ 100000 }
+        ensures few { result ≤ most_events }
     {
         self.events
     }
@@ -175,7 +176,7 @@ impl<S: Service, P: Protocol<S>> Cast<S, P> {
 
     /// An event that changes no core.
     pub fn pass(&mut self)
-        requires { self.old.events < 100000 }
+        requires { self.old.events < most_events }
         ensures { self.new ≡ next self.old }
     {
         self.events += 1;
@@ -189,7 +190,7 @@ impl<S: Service, P: Protocol<S>> Cast<S, P> {
         place: Place,
         m: MsgRef<'_>,
     ) -> Result<Effects, OutOfMemory>
-        requires few { self.old.events < 100000 }
+        requires few { self.old.events < most_events }
         requires received { IsReceived m }
         requires there { (twin : Option ℕ) × (place_of self.old.setup (party_at place) twin ≡ Some place) }
         ensures taken { (s : Core P) → core_at self.old place ≡ Some s
@@ -205,7 +206,7 @@ impl<S: Service, P: Protocol<S>> Cast<S, P> {
 
     /// The timer of the core at a place of the cluster runs out. After an `Err` all is as before.
     pub fn ring(&mut self, alloc: Global, place: Place) -> Result<Effects, OutOfMemory>
-        requires few { self.old.events < 100000 }
+        requires few { self.old.events < most_events }
         requires there { (twin : Option ℕ) × (place_of self.old.setup (party_at place) twin ≡ Some place) }
         ensures taken { (s : Core P) → core_at self.old place ≡ Some s
             → IfOk result (λ e. IsTaken P.proto self.old place s cue_time self.new e.outs e.marks.items e.spent) }
@@ -216,7 +217,7 @@ impl<S: Service, P: Protocol<S>> Cast<S, P> {
 
     /// The core at a place of the cluster takes what comes. After an `Err` all is as before.
     fn give(&mut self, alloc: Global, place: Place, cue: Cue<'_>) -> Result<Effects, OutOfMemory>
-        requires few { self.old.events < 100000 }
+        requires few { self.old.events < most_events }
         requires cue { IsCue cue }
         requires there { (twin : Option ℕ) × (place_of self.old.setup (party_at place) twin ≡ Some place) }
         ensures taken { (s : Core P) → core_at self.old place ≡ Some s
@@ -261,7 +262,7 @@ impl<S: Service, P: Protocol<S>> Cast<S, P> {
         place: Place,
         bytes: &[u8],
     ) -> Result<Effects, CommandFault>
-        requires few { self.old.events < 100000 }
+        requires few { self.old.events < most_events }
         requires form { (0 < length bytes.now) × (length bytes.now ≤ 128) }
         requires there { (twin : Option ℕ) × (place_of self.old.setup (party_at place) twin ≡ Some place) }
         ensures taken { (s : Core P) → core_at self.old place ≡ Some s

@@ -52,6 +52,25 @@ pub(crate) fn timely<'a>(at: u32, cert: &ListRef<'a, SignedRef<'a>>) -> Option<u
     Some(j)
 }
 
+/// The log that the last of these ABORTs states.
+fn last_log(aborts: &[Signed]) -> Option<&History> {
+    match &aborts.last()?.content {
+        Content::Abort { history, .. } => Some(history),
+        _ => None,
+    }
+}
+
+/// A log that is known: that of the last ABORT which is kept, or else of the certificate.
+pub(crate) fn known_log<'a>(
+    kept: &'a [Signed],
+    cert: Option<&'a AbortCert>,
+) -> Option<&'a History> {
+    match last_log(kept) {
+        Some(log) => Some(log),
+        None => last_log(cert?.as_slice()),
+    }
+}
+
 /// Whether one of these is of replica `maker`.
 pub(crate) fn is_kept(kept: &[Signed], maker: u8) -> bool
     ensures { result ≡ list_any (λ w. w.maker == maker) kept.now }

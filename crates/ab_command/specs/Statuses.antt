@@ -1,5 +1,6 @@
 -- The statuses of the top call, each with its cause.
 use Rattle.std.specs.Prelude.{◌≡◌, ◌≤◌, ℕ, Bool, true, false, not, List, ◌⊎◌, Some, Ok, Err, length}
+use Rattle.ab_num.specs.Limits.{most_events}
 use Rattle.ab_io.specs.Causes.{Rose}
 use Rattle.ab_command.specs.declared.status.Bound.TheVariants.{Bytes, Events, Packets}
 use Rattle.ab_command.specs.declared.status.Status.{Status}
@@ -142,7 +143,7 @@ pub record IsClear (c : Call) : Type 0 where
   pub input : c.met.input.before.left ≡ Some text
   pub short : length text ≤ most_bytes
   pub reads : ReadsText text (Ok schedule)
-  pub few : length schedule.events ≤ 100000
+  pub few : length schedule.events ≤ most_events
   pub runs : Runs schedule (Ok end)
   pub read : Rose c.met.input.before.faults c.met.input.after.faults → ⊥
   pub out : HasFailed c.met.out → ⊥

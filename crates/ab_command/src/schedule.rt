@@ -1,6 +1,7 @@
 //! A storm over the store of keys and values, as a schedule.
 
 ghost use Rattle.std.specs.Prelude.{◌≡◌, ◌≤◌, IfErr, IfOk};
+ghost use Rattle.ab_num.specs.Limits.{most_events};
 ghost use Rattle.ab_text.specs.Schedules.{script_of};
 ghost use Rattle.ab_command.specs.Statuses.{kv};
 ghost use Rattle.ab_storm.specs.Runs.{StormCause};
@@ -30,7 +31,7 @@ fn schedule_in(alloc: Global, cluster: &Cluster, events: Items<Event>) -> Schedu
 
 /// The schedule of the storm that is asked for.
 fn storm_schedule(alloc: Global, asked: &StormCommand) -> Result<Schedule, StormFault>
-    requires few { asked.now.events ≤ 100000 }
+    requires few { asked.now.events ≤ most_events }
     ensures ok { IfOk result (λ s. IsOfStorm asked.now (script_of s.head s.events)) }
     ensures cause { IfErr result (λ e. StormCause kv e asked.now) }
 {
@@ -40,7 +41,7 @@ fn storm_schedule(alloc: Global, asked: &StormCommand) -> Result<Schedule, Storm
 
 /// The text of the schedule of the storm that is asked for.
 pub(crate) fn storm_text(alloc: Global, asked: &StormCommand) -> Result<Vec<u8>, StormFault>
-    requires few { asked.now.events ≤ 100000 }
+    requires few { asked.now.events ≤ most_events }
     ensures ok { IfOk result (λ v. WritesStorm asked.now v.items) }
     ensures cause { IfErr result (λ e. StormCause kv e asked.now) }
 {

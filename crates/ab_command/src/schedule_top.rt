@@ -1,6 +1,7 @@
 //! What the program does.
 
 ghost use Rattle.std.specs.Prelude.{◌≡◌, ◌≤◌, ◌∷◌, List, ℕ, IfOk, IfSome, None, codes, map};
+ghost use Rattle.ab_num.specs.Limits.{most_events};
 ghost use Rattle.ab_words.specs.Uses.{texts};
 ghost use Rattle.ab_words.specs.Commands.{StormCommand as TheStorm};
 ghost use Rattle.ab_io.specs.States.{change};
@@ -34,7 +35,7 @@ fn storm_words<'a>(alloc: Global, options: &[&'a str]) -> Result<Vec<&'a str>, O
 fn storm_in(alloc: Global, options: &[&str]) -> Result<Option<StormCommand>, OutOfMemory>
     ensures found { IfOk result (λ o. IfSome o (λ k. Asks (texts options.now) k)) }
     ensures none { IfOk result (λ o. o ≡ None → (k : TheStorm) → Asks (texts options.now) k → ⊥) }
-    ensures few { IfOk result (λ o. IfSome o (λ k. k.events ≤ 100000)) }
+    ensures few { IfOk result (λ o. IfSome o (λ k. k.events ≤ most_events)) }
 {
     let words = storm_words(alloc, options)?;
     match command_in(alloc, words.as_slice()) {
@@ -51,7 +52,7 @@ fn serve_storm<O: Sink, E: Sink>(
     out: &mut O,
     err: &mut E,
 ) -> Status
-    requires few { asked.now.events ≤ 100000 }
+    requires few { asked.now.events ≤ most_events }
     ensures cause { (options : List (List ℕ)) → Asks options asked.now
         → ScheduleCause result options (change (O.state out.old) (O.state out.new)) (change (E.state err.old) (E.state err.new)) }
 {

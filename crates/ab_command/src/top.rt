@@ -1,6 +1,7 @@
 //! The top call.
 
 ghost use Rattle.std.specs.Prelude.{◌≡◌, ◌≤◌, ◌⊎◌, ℕ, List, Option, if◌then◌else◌, map};
+ghost use Rattle.ab_num.specs.Limits.{most_events};
 ghost use Rattle.ab_io.specs.Causes.{Rose};
 ghost use Rattle.ab_io.specs.States.{Change, ClockState, LinkState, SourceState, change, outside};
 ghost use Rattle.ab_command.specs.Texts.{status_of, stop_status};
@@ -83,7 +84,7 @@ fn serve_storm<O: Sink, E: Sink>(
     out: &mut O,
     err: &mut E,
 ) -> Status
-    requires few { asked.now.events ≤ 100000 }
+    requires few { asked.now.events ≤ most_events }
     ensures cause { (words : List (List ℕ)) (input : Change SourceState) (link : Change LinkState) (clock : Change ClockState) → AsksStorm words asked.now
         → StatusCause result (call words (outside input
         (change (O.state out.old) (O.state out.new)) (change (E.state err.old) (E.state err.new)) link clock)) }

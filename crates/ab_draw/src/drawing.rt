@@ -13,11 +13,9 @@ use crate::parcels::parcels_of;
 use ab_abs::Protocol;
 use ab_io::Source;
 use ab_kv::Kv;
-use ab_num::{OutOfMemory, ServiceName};
+use ab_num::{MOST_EVENTS, OutOfMemory, ServiceName};
 use ab_picture::{Picture, Tale, compose, svg};
-use ab_replay::{
-    AnyProtocol, MOST_EVENTS, Played, ReadFault, ReplayFault, fault_of_text, play, read_all,
-};
+use ab_replay::{AnyProtocol, Played, ReadFault, ReplayFault, fault_of_text, play, read_all};
 use ab_svc::{Echo, Service};
 use ab_text::{Event, Head, Schedule, lines_of_head, read_is_in_form, read_schedule};
 use std::alloc::Global;

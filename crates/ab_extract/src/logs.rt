@@ -15,6 +15,7 @@ ghost use Rattle.ab_extract.specs.Causes.{one_log};
 use crate::heads::again;
 use crate::tree::Tree;
 use ab_form::ListRef;
+use ab_hist::History;
 use ab_num::OutOfMemory;
 use ab_wire::{ContentRef, HistoryRef, RequestRef, SignedRef};
 use std::alloc::Global;
@@ -79,10 +80,11 @@ pub(crate) fn one_log<'a>(cert: &ListRef<'a, SignedRef<'a>>) -> Option<HistoryRe
     Some(log)
 }
 
-/// The logs that the ABORTs state, in a tree.
+/// The logs that the ABORTs state, in a tree. What the first has in common with `like` it shares with it.
 pub(crate) fn tree_of<'a>(
     alloc: Global,
     cert: &ListRef<'a, SignedRef<'a>>,
+    like: Option<&History>,
 ) -> Result<Tree, OutOfMemory>
     requires { length (aborts cert.now) ≤ 7 }
     ensures { IfOk result (λ t. t ≡ map (λ s. log_in s.content) (aborts cert.now)) }
@@ -90,7 +92,7 @@ pub(crate) fn tree_of<'a>(
     let mut tree = Tree::new(alloc);
     'aborts: for abort in again(cert) {
         let log = log_of(&abort);
-        tree.add_view(alloc, &log)?;
+        tree.add_view_like(alloc, &log, like)?;
     }
     Ok(tree)
 }

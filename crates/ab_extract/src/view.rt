@@ -45,35 +45,37 @@ fn are_sound<'a>(c: &Cluster, i: u32, cert: &ListRef<'a, SignedRef<'a>>) -> Resu
     Ok(())
 }
 
-/// The history of ABORTs that have to state one log.
+/// The history of ABORTs that have to state one log. What it has in common with `like` it shares with it.
 fn equal_history<'a>(
     alloc: Global,
     cert: &ListRef<'a, SignedRef<'a>>,
+    like: Option<&History>,
 ) -> Result<Option<History>, OutOfMemory>
     ensures ok { IfOk result (λ o. o ≡ one_log (aborts cert.now)) }
     ensures err { OnErr result (IsSome (one_log (aborts cert.now))) }
 {
     match one_log(cert) {
         Some(log) => {
-            let h = log.own(alloc)?;
+            let h = log.own_like(alloc, like)?;
             Ok(Some(h))
         }
         None => Ok(None),
     }
 }
 
-/// The history on which `q` of the logs that ABORTs state agree.
+/// The history on which `q` of the logs that ABORTs state agree. What the first log has in common with `like` it shares with it.
 fn agreed_history<'a>(
     alloc: Global,
     cert: &ListRef<'a, SignedRef<'a>>,
     q: usize,
+    like: Option<&History>,
 ) -> Result<History, OutOfMemory>
     requires few { length (aborts cert.now) ≤ 7 }
     requires half { length (aborts cert.now) < q + q }
     requires enough { q ≤ length (aborts cert.now) }
     ensures { IfOk result (λ h. IsExtract q (map (λ s. log_in s.content) (aborts cert.now)) h) }
 {
-    let tree = tree_of(alloc, cert)?;
+    let tree = tree_of(alloc, cert, like)?;
     tree.deepest(alloc, q)
 }
 
@@ -83,6 +85,7 @@ fn history_in<'a>(
     c: &Cluster,
     i: u32,
     cert: &ListRef<'a, SignedRef<'a>>,
+    like: Option<&History>,
 ) -> Result<History, CertFault>
     requires instance { 1 ≤ i }
     requires aborts { AreAborts (3 * c.now.f + 1) (aborts cert.now) }
@@ -93,10 +96,10 @@ fn history_in<'a>(
         return Err(fault);
     }
     if !needs_equal(c.kind(i)) {
-        let h = agreed_history(alloc, cert, usize::from(c.f) + 1)?;
+        let h = agreed_history(alloc, cert, usize::from(c.f) + 1, like)?;
         return Ok(h);
     }
-    match equal_history(alloc, cert)? {
+    match equal_history(alloc, cert, like)? {
         Some(h) => Ok(h),
         None => Err(CertFault::Unequal),
     }
@@ -119,7 +122,7 @@ pub fn check_view<'a>(
     ensures unequal { IsErrOf result CertFault.Unequal ↔ (IsSound c.now i (aborts cert.now) × (history_of c.now i (aborts cert.now) ≡ None)) }
     ensures memory { IsErrOf result CertFault.OutOfMemory → IsSome (history_of c.now i (aborts cert.now)) }
 {
-    history_in(alloc, c, i, cert)
+    history_in(alloc, c, i, cert, None)
 }
 
 /// Whether each is signed by one of so many replicas.
@@ -135,7 +138,7 @@ fn are_members<'a>(cert: &ListRef<'a, SignedRef<'a>>, replicas: u8) -> bool
 }
 
 /// An ABORT with parts of its own. Its log shares with `like` what both begin with.
-fn own_abort(
+pub fn own_abort(
     alloc: Global,
     abort: SignedRef<'_>,
     like: Option<&History>,
@@ -170,12 +173,14 @@ fn own_cert<'a>(
     Ok(AbortCert::of(all))
 }
 
-/// The history of a certificate of instance `i`. None exactly if it is not valid; then nothing was copied.
+/// The history of a certificate of instance `i`. None exactly if it is not valid; then nothing was copied. What its first log has
+/// in common with `like` is not hashed again.
 pub fn history_view<'a>(
     alloc: Global,
     c: &Cluster,
     i: u32,
     cert: &ListRef<'a, SignedRef<'a>>,
+    like: Option<&History>,
 ) -> Result<Option<History>, OutOfMemory>
     requires instance { 1 ≤ i }
     requires formed { All (IsSigned IsAbort) (aborts cert.now) }
@@ -184,7 +189,7 @@ pub fn history_view<'a>(
     if !are_members(cert, c.replicas()) {
         return Ok(None);
     }
-    match history_in(alloc, c, i, cert) {
+    match history_in(alloc, c, i, cert, like) {
         Ok(h) => Ok(Some(h)),
         Err(fault) => match fault {
             CertFault::OutOfMemory => Err(OutOfMemory),
@@ -194,19 +199,20 @@ pub fn history_view<'a>(
 }
 
 /// The history of a certificate of instance `i`, and a copy of the certificate. None exactly if it is not valid; then nothing was
-/// copied.
+/// copied. What its first log has in common with `like` is not hashed again.
 pub fn take_view<'a>(
     alloc: Global,
     c: &Cluster,
     i: u32,
     cert: &ListRef<'a, SignedRef<'a>>,
+    like: Option<&History>,
 ) -> Result<Option<(History, AbortCert)>, OutOfMemory>
     requires instance { 1 ≤ i }
     requires formed { All (IsSigned IsAbort) (aborts cert.now) }
     ensures history { IfOk result (λ o. option_map (λ x. x.0) o ≡ history_of c.now i (aborts cert.now)) }
     ensures cert { IfOk result (λ o. IfSome o (λ x. x.1 ≡ aborts cert.now)) }
 {
-    match history_view(alloc, c, i, cert)? {
+    match history_view(alloc, c, i, cert, like)? {
         Some(h) => {
             let own = own_cert(alloc, cert, &h)?;
             Ok(Some((h, own)))

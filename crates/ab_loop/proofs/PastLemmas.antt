@@ -6,7 +6,8 @@ use Rattle.std.specs.declared.alloc.Global.{Global}
 use Rattle.std.proofs.lemmas.Bool.{and_parts, le-leb, leb-true, eqb-true}
 use Rattle.std.proofs.lemmas.Option.{none-some}
 use Rattle.ab_loop.specs.Cores.{NodeEvent, invoke, message, timeout}
-use Rattle.ab_loop.specs.Past.{IsEvent, IsFirstForeign, IsSpelled, Spell, body_of, event_in, event_spelled, longest_command, longest_message, sized, texts_of}
+use Rattle.ab_num.specs.Limits.{longest_message}
+use Rattle.ab_loop.specs.Past.{IsEvent, IsFirstForeign, IsSpelled, Spell, body_of, event_in, event_spelled, longest_command, sized, texts_of}
 
 -- ---- a body that was made
 

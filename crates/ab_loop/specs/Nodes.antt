@@ -7,6 +7,7 @@ use Rattle.ab_io.specs.Datagrams.{Datagram, given_of}
 use Rattle.ab_loop.specs.declared.fault.ServeFault.{ServeFault}
 use Rattle.ab_num.specs.declared.party.Party.{Party}
 use Rattle.ab_num.specs.declared.party.Party.TheVariants.{Replica, Client}
+use Rattle.ab_num.specs.Limits.{longest_message}
 use Rattle.ab_piece.specs.Pieces.{cut_of}
 use Rattle.ab_piece.specs.Joining.{OpenMessage, Answer, whole, more, dropped, open_after, step_of}
 use Rattle.ab_loop.specs.declared.party_core.Commit.{Commit}
@@ -26,7 +27,7 @@ pub record AreOpened (messages : List OpenMessage) : Type 0 where
 
 -- a whole message has at most 4 MiB
 abbrev pub IsShortAnswer : Answer → Type 0
-IsShortAnswer (whole m) = length m ≤ 4194304
+IsShortAnswer (whole m) = length m ≤ longest_message
 IsShortAnswer more = ⊤
 IsShortAnswer (dropped c) = ⊤
 

@@ -1,6 +1,7 @@
 -- The events of a party as the bodies of a journal.
 use Rattle.std.specs.Prelude.{◌≡◌, ℕ, ◌+◌, ◌≤◌, List, [], ◌∷◌, ◌++◌, map, length, Option, None, Some, Vec, unwrap_or, nat_le, ◌==◌, ◌&&◌, if◌then◌else◌, ⊤}
 use Rattle.std.specs.declared.alloc.Global.{Global}
+use Rattle.ab_num.specs.Limits.{longest_message}
 use Rattle.ab_loop.specs.Cores.{NodeEvent, invoke, message, timeout}
 
 -- an event as a body: a code and its bytes
@@ -11,9 +12,6 @@ body_of timeout = 3 ∷ []
 
 abbrev pub longest_command : ℕ
 longest_command = 128
-
-abbrev pub longest_message : ℕ
-longest_message = 4194304
 
 -- a command of 1 to 128 bytes, a message of at most 4 MiB, or a timeout
 abbrev pub IsEvent : NodeEvent → Type 0

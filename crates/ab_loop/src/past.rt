@@ -7,13 +7,11 @@ ghost use Rattle.ab_loop.specs.Cores.{NodeEvent, event_of};
 ghost use Rattle.ab_loop.specs.Past.{IsEvent, IsFirstForeign, IsSpelled, Spell, body_of, event_in, texts_of};
 
 use crate::party_core::NodeEventRef;
-use ab_num::OutOfMemory;
+use ab_num::{LONGEST_MESSAGE, OutOfMemory};
 use std::alloc::Global;
 use std::marker::Model;
 
 const LONGEST_COMMAND: usize = 128;
-
-const LONGEST_MESSAGE: usize = 4_194_304;
 
 /// An event as a body.
 pub(crate) fn body_of(alloc: Global, input: &NodeEventRef<'_>) -> Result<Vec<u8>, OutOfMemory>

@@ -1,14 +1,16 @@
 //! Packets.
 
-ghost use Rattle.std.specs.Prelude.{◌≡◌};
+ghost use Rattle.std.specs.Prelude.{◌≡◌, IfOk};
 
-use ab_num::Party;
+use ab_num::{OutOfMemory, Party};
+use std::alloc::Global;
 use std::marker::Model;
+use std::rc::RcSlice;
 
-/// To whom bytes were sent, and the bytes.
+/// To whom bytes were sent, and the bytes. What goes to several parties can share them.
 pub struct Packet {
     to: Party,
-    bytes: Vec<u8>,
+    bytes: RcSlice<u8>,
 }
 
 impl Drop for Packet {
@@ -23,15 +25,24 @@ impl Model for Packet {
 
     ghost Value = { Sent };
 
-    ghost view = { λ p. record { to = p.to; bytes = p.bytes.items } };
+    ghost view = { λ p. record { to = p.to; bytes = p.bytes.items.value.items } };
 }
 
 impl Packet {
     /// These bytes to this party.
-    pub fn new(to: Party, bytes: Vec<u8>) -> Packet
-        ensures { result ≡ record { to = to; bytes = bytes.items } }
+    pub fn new(alloc: Global, to: Party, bytes: &[u8]) -> Result<Packet, OutOfMemory>
+        ensures { IfOk result (λ packet. packet ≡ record { to = to; bytes = bytes.now }) }
     {
-        Packet { to, bytes }
+        let bytes = RcSlice::from_slice(alloc, bytes)?;
+        Ok(Packet { to, bytes })
+    }
+
+    /// The same bytes, which both packets share, to this party.
+    pub fn forward(&self, to: Party) -> Result<Packet, OutOfMemory>
+        ensures { IfOk result (λ packet. packet ≡ record { to = to; bytes = self.now.bytes }) }
+    {
+        let bytes = self.bytes.clone()?;
+        Ok(Packet { to, bytes })
     }
 
     /// To whom it was sent.

@@ -9,10 +9,15 @@ ghost use Rattle.ab_io.specs.declared.link.Got.TheVariants as got;
 ghost use Rattle.ab_net.specs.UdpLinks.{link_of, unopened};
 
 use ab_io::{Failed, Got, LONGEST_DATAGRAM, Link, Refused};
+use libc::net::{SO_RCVBUF, SOL_SOCKET, setsockopt};
 use std::io::ErrorKind;
 use std::marker::Model;
 use std::net::{Ipv4Addr, Net, SocketAddrV4, UdpSocket};
+use std::os::fd::AsRawFd;
 use std::time::Duration;
+
+/// How many bytes of receive buffer a socket asks for. The system gives twice that, or twice its own limit.
+const RECEIVE_BUFFER: i32 = 8_388_608;
 
 /// A socket on the loopback address, once it is open, how often it has failed, and how many datagrams it
 /// has lost.
@@ -53,6 +58,15 @@ fn address(port: u16) -> SocketAddrV4 {
     SocketAddrV4::new(Ipv4Addr::LOCALHOST, port)
 }
 
+/// Asks that a long message, which comes as one burst, can wait in the socket until it is taken. If the system refuses, the
+/// socket serves all the same: what is dropped then costs time, as any lost datagram does.
+fn ask_for_room(socket: &UdpSocket) {
+    let mut size = [0; 16];
+    size[..4].copy_from_slice(&RECEIVE_BUFFER.to_ne_bytes());
+    // std sets no receive buffer. The descriptor is open, since the socket is borrowed, and C reads four of the bytes.
+    unsafe { setsockopt(socket.as_raw_fd(), SOL_SOCKET, SO_RCVBUF, &size, 4) };
+}
+
 /// What comes at a socket within so many milliseconds, but at least one, since a socket takes no wait
 /// of none.
 fn received(socket: &UdpSocket, buf: &mut [u8], wait_ms: u32) -> Got
@@ -84,6 +98,7 @@ impl<R: Net + Drop> Link for UdpLink<R> {
     {
         match UdpSocket::bind(&self.net, address(port)) {
             Ok(socket) => {
+                ask_for_room(&socket);
                 self.socket = Some(socket);
                 Ok(())
             }

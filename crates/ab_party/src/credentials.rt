@@ -5,7 +5,6 @@ ghost use Rattle.ab_num.specs.declared.party.Party.TheVariants.{Replica};
 ghost use Rattle.ab_keys.specs.Keys.{is_party};
 ghost use Rattle.ab_run.specs.Forms.{IsDraftOf};
 ghost use Rattle.ab_msg.specs.Packets.{IsSendable};
-ghost use Rattle.ab_seal.specs.Sealing.{sealed};
 ghost use Rattle.ab_party.specs.Credentials.{IsLast, IsPartyRing, opening_by, sealed_all, sealed_by};
 
 use ab_keys::{KeyRing, is_party};
@@ -31,6 +30,23 @@ impl<'k> Model for Credentials<'k> {
     ghost Value = { TheCredentials };
 
     ghost view = { λ c. record { ring = c.ring.now; keys = c.signers.now } };
+}
+
+/// These bytes to this party. If the packet before it has the same bytes, both share them.
+fn packet_after(
+    alloc: Global,
+    before: Option<&Packet>,
+    to: Party,
+    bytes: &[u8],
+) -> Result<Packet, OutOfMemory>
+    ensures { IfOk result (λ packet. packet ≡ record { to = to; bytes = bytes.now }) }
+{
+    if let Some(before) = before {
+        if before.bytes() == bytes {
+            return before.forward(to);
+        }
+    }
+    Packet::new(alloc, to, bytes)
 }
 
 impl<'k> Credentials<'k> {
@@ -62,28 +78,28 @@ impl<'k> Credentials<'k> {
         }
     }
 
-    /// The bytes of a message with the tags of its maker, where the message before it is the last of
-    /// these, if there is one. A request that goes to several replicas is sealed once.
-    fn bytes_of(
+    /// A message with the tags of its maker, where the message before it is the last of these, if
+    /// there is one. A request that goes to several replicas is sealed once.
+    fn packet_of(
         &self,
         alloc: Global,
         packets: &[Packet],
         before: Option<&Out>,
         out: &Out,
-    ) -> Result<Vec<u8>, OutOfMemory>
+    ) -> Result<Packet, OutOfMemory>
         requires draft { IsDraftOf self.now.ring.f self.now.ring.me out.now }
         requires before { IfSome before (λ o. IsLast (sealed_by self.now.ring o.now) packets.now) }
-        ensures { IfOk result (λ v. v.items ≡ sealed self.now.ring out.now) }
+        ensures { IfOk result (λ packet. packet ≡ sealed_by self.now.ring out.now) }
     {
         if let Some(before) = before {
             if is_sealed_alike(&before.msg, &out.msg) {
                 if let Some(last) = packets.last() {
-                    let bytes = Vec::from_slice(alloc, last.bytes())?;
-                    return Ok(bytes);
+                    return last.forward(out.to);
                 }
             }
         }
-        seal(alloc, self.ring, out)
+        let bytes = seal(alloc, self.ring, out)?;
+        packet_after(alloc, packets.last(), out.to, &bytes)
     }
 
     /// Adds a message to a party of the cluster, with the tags of its maker.
@@ -103,8 +119,8 @@ impl<'k> Credentials<'k> {
         ensures sendable { OnOk result (All IsSendable packets.new.items) }
     {
         drafts_are_sealed_as_messages();
-        let bytes = self.bytes_of(alloc, packets.as_slice(), before, out)?;
-        packets.push(Packet::new(out.to, bytes))?;
+        let packet = self.packet_of(alloc, packets.as_slice(), before, out)?;
+        packets.push(packet)?;
         Ok(())
     }
 

@@ -7,14 +7,8 @@ use ab_num::{Cluster, Party, Plan};
 use ab_open::{Checked, open};
 use ab_premise::{Statements, Watch};
 use ab_world::Packets;
-use std::alloc::{AllocError, Global};
+use std::alloc::Global;
 use std::test::Fail;
-
-fn packet(alloc: Global, to: Party, bytes: &[u8]) -> Result<Packet, AllocError> {
-    let mut own = Vec::new(alloc);
-    own.extend_from_slice(bytes)?;
-    Ok(Packet::new(to, own))
-}
 
 fn first_byte(packets: &Packets, number: u64) -> Option<u8> {
     packets.get(number)?.bytes().first().copied()
@@ -28,12 +22,12 @@ fn packets_are_numbered_from_one(rt: HostRuntime) -> Result<(), Fail> {
     assert!(rt; packets.get(0).is_none());
     assert!(rt; packets.get(1).is_none());
     let mut two = Vec::new(alloc);
-    two.push(packet(alloc, Party::Replica(3), b"a")?)?;
-    two.push(packet(alloc, Party::Client(7), b"")?)?;
+    two.push(Packet::new(alloc, Party::Replica(3), b"a")?)?;
+    two.push(Packet::new(alloc, Party::Client(7), b"")?)?;
     packets.send(alloc, two)?;
     packets.send(alloc, Vec::new(alloc))?;
     let mut one = Vec::new(alloc);
-    one.push(packet(alloc, Party::Client(0), b"bcd")?)?;
+    one.push(Packet::new(alloc, Party::Client(0), b"bcd")?)?;
     packets.send(alloc, one)?;
     assert!(rt; packets.len() == 3);
     assert!(rt; packets.get(0).is_none());

@@ -25,7 +25,7 @@ pub(crate) fn base_offered<'a>(
     ensures { IfOk result (λ o. o ≡ base_offered c.now i (aborts cert.now)) }
 {
     if i > 1 {
-        return history_view(alloc, c, i - 1, cert);
+        return history_view(alloc, c, i - 1, cert, None);
     }
     if i == 1 && cert.len() == 0 {
         Ok(Some(History::new(alloc)))

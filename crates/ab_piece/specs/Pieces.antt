@@ -2,6 +2,7 @@
 use Rattle.std.specs.Prelude.{ℕ, zero, suc, ◌+◌, ◌*◌, ◌/◌, ◌^◌, ◌<◌, ◌≤◌, List, [], ◌∷◌, ◌++◌, length, take, drop, Result, Ok, Err, Bool, IsTrue, nat_lt, nat_le, ◌==◌, ◌&&◌, if◌then◌else◌}
 use Rattle.std.specs.Int.{w16, w64}
 use Rattle.ab_num.specs.declared.party.Party.{Party}
+use Rattle.ab_num.specs.Limits.{longest_message}
 use Rattle.ab_form.specs.declared.bad.Bad.{Bad}
 use Rattle.ab_form.specs.declared.bad.Bad.TheVariants.{BadLength, BadField}
 use Rattle.ab_form.specs.Readers.{Reader, ◌>>=◌, ranged_at, marked, made, both}
@@ -100,4 +101,4 @@ pub record IsCut (sender : Party) (number : ℕ) (message : List ℕ) : Type 0 w
   pub party : IsParty sender
   pub eight_bytes : number < 2 ^ 64
   pub some : 1 ≤ length message
-  pub few : length message ≤ 4194304
+  pub few : length message ≤ longest_message

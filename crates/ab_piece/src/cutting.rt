@@ -1,8 +1,9 @@
 //! Messages are cut into pieces.
 
 ghost use Rattle.std.specs.Prelude.{◌≡◌, ◌++◌, ◌+◌, ◌*◌, ◌<◌, ◌≤◌, IfOk, OnOk, length, slice_index_or};
+ghost use Rattle.ab_num.specs.Limits.{longest_message};
 ghost use Rattle.ab_msg.specs.Fields.{IsParty};
-ghost use Rattle.ab_piece.specs.Pieces.{count_of, cut_at, cut_of, part_at, spell_header};
+ghost use Rattle.ab_piece.specs.Pieces.{body_size, count_of, cut_at, cut_of, part_at, spell_header};
 
 use crate::datagram::Datagram;
 use crate::reading::BODY;
@@ -53,7 +54,7 @@ fn piece(
     count: u16,
     body: &[u8],
 ) -> Result<Vec<u8>, OutOfMemory>
-    requires { length body.now ≤ 8192 }
+    requires { length body.now ≤ body_size }
     ensures { IfOk result (λ v. v.items ≡ spell_header (record { sender = me; number = number; index = index; count = count }) ++ body.now) }
 {
     let mut out = Vec::with_capacity(alloc, 16 + body.len())?;
@@ -69,9 +70,9 @@ fn piece(
 /// What the piece of this index has of the message.
 #[tactic(auto, using(std::proofs::lemmas::List::take_min))]
 fn part(message: &[u8], index: usize) -> &[u8]
-    requires { (8192 * index < length message.now) × (index < 512) }
+    requires { (body_size * index < length message.now) × (index < 512) }
     ensures value { result.now ≡ part_at message.now index }
-    ensures size { length result.now ≤ 8192 }
+    ensures size { length result.now ≤ body_size }
 {
     let (_, rest) = message.split_at(BODY * index);
     &rest[..BODY.min(rest.len())]
@@ -79,7 +80,7 @@ fn part(message: &[u8], index: usize) -> &[u8]
 
 /// How many pieces a message has.
 fn count_of(size: usize) -> usize
-    requires { size ≤ 4194304 }
+    requires { size ≤ longest_message }
     ensures { result ≡ count_of size }
 {
     (size + (BODY - 1)) / BODY
@@ -94,7 +95,7 @@ fn piece_at(
     message: &[u8],
     index: usize,
 ) -> Result<Vec<u8>, OutOfMemory>
-    requires size { length message.now ≤ 4194304 }
+    requires size { length message.now ≤ longest_message }
     requires index { index < count_of (length message.now) }
     ensures { IfOk result (λ v. v.items ≡ cut_at me number message.now index) }
 {
@@ -107,7 +108,7 @@ fn piece_at(
 #[tactic(auto, using(crate::proofs::PieceLemmas::next_piece))]
 pub fn cut(alloc: Global, me: Party, number: u64, bytes: &[u8]) -> Result<Pieces, OutOfMemory>
     requires some { 1 ≤ length bytes.now }
-    requires few { length bytes.now ≤ 4194304 }
+    requires few { length bytes.now ≤ longest_message }
     requires me { IsParty me }
     ensures { IfOk result (λ p. p ≡ cut_of me number bytes.now) }
 {

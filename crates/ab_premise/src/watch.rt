@@ -30,12 +30,14 @@ use std::alloc::Global;
 use std::marker::Model;
 
 /// What correct parties stated, the digests of what they had or checked, and the first forgery and the
-/// first collision.
+/// first collision. The history of a message that was looked at last is kept, so that what the next one has in common with it
+/// isn't hashed again.
 #[derive(Drop)]
 pub struct Watch {
     made: Statements,
     forged: Option<Forgery>,
     digests: Digests,
+    last: Option<History>,
     collided: Option<Collision>,
 }
 
@@ -67,6 +69,7 @@ impl Watch {
             made: Statements::new(alloc),
             forged: None,
             digests,
+            last: None,
             collided: None,
         })
     }
@@ -94,9 +97,8 @@ impl Watch {
         ensures ok { OnOk result (self.new ≡ record self.old { kept = keep_items self.old.kept (message_items k.now.f m.now.me m.now.msg) }) }
         ensures err { OnErr result (self.new ≡ record self.old { kept = self.new.kept }) }
     {
-        let mut last = None;
-        let of_claims = look_at_claims(alloc, &mut self.digests, &mut last, m.checks(k))?;
-        let of_values = look_at_message(alloc, &mut self.digests, &mut last, m.msg())?;
+        let of_claims = look_at_claims(alloc, &mut self.digests, &mut self.last, m.checks(k))?;
+        let of_values = look_at_message(alloc, &mut self.digests, &mut self.last, m.msg())?;
         Ok(of_claims | of_values)
     }
 

@@ -1,4 +1,4 @@
-//! Tests of protocols but for PBFT, and of certificates: apart from their crates, so that none is proved once more.
+//! Tests of protocols but for PBFT, of certificates, and of what forgets: apart from their crates, so that none is proved once more.
 #![tactic(auto)]
 
 #[cfg(test)]
@@ -8,7 +8,11 @@ mod chains;
 #[cfg(test)]
 mod choices;
 #[cfg(test)]
+mod ledgers;
+#[cfg(test)]
 mod lights;
+#[cfg(test)]
+mod marks;
 #[cfg(test)]
 mod messages;
 #[cfg(test)]

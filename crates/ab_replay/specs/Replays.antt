@@ -15,6 +15,7 @@ use Rattle.ab_svc.specs.Machines.{Machine}
 use Rattle.ab_svc.specs.Echoes.{echo_machine}
 use Rattle.ab_kv.specs.KvMachines.{kv_machine}
 use Rattle.ab_num.specs.declared.cluster.Cluster.{Cluster}
+use Rattle.ab_num.specs.Limits.{most_events}
 use Rattle.ab_abs.specs.Ensembles.{Proto}
 use Rattle.ab_replica.specs.Sites.{Site}
 use Rattle.ab_party.specs.Clusters.{IsSized}
@@ -154,7 +155,7 @@ IsRefused text r = IsBadText text r ⊎ IsBadEvent text r
 
 -- the text is a schedule of more events than a world takes
 abbrev pub HasTooManyEvents : List ℕ → Type 0
-HasTooManyEvents text = (s : Script) × ReadsText text (Ok s) × (100000 < length s.events)
+HasTooManyEvents text = (s : Script) × ReadsText text (Ok s) × (most_events < length s.events)
 
 -- the text is a schedule whose packets would have more bytes than a world keeps
 pub record HasTooManyBytes (text : List ℕ) : Type 0 where

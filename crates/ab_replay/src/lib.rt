@@ -11,5 +11,5 @@ mod stream;
 pub use fault::{ReplayFault, fault_of_step, fault_of_text};
 pub use playing::{Played, play};
 pub use refusal::{Refusal, RefusalCause, refusal_line};
-pub use running::{AnyProtocol, MOST_EVENTS, Replayed, replay};
+pub use running::{AnyProtocol, Replayed, replay};
 pub use stream::{ReadFault, WriteFault, read_all, write_all};

@@ -16,7 +16,7 @@ use ab_backup::Backup;
 use ab_chain::Chain;
 use ab_io::Source;
 use ab_kv::Kv;
-use ab_num::{OutOfMemory, ServiceName};
+use ab_num::{MOST_EVENTS, OutOfMemory, ServiceName};
 use ab_pbft::Pbft;
 use ab_plans::Choice;
 use ab_quorum::Quorum;
@@ -29,9 +29,6 @@ use std::mem::drop;
 
 /// The protocol of each kind of instance.
 pub type AnyProtocol<S> = Choice<Quorum<S>, Choice<ZLight<S>, Choice<Chain<S>, Backup<S, Pbft>>>>;
-
-/// How many events a schedule may have.
-pub const MOST_EVENTS: usize = 100_000;
 
 /// What a replay gives: the report, and whether its premise line says `held`.
 #[derive(Drop)]

@@ -14,6 +14,7 @@ ghost use Rattle.ab_replica.specs.Crossings.{crossing_by, crossing_in};
 use ab_abs::Entry;
 use ab_extract::take_view;
 use ab_form::{ListRef, Part};
+use ab_hist::History;
 use ab_num::{Cluster, OutOfMemory};
 use ab_wire::{MsgRef, OfferRef, SignedRef};
 use std::alloc::Global;
@@ -43,18 +44,20 @@ fn cert_instance<'a>(cert: &ListRef<'a, SignedRef<'a>>) -> u32
     }
 }
 
-/// Where a certificate of instance `j` leads, if it is valid. One that isn't is not copied.
+/// Where a certificate of instance `j` leads, if it is valid. One that isn't is not copied. What its logs have in common with
+/// `like` is not hashed again.
 fn crossing_with<'a>(
     alloc: Global,
     c: &Cluster,
     j: u32,
     cert: &ListRef<'a, SignedRef<'a>>,
+    like: &History,
 ) -> Result<Option<Crossing>, OutOfMemory>
     requires instance { (1 ≤ j) × (j < 4294967295) }
     requires formed { All (IsSigned IsAbort) (aborts cert.now) }
     ensures { IfOk result (λ o. o ≡ option_map (λ h. record { instance = j + 1; entry = entry_of h (Some (aborts cert.now)) }) (history_of c.now j (aborts cert.now))) }
 {
-    match take_view(alloc, c, j, cert)? {
+    match take_view(alloc, c, j, cert, Some(like))? {
         Some((base, aborts)) => Ok(Some(Crossing {
             instance: j + 1,
             entry: Entry {
@@ -73,6 +76,7 @@ fn crossing_by<'a>(
     c: &Cluster,
     at: u32,
     cert: &ListRef<'a, SignedRef<'a>>,
+    like: &History,
 ) -> Result<Option<Crossing>, OutOfMemory>
     requires instance { 1 ≤ at }
     requires formed { All (IsSigned IsAbort) (aborts cert.now) }
@@ -82,26 +86,27 @@ fn crossing_by<'a>(
     if j < at || j == u32::MAX {
         return Ok(None);
     }
-    crossing_with(alloc, c, j, cert)
+    crossing_with(alloc, c, j, cert, like)
 }
 
-/// Where the certificate that a message brings leads a replica that is in instance `at`.
+/// Where the certificate that a message brings leads a replica that is in instance `at`, and has this log.
 pub(crate) fn crossing_in(
     alloc: Global,
     c: &Cluster,
     at: u32,
     m: &MsgRef<'_>,
+    log: &History,
 ) -> Result<Option<Crossing>, OutOfMemory>
     requires instance { 1 ≤ at }
     requires received { IsReceived m.now }
     ensures { IfOk result (λ o. o ≡ crossing_in c.now at (brought (message m.now))) }
 {
     match m {
-        MsgRef::Init { cert } => crossing_by(alloc, c, at, cert),
+        MsgRef::Init { cert } => crossing_by(alloc, c, at, cert, log),
         MsgRef::PrePrepare {
             offer: OfferRef::Base(cert),
             ..
-        } => crossing_by(alloc, c, at, cert),
+        } => crossing_by(alloc, c, at, cert, log),
         _ => Ok(None),
     }
 }

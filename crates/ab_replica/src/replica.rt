@@ -182,7 +182,7 @@ impl<S: Service, P: Protocol<S>> Replica<S, P> {
         ensures unused { IfOk result (λ e. e.spent ≡ true → SignsNothing (N.pen n.old) (N.remains n.old) (N.pen n.new) (N.remains n.new)) }
         ensures err { OnErr result (self.new ≡ self.old) }
     {
-        let next = crossing_in(alloc, &self.cluster, self.instance, &m)?;
+        let next = crossing_in(alloc, &self.cluster, self.instance, &m, self.log())?;
         match next {
             Some(next) => self.enter(alloc, next, m, n),
             None => self.take(alloc, m, n),

@@ -4,6 +4,7 @@ ghost use Rattle.std.specs.Prelude.{◌≡◌, ◌≤◌, ℕ, List, length, All
 ghost use Rattle.ab_num.specs.declared.party.Party.{Party};
 ghost use Rattle.ab_num.specs.declared.plan.Plan.{Plan};
 ghost use Rattle.ab_num.specs.Bounds.{IsInBounds};
+ghost use Rattle.ab_num.specs.Limits.{longest_message};
 ghost use Rattle.ab_keys.specs.Keys.{exchanges, is_party};
 ghost use Rattle.ab_keys.specs.Rings.{Ring, ring_of};
 ghost use Rattle.ab_keys.specs.Tags.{is_tag_from};
@@ -21,7 +22,7 @@ ghost use Rattle.ab_seal.specs.Sealing.{IsOwn, sealed, tagged};
 /// states anew is of the grammar.
 pub fn drafts_are_sealed_as_messages()
     ensures grammar { (ring : Ring) (to : Party) (m : Message) → IsInBounds ring.f ring.clients → IsTrue (is_party ring.f ring.clients ring.me) → IsDraft m → IsMessage (tagged ring to m) }
-    ensures size { (ring : Ring) (o : Sent) → IsInBounds ring.f ring.clients → IsTrue (is_party ring.f ring.clients ring.me) → IsDraft o.msg → length (sealed ring o) ≤ 4194304 }
+    ensures size { (ring : Ring) (o : Sent) → IsInBounds ring.f ring.clients → IsTrue (is_party ring.f ring.clients ring.me) → IsDraft o.msg → length (sealed ring o) ≤ longest_message }
     ensures contents { (f clients : ℕ) (p : Party) (m : Message) → IsInBounds f clients → IsTrue (is_party f clients p) → IsDraft m → All IsContent (fresh f p m) }
 {}
 

@@ -17,6 +17,12 @@ use std::alloc::Global;
 /// How many bytes of contents and signatures are held at most.
 const LIMIT: usize = 8_388_608;
 
+/// The most bytes of a content that is kept.
+pub const LONGEST_CONTENT: usize = 262_144;
+
+/// The most bytes of a signature that is kept.
+pub const LONGEST_SIGNATURE: usize = 8_192;
+
 /// The bytes of a signature in two levels.
 const TWO_LEVELS: usize = 5076;
 
@@ -149,7 +155,10 @@ impl Known {
         let Some(key) = key_of(sig) else {
             return Ok(());
         };
-        if self.has(public, content, sig) || content.len() > 262_144 || sig.len() > 8_192 {
+        if self.has(public, content, sig)
+            || content.len() > LONGEST_CONTENT
+            || sig.len() > LONGEST_SIGNATURE
+        {
             return Ok(());
         }
         let size = content.len() + sig.len();

@@ -10,7 +10,7 @@ mod sure;
 mod verifier;
 
 pub use key::SignKey;
-pub use known::Known;
+pub use known::{Known, LONGEST_CONTENT, LONGEST_SIGNATURE};
 pub use laws::signatures_are_right;
 pub use pen::Pen;
 pub use signers::Signers;

@@ -2,6 +2,7 @@
 
 ghost use Rattle.std.specs.Prelude.{◌≡◌, ◌<◌, ◌≤◌, ◌++◌, ◌∷◌, ◌*◌, ◌+◌, [], ℕ, All, IsTrue, IsSome, IfOk, IfErr, OnOk, Ok, Some, length};
 ghost use Rattle.ab_num.specs.Places.{kind_of};
+ghost use Rattle.ab_num.specs.Limits.{most_events};
 ghost use Rattle.ab_text.specs.EventLines.{IsEvent};
 ghost use Rattle.ab_world.specs.Runs.{outcome};
 ghost use Rattle.ab_world.specs.Steps.{stepped};
@@ -90,7 +91,7 @@ fn step<S: Service, P: Protocol<S>>(
     kept: &mut Items<Event>,
 ) -> Result<(), StormFault>
     requires goes { Goes storm.old world.old }
-    requires few { world.old.cast.events < 100000 }
+    requires few { world.old.cast.events < most_events }
     ensures ok { OnOk result (stepped P.proto world.old (drawn_at storm.old world.old).0 ≡ Ok world.new) }
     ensures kept { OnOk result (kept.new ≡ kept.old ++ (drawn_at storm.old world.old).0 ∷ []) }
     ensures line { IsEvent (drawn_at storm.old world.old).0 }
@@ -111,7 +112,7 @@ fn draw_events<S: Service, P: Protocol<S>>(
     world: &mut World<S, P>,
     events: u32,
 ) -> Result<Items<Event>, StormFault>
-    requires few { events ≤ 100000 }
+    requires few { events ≤ most_events }
     requires goes { Goes storm.old world.old }
     requires begins { world.old.cast.events ≡ 0 }
     ensures ok { OnOk result (outcome P.proto 1 world.old (drawn_events P.proto events storm.old world.old) ≡ Ok world.new) }
@@ -134,7 +135,7 @@ fn storm_over<S: Service, P: Protocol<S>>(
     setup: Setup,
 ) -> Result<Stormed<S, P>, StormFault>
     requires served { (i : ℕ) → 1 ≤ i → IsTrue (P.serves (kind_of asked.now.plan i)) }
-    requires few { asked.now.events ≤ 100000 }
+    requires few { asked.now.events ≤ most_events }
     requires setup { setup ≡ storm_setup setup.cluster }
     requires sized { IsSized setup.cluster asked.now.f asked.now.clients asked.now.plan 0 }
     ensures ok { IfOk result (λ s. Draws P.proto asked.now s.events s.world) }
@@ -160,7 +161,7 @@ pub fn storm<S: Service, P: Protocol<S>>(
     asked: &StormCommand,
 ) -> Result<Stormed<S, P>, StormFault>
     requires served { (i : ℕ) → 1 ≤ i → IsTrue (P.serves (kind_of asked.now.plan i)) }
-    requires few { asked.now.events ≤ 100000 }
+    requires few { asked.now.events ≤ most_events }
     ensures ok { IfOk result (λ s. Draws P.proto asked.now s.events s.world) }
     ensures replicas { IfOk result (λ s. length s.world.cast.replicas ≡ 3 * s.world.cast.setup.cluster.f + 1) }
     ensures cause { IfErr result (λ e. StormCause P.proto e asked.now) }
@@ -181,7 +182,7 @@ pub fn storm_events<S: Service, P: Protocol<S>>(
     asked: &StormCommand,
 ) -> Result<Items<Event>, StormFault>
     requires served { (i : ℕ) → 1 ≤ i → IsTrue (P.serves (kind_of asked.now.plan i)) }
-    requires few { asked.now.events ≤ 100000 }
+    requires few { asked.now.events ≤ most_events }
     ensures ok { IfOk result (λ events. (end : TheWorld P) × Draws P.proto asked.now events end) }
     ensures cause { IfErr result (λ e. StormCause P.proto e asked.now) }
 {

@@ -4,6 +4,7 @@ ghost use Rattle.std.specs.Prelude.{◌≡◌, ◌<◌, ◌≤◌, ◌*◌, ◌+
 ghost use Rattle.std.specs.List.{count_by};
 ghost use Rattle.std.specs.Option.{option_map};
 ghost use Rattle.ab_num.specs.Places.{kind_of};
+ghost use Rattle.ab_num.specs.Limits.{most_events};
 ghost use Rattle.ab_storm.specs.Drawn.{Draws};
 ghost use Rattle.ab_storm.specs.Runs.{Storms, StormCause};
 ghost use Rattle.ab_storm.specs.Summaries.{is_of, highest, sizes_text, counts_text, top_text, summary_of};
@@ -159,7 +160,7 @@ pub fn sum_up<S: Service, P: Protocol<S>>(
     asked: &StormCommand,
 ) -> Result<Summed, StormFault>
     requires served { (i : ℕ) → 1 ≤ i → IsTrue (P.serves (kind_of asked.now.plan i)) }
-    requires few { asked.now.events ≤ 100000 }
+    requires few { asked.now.events ≤ most_events }
     ensures ok { IfOk result (λ v. Storms S.machine P.proto asked.now v.summary.items v.held) }
     ensures cause { IfErr result (λ e. StormCause P.proto e asked.now) }
 {

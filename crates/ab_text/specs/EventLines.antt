@@ -1,6 +1,7 @@
 -- The lines of events.
 use Rattle.std.specs.Prelude.{ℕ, ◌^◌, ◌<◌, ◌≤◌, List, ◌∷◌, ◌++◌, Option, None, Some, length, codes, decimal, All, IfSome}
 use Rattle.hex.specs.Hex.{encode_lower}
+use Rattle.ab_num.specs.Limits.{longest_message}
 use Rattle.ab_text.specs.declared.event.Core.{Core}
 use Rattle.ab_text.specs.declared.event.Event.{Event}
 use Rattle.ab_text.specs.declared.event.Event.TheVariants.{Invoke, Deliver, Timeout, Inject}
@@ -28,7 +29,7 @@ pub record IsCommand (command : List ℕ) : Type 0 where
 -- at most 4 MiB
 pub record IsInjected (bytes : List ℕ) : Type 0 where
   pub some : 1 ≤ length bytes
-  pub few : length bytes ≤ 4194304
+  pub few : length bytes ≤ longest_message
   pub small : All (λ b. b < 256) bytes
 
 -- what has a line

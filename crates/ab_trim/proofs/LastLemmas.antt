@@ -26,10 +26,10 @@ pub length-noted : (n : ℕ) (h : List Request) (lasts : List (Option (ℕ × Re
 length-noted n [] lasts = refl
 length-noted n (x ∷ h) lasts = length-noted (n + 1) h (set lasts x.client (Some (n + 1, x))) ∙ length-set lasts x.client (Some (n + 1, x))
 
-abbrev no_entry : List (Option (ℕ × Request)) → ℕ → Option (ℕ × Request)
+abbrev pub no_entry : List (Option (ℕ × Request)) → ℕ → Option (ℕ × Request)
 no_entry xs c = get_or xs c None
 
-none_at : (n c : ℕ) → no_entry (replicate n None) c ≡ None
+pub none_at : (n c : ℕ) → no_entry (replicate n None) c ≡ None
 none_at zero c = refl
 none_at (suc n) zero = refl
 none_at (suc n) (suc c) = none_at n c

@@ -11,3 +11,5 @@ pub mod RestLemmas
 pub mod LastLemmas
 pub mod TrimmedLemmas
 pub mod FoundLemmas
+pub mod SpellingLemmas
+pub mod OwnedLemmas

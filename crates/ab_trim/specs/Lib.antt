@@ -5,3 +5,4 @@ pub mod Points
 pub mod Known
 pub mod Chained
 pub mod Logs
+pub mod Spellings

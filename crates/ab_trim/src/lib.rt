@@ -3,6 +3,7 @@
 
 mod agreeing;
 mod chain;
+mod formats;
 mod head;
 mod known;
 mod lasts;
@@ -10,8 +11,11 @@ mod lists;
 mod points;
 mod rest;
 mod trimmed;
+mod trimmed_ref;
+mod writing;
 
 pub use agreeing::agreed_list;
+pub use formats::{histories_forget_nothing, trimmed_lists_are_formats, whole_lists_are_histories};
 pub use known::{
     logs_of_one_history_agree, nothing_forgotten_all_known, requests_are_known,
     unknown_requests_stay_out,
@@ -21,3 +25,5 @@ pub use lists::{
 };
 pub use points::{agreed_lists_are_one, agreed_lists_are_there};
 pub use trimmed::Trimmed;
+pub use trimmed_ref::{TrimmedRef, trimmed_at};
+pub use writing::put_trimmed;

@@ -36,9 +36,7 @@ impl Model for ToyCore {
 fn ask(alloc: Global, r: u8) -> Result<Packet, OutOfMemory>
     ensures { IfOk result (λ m. m ≡ record { to = Replica r; bytes = 7 ∷ [] }) }
 {
-    let mut bytes = Vec::new(alloc);
-    bytes.push(7u8)?;
-    Ok(Packet::new(Party::Replica(r), bytes))
+    Packet::new(alloc, Party::Replica(r), &[7])
 }
 
 fn asks(alloc: Global) -> Result<Vec<Packet>, OutOfMemory>

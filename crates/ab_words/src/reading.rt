@@ -16,7 +16,7 @@ use crate::uses::{Uses, uses_in};
 use crate::values::{checkpoint_of, journal_of, number_of};
 use ab_key_text::party_in;
 use ab_keys::is_party;
-use ab_num::OutOfMemory;
+use ab_num::{MOST_EVENTS, OutOfMemory};
 use ab_text::{bytes_in, cluster_of};
 use std::alloc::Global;
 
@@ -52,7 +52,7 @@ fn storm_in(uses: &Uses<'_>) -> Option<StormCommand>
     let f = number_of(uses, F, 1, 2)? as u8;
     let clients = number_of(uses, CLIENTS, 1, 16)? as u16;
     let seed = number_of(uses, SEED, 0, u64::MAX)?;
-    let events = number_of(uses, EVENTS, 0, 100000)? as u32;
+    let events = number_of(uses, EVENTS, 0, MOST_EVENTS as u64)? as u32;
     let cluster = cluster_of(f, clients, plan, 0);
     Some(StormCommand {
         cluster,

@@ -1,5 +1,5 @@
 -- The log that a correct replica had in an instance is the last one that its run keeps of it there.
-use Rattle.std.proofs.Common.{◌≡◌, ◌≢◌, ℕ, zero, suc, ◌<◌, ◌≤◌, Bool, true, false, Option, Some, None, List, [], ◌∷◌, ◌++◌, arith, length, refl, sym, ap, ◌∙◌, subst, inl, inr}
+use Rattle.std.proofs.Common.{◌≡◌, ◌≢◌, ℕ, zero, suc, ◌≤◌, Bool, true, false, Option, Some, None, List, [], ◌∷◌, ◌++◌, arith, length, refl, sym, ap, ◌∙◌, subst, inl, inr}
 use Rattle.std.specs.Prelude.{◌==◌, ◌&&◌, if◌then◌else◌, drop, slice_get, slice_set}
 use Rattle.std.proofs.lemmas.Bool.{cases_Bool, eq-eqb, eqb-true}
 use Rattle.ab_num.specs.declared.party.Party.{Party}
@@ -15,7 +15,7 @@ use Rattle.ab_run.specs.Clients.{Cli}
 use Rattle.ab_run.specs.Runs.{first_rep}
 use Rattle.ab_run.specs.Local.{rep_after, Cue, cue_command, cue_message, cue_time}
 use Rattle.ab_run.specs.Inputs.{Input, told, came, rang, elsewhere, Opener, Speller}
-use Rattle.ab_run.specs.Stages.{Stage, find_log, logs_after, stage_call, stage_cue, stage_opened, stage_after}
+use Rattle.ab_run.specs.Stages.{Stage, find_log, stage_call, stage_cue, stage_opened, stage_after}
 use Rattle.ab_run.proofs.Listed.{set_hit, set_miss}
 use Rattle.ab_run.proofs.LastLogs.{logs_once}
 use Rattle.ab_run.proofs.Staged.{stage_back}

@@ -21,7 +21,7 @@ use Rattle.ab_replica.specs.Sites.{Site}
 use Rattle.ab_cast.specs.declared.place.Place.{Place}
 use Rattle.ab_cast.specs.declared.place.Place.TheVariants as place
 use Rattle.ab_cast.specs.Setups.{Setup, party_at, run_setup}
-use Rattle.ab_cast.specs.Cores.{Core, replica, client, core_after, site_after}
+use Rattle.ab_cast.specs.Cores.{Core, replica, core_after, site_after}
 use Rattle.ab_cast.specs.Casts.{Cast, core_at, next, with_core}
 use Rattle.ab_world.specs.declared.left.LeftLog.{LeftLog}
 use Rattle.ab_world.specs.Left.{KeepsLeft, brings, last_left, left_at, left_by, left_in, left_own, log_at, may_leave, pick_left}

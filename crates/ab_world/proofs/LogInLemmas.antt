@@ -1,6 +1,6 @@
 -- The log that a world has of a correct replica in an instance is that of its run.
-use Rattle.std.proofs.Common.{◌≡◌, ℕ, ◌+◌, ◌-◌, ◌*◌, ◌<◌, ◌≤◌, Bool, true, false, Option, Some, None, List, [], ◌++◌, arith, length, refl, sym, ap, ◌∙◌, subst}
-use Rattle.std.specs.Prelude.{◌==◌, if◌then◌else◌, Ok, drop, reverse, slice_get, take}
+use Rattle.std.proofs.Common.{◌≡◌, ℕ, ◌+◌, ◌-◌, ◌*◌, ◌<◌, ◌≤◌, Bool, true, false, Option, Some, None, List, ◌++◌, arith, length, refl, sym, ap, ◌∙◌, subst}
+use Rattle.std.specs.Prelude.{if◌then◌else◌, Ok, drop, reverse, slice_get, take}
 use Rattle.std.specs.Option.{option_map}
 use Rattle.std.proofs.Math.Seq.{drop-length}
 use Rattle.std.proofs.lemmas.List.{reverse-append, length-reverse, length-drop, drop-append-le, take-append-drop}
@@ -17,13 +17,12 @@ use Rattle.ab_run.specs.Setups.{RunSetup}
 use Rattle.ab_run.specs.Replicas.{Rep}
 use Rattle.ab_run.specs.Runs.{Run, run}
 use Rattle.ab_run.specs.Inputs.{Input, events_in}
-use Rattle.ab_run.specs.Stages.{Stage, find_log}
+use Rattle.ab_run.specs.Stages.{Stage}
 use Rattle.ab_run.proofs.Staged.{stage_back, back_shown}
 use Rattle.ab_replica.specs.Sites.{Site}
 use Rattle.ab_cast.specs.Setups.{Setup, run_setup, is_bad}
-use Rattle.ab_cast.specs.Casts.{reps_of}
 use Rattle.ab_world.specs.declared.left.LeftLog.{LeftLog}
-use Rattle.ab_world.specs.Left.{last_left, log_where}
+use Rattle.ab_world.specs.Left.{log_where}
 use Rattle.ab_world.specs.Worlds.{World, log_in, opener, start}
 use Rattle.ab_world.specs.Runs.{came_to, inputs_of, outcome}
 use Rattle.ab_world.specs.Told.{IsLogIn, WasIn, run_of}

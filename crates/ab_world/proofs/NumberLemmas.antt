@@ -1,6 +1,6 @@
 -- Which observations of a stage stand with which numbers of events.
-use Rattle.std.proofs.Common.{◌≡◌, ℕ, zero, suc, ◌+◌, ◌≤◌, ◌<◌, Bool, true, false, Option, Some, None, List, [], ◌∷◌, ◌++◌, refl, sym, ap, ◌∙◌, inl, inr, arith, append-nil}
-use Rattle.std.specs.Prelude.{fold, if◌then◌else◌, map, nat_le, slice_get, take}
+use Rattle.std.proofs.Common.{◌≡◌, ℕ, zero, suc, ◌+◌, ◌≤◌, ◌<◌, Bool, Option, Some, None, List, [], ◌∷◌, ◌++◌, refl, sym, ap, ◌∙◌, inl, inr, arith, append-nil}
+use Rattle.std.specs.Prelude.{fold, if◌then◌else◌, map, slice_get, take}
 use Rattle.std.specs.List.{filter}
 use Rattle.std.proofs.lemmas.Bool.{cases_Bool, le-leb, lt-leb}
 use Rattle.std.proofs.lemmas.List.Elements.{filter-append}
@@ -17,7 +17,7 @@ use Rattle.ab_run.specs.Replicas.{Rep}
 use Rattle.ab_run.specs.Clients.{Cli}
 use Rattle.ab_run.specs.Local.{Cue, cue_command, cue_message, cue_time, rep_marks, cli_marks}
 use Rattle.ab_run.specs.Inputs.{Input, told, came, rang, elsewhere, Opener, Speller}
-use Rattle.ab_run.specs.Stages.{Stage, noted, first_stage, stage_call, stage_cue, stage_handing, stage_timed, stage_still, stage_opened, stage_after, stage_over}
+use Rattle.ab_run.specs.Stages.{Stage, noted, first_stage, stage_call, stage_cue, stage_still, stage_opened, stage_after, stage_over}
 use Rattle.ab_world.specs.Lines.{note}
 use Rattle.ab_world.specs.Told.{up_to}
 

@@ -1,16 +1,13 @@
 -- What a world tells is that of its run.
-use Rattle.std.proofs.Common.{◌≡◌, ℕ, zero, suc, ◌*◌, ◌+◌, ◌<◌, false, Option, Some, None, List, [], ◌∷◌, length, refl, sym, ap, ◌∙◌, subst}
-use Rattle.std.specs.Prelude.{◌↔◌, Result, Ok, Err, map, reverse, slice_get, take}
+use Rattle.std.proofs.Common.{◌≡◌, ℕ, zero, suc, ◌*◌, ◌+◌, ◌<◌, Option, Some, List, [], ◌∷◌, refl, sym, ap, ◌∙◌, subst}
+use Rattle.std.specs.Prelude.{Result, Ok, Err, map, reverse, slice_get, take}
 use Rattle.std.specs.List.{filter}
 use Rattle.std.specs.Option.{option_map}
 use Rattle.std.proofs.lemmas.List.{reverse-reverse}
 use Rattle.std.proofs.lemmas.Option.{slice_get_within}
-use Rattle.ab_num.specs.declared.party.Party.TheVariants.{Replica}
 use Rattle.ab_hist.specs.declared.request.Request.{Request}
 use Rattle.ab_text.specs.declared.event.Event.{Event}
 use Rattle.ab_text.specs.declared.line.Line.{Line}
-use Rattle.ab_text.specs.declared.line.Premise.{Premise}
-use Rattle.ab_text.specs.declared.line.Premise.TheVariants.{Held}
 use Rattle.ab_svc.specs.Machines.{Machine}
 use Rattle.ab_msg.specs.Contents.{spell_content}
 use Rattle.ab_abs.specs.declared.seen.Seen.{Seen}
@@ -25,14 +22,13 @@ use Rattle.ab_run.specs.Replicas.{Rep}
 use Rattle.ab_run.specs.Runs.{named_by}
 use Rattle.ab_run.specs.Inputs.{Input}
 use Rattle.ab_run.specs.Stages.{Stage, IsStageOf, all_seen, find_log, named_on, stage_over}
-use Rattle.ab_cast.specs.Setups.{Setup, run_setup, is_bad}
-use Rattle.ab_cast.specs.Casts.{reps_of}
+use Rattle.ab_cast.specs.Setups.{Setup, run_setup}
 use Rattle.ab_world.specs.declared.fault.WorldFault.{WorldFault}
 use Rattle.ab_world.specs.Lines.{is_observed, line_of_noted}
-use Rattle.ab_world.specs.Runs.{inputs_of, input_or, came_to}
+use Rattle.ab_world.specs.Runs.{inputs_of, input_or}
 use Rattle.ab_world.specs.Steps.{Happening, after, input_of, ready}
 use Rattle.ab_world.specs.Told.{run_of, up_to, EndsThere, KeepsPromises, TellsSeen}
-use Rattle.ab_world.specs.Worlds.{World, opener, premise_of, shown_on, start}
+use Rattle.ab_world.specs.Worlds.{World, opener, shown_on, start}
 use Rattle.ab_world.proofs.NumberLemmas.{numbered}
 use Rattle.ab_world.proofs.SeatLemmas.{reps_of-get}
 

@@ -3,6 +3,7 @@
 ghost use Rattle.std.specs.Prelude.{◌≡◌, ◌+◌, ◌<◌, ◌≤◌, ℕ, IfOk, OnErr, OnOk, Option, Some, vec_len};
 ghost use Rattle.std.specs.Option.{option_map};
 ghost use Rattle.std.specs.Vec.{vec_capacity};
+ghost use Rattle.ab_num.specs.Limits.{most_events};
 ghost use Rattle.ab_wire.specs.Views.{IsReceived, message as message_of};
 ghost use Rattle.ab_run.specs.Local.{cue_message};
 ghost use Rattle.ab_cast.specs.Setups.{party_at, place_of};
@@ -10,11 +11,13 @@ ghost use Rattle.ab_cast.specs.Cores.{Core};
 ghost use Rattle.ab_cast.specs.Casts.{IsTaken, core_at};
 ghost use Rattle.ab_world.specs.Left.{KeepsLeft, brings, last_left, left_at, may_leave};
 
+use crate::sharing::share;
 use ab_abs::Protocol;
 use ab_cast::{Cast, Place};
 use ab_hist::History;
 use ab_num::OutOfMemory;
 use ab_replica::Effects;
+use ab_run::Noted;
 use ab_svc::Service;
 use ab_wire::{MsgRef, OfferRef};
 use std::alloc::Global;
@@ -82,16 +85,19 @@ fn may_leave<S: Service, P: Protocol<S>>(
     }
 }
 
-/// Keeps the log, for which there is room, if its replica is in another instance now.
+/// Keeps the log, for which there is room, if its replica is in another instance now. Its entries are
+/// shared with an observation that has the same ones.
 fn keep<S: Service, P: Protocol<S>>(
+    alloc: Global,
     cast: &Cast<S, P>,
     left: &mut Vec<LeftLog>,
+    seen: &[Noted],
     log: Option<LeftLog>,
 )
     requires { vec_len left.old + 1 ≤ vec_capacity left.old }
     ensures { KeepsLeft cast.now log left.old.items left.new.items }
 {
-    let Some(log) = log else {
+    let Some(mut log) = log else {
         return;
     };
     let Some(instance) = cast.instance_of(log.replica) else {
@@ -100,6 +106,7 @@ fn keep<S: Service, P: Protocol<S>>(
     if log.instance == instance {
         return;
     }
+    share(alloc, seen, &mut log.log);
     match left.push(log) {
         Ok(()) => {}
         Err(_) => unreachable!(),
@@ -112,10 +119,11 @@ pub(crate) fn hear<S: Service, P: Protocol<S>>(
     alloc: Global,
     cast: &mut Cast<S, P>,
     left: &mut Vec<LeftLog>,
+    seen: &[Noted],
     place: Place,
     m: MsgRef<'_>,
 ) -> Result<Effects, OutOfMemory>
-    requires few { cast.old.events < 100000 }
+    requires few { cast.old.events < most_events }
     requires received { IsReceived m }
     requires there { (twin : Option ℕ) × (place_of cast.old.setup (party_at place) twin ≡ Some place) }
     ensures taken { (s : Core P) → core_at cast.old place ≡ Some s
@@ -128,6 +136,6 @@ pub(crate) fn hear<S: Service, P: Protocol<S>>(
     let log = may_leave(alloc, cast, place, &m)?;
     left.reserve(1)?;
     let effects = cast.hear(alloc, place, m)?;
-    keep(cast, left, log);
+    keep(alloc, cast, left, seen, log);
     Ok(effects)
 }

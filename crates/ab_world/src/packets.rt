@@ -1,6 +1,6 @@
 //! All packets of a run.
 
-ghost use Rattle.std.specs.Prelude.{◌≡◌, ◌+◌, ◌≤◌, [], ◌++◌, length, SomeIff, OnOk, OnErr, IfErr};
+ghost use Rattle.std.specs.Prelude.{◌≡◌, ◌+◌, ◌≤◌, [], ◌++◌, length, IfSome, SomeIff, OnOk, OnErr, IfErr};
 ghost use Rattle.std.specs.Option.{option_map};
 ghost use Rattle.ab_world.specs.Packets.{total, most_bytes, nth};
 ghost use Rattle.ab_world.specs.Faults.{SendCause};
@@ -12,6 +12,13 @@ use std::marker::Model;
 
 /// How many bytes are kept at most.
 const MOST_BYTES: u64 = 268_435_456;
+
+/// In how many of the last packets equal bytes are looked for. A replica answers one client after the
+/// other with its ABORT, and the others' answers come in between.
+const LOOKED_IN: usize = 64;
+
+/// From how many bytes on. Most packets are shorter, and looking would take longer than copying.
+const LONG: usize = 1024;
 
 /// What was sent, the oldest first.
 #[derive(Drop)]
@@ -57,6 +64,51 @@ pub(crate) fn with_packets(bytes: u64, packets: &[Packet]) -> Option<u64>
     Some(sum)
 }
 
+/// The packet with the bytes of an earlier one, which both then share, if they are the same.
+fn sharing(earlier: &Packet, packet: &Packet) -> Option<Packet>
+    ensures { IfSome result (λ same. same ≡ packet.now) }
+{
+    if earlier.bytes() == packet.bytes() {
+        earlier.forward(packet.to()).ok()
+    } else {
+        None
+    }
+}
+
+/// The packet with the bytes of one of the last that were sent, if it is long and one has the same.
+fn shared(sent: &[Packet], packet: &Packet) -> Option<Packet>
+    ensures { IfSome result (λ same. same ≡ packet.now) }
+{
+    if packet.bytes().len() < LONG {
+        return None;
+    }
+    let first = sent.len().saturating_sub(LOOKED_IN);
+    'looking: for n in (first..sent.len()).rev() {
+        if let Some(same) = sharing(&sent[n], packet) {
+            return Some(same);
+        }
+    }
+    None
+}
+
+/// The packet shares its bytes so, if it can.
+fn share(sent: &[Packet], packet: &mut Packet)
+    ensures { packet.new ≡ packet.old }
+{
+    if let Some(same) = shared(sent, packet) {
+        *packet = same;
+    }
+}
+
+/// Each of the packets does so.
+fn share_all(sent: &[Packet], packets: &mut Vec<Packet>)
+    ensures { packets.new.items ≡ packets.old.items }
+{
+    'sharing: for n in 0..packets.len() {
+        share(sent, &mut packets[n]);
+    }
+}
+
 impl Packets {
     /// Nothing was sent.
     pub fn new(alloc: Global) -> Packets
@@ -100,6 +152,7 @@ impl Packets {
         let Some(bytes) = with_packets(self.bytes, more.as_slice()) else {
             return Err(SendFault::Limit);
         };
+        share_all(self.sent.as_slice(), &mut more);
         self.sent.append(&mut more)?;
         self.bytes = bytes;
         Ok(())

@@ -14,10 +14,10 @@ ghost use Rattle.ab_client.specs.Clients.{alone, is_waiting, moves_on};
 ghost use Rattle.ab_client.specs.Moved.{IsMoved};
 
 use super::{Client, nothing};
-use crate::certs::{history_of, is_kept, keep, own_cert, timely};
+use crate::certs::{history_of, is_kept, keep, known_log, own_cert, timely};
 use crate::sending::{asking_again, entering, panicking};
 use ab_abs::{Marks, Seen, Votes, reply_rule};
-use ab_extract::take_view;
+use ab_extract::{own_abort, take_view};
 use ab_form::ListRef;
 use ab_hist::{History, Request};
 use ab_msg::{AbortCert, Outs, Signed};
@@ -138,7 +138,8 @@ impl Client {
         if is_kept(&self.kept, abort.maker) {
             return Ok(nothing(alloc));
         }
-        let v = abort.own(alloc)?;
+        let known = known_log(&self.kept, self.cert.as_ref());
+        let v = own_abort(alloc, abort, known)?;
         self.take_abort(alloc, v, &request)
     }
 
@@ -156,7 +157,8 @@ impl Client {
         ensures ok { IfOk result (λ r. IsMoved self.old (taking (alone self.old.cluster) self.old.cli request.now j (aborts cert.now)) self.new r.0 r.1.items) }
         ensures err { OnErr result (self.new ≡ self.old) }
     {
-        match take_view(alloc, &self.cluster, j, cert)? {
+        let known = known_log(&self.kept, self.cert.as_ref());
+        match take_view(alloc, &self.cluster, j, cert, known)? {
             Some((h, own)) => self.enter(alloc, j, own, h, request),
             None => Ok(nothing(alloc)),
         }

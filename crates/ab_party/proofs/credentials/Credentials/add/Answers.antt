@@ -10,7 +10,6 @@ returns-clause-sendable c =
     let ring = c.args.self.now.ring in
     let out = c.args.out.now in
     let is = c.requires.ring in
-    let made : c.new.result ≡ sealed_by ring out = c.new.ensures ∙ ap (λ (bytes : List ℕ). let m : Packet = record { to = out.to; bytes = bytes } in m) c.in_ok-bytes.ensures in
-    let one : IsSendable c.new.result =
-    subst IsSendable (sym made) (can_send ring out is (c.drafts_are_sealed_as_messages.ensures.size ring out is.bounds is.party c.requires.draft.draft) c.requires.to) in
-    subst (All IsSendable) (sym c.in_ok-push.ensures.items) (All-push IsSendable c.args.packets.now.items c.new.result c.requires.sendable one)
+    let one : IsSendable c.in_ok-packet.packet =
+    subst IsSendable (sym c.in_ok-packet.ensures) (can_send ring out is (c.drafts_are_sealed_as_messages.ensures.size ring out is.bounds is.party c.requires.draft.draft) c.requires.to) in
+    subst (All IsSendable) (sym c.in_ok-push.ensures.items) (All-push IsSendable c.args.packets.now.items c.in_ok-packet.packet c.requires.sendable one)
