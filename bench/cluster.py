@@ -202,7 +202,8 @@ class Gathered:
     def __init__(self, base, commands, plan="quorum", wait=50, turns=60):
         words = ["--plan", plan, "--f", "1", "--service", "kv", "--lms", "5", "--seed", SEED]
         self.node_words = ["node", "--base", str(base), "--wait", str(wait), "--turns", str(turns)]
-        words = [PROGRAM, "cluster", *words, *self.node_words[1:]]
+        words = [str(PROGRAM), "cluster", *words, *self.node_words[1:]]
+        self.words = spelled(words)
         # It has a group of its own, as a command of a shell has.
         self.process = subprocess.Popen(
             words, stdin=subprocess.PIPE, stdout=subprocess.PIPE, stderr=subprocess.PIPE, start_new_session=True
@@ -214,12 +215,12 @@ class Gathered:
     def nodes(self):
         """The processes of its nodes, in the order in which they were started, once all are there. Until a child runs its program, its words
         are the launcher's."""
-        path = pathlib.Path(f"/proc/{self.process.pid}/task/{self.process.pid}/children")
-        launcher = words_of(self.process.pid)
         end = time.monotonic() + SECONDS
-        while len(found := path.read_text().split()) <= REPLICAS or launcher in map(words_of, found):
+        while len(found := children_of(self.process.pid)) <= REPLICAS or self.words in map(words_of, found):
+            if self.process.poll() is not None:
+                raise ChildProcessError(f"the cluster ended before all its nodes were seen: {self.ended()}")
             if end < time.monotonic():
-                raise TimeoutError(f"{len(found)} nodes were started")
+                raise TimeoutError(f"{len(found)} nodes run")
             time.sleep(0.01)
         return [int(pid) for pid in found]
 
@@ -237,8 +238,21 @@ class Gathered:
         self.process.wait()
 
 
+def children_of(pid):
+    """The processes that a process of one thread started and hasn't waited for. One that has ended has none."""
+    try:
+        return pathlib.Path(f"/proc/{pid}/task/{pid}/children").read_text().split()
+    except FileNotFoundError:
+        return []
+
+
+def spelled(words):
+    """The words of a process as the system tells them, each ended by a zero byte."""
+    return b"".join(word.encode() + b"\0" for word in words)
+
+
 def words_of(pid):
-    """The words of a process, each ended by a zero byte. One that has ended has none."""
+    """The words of a process, spelled so. One that has ended has none, nor has one whose program is just being loaded."""
     try:
         return pathlib.Path(f"/proc/{pid}/cmdline").read_bytes()
     except FileNotFoundError:

@@ -208,7 +208,7 @@ def gathered_claims():
     with gathered(turns=200) as run:
         told = [cluster.words_of(pid) for pid in run.nodes()]
         status, statuses, lines, said = run.ended()
-    words = b"\0".join(word.encode() for word in [str(cluster.PROGRAM), *run.node_words]) + b"\0"
+    words = cluster.spelled([str(cluster.PROGRAM), *run.node_words])
     # A node that has ended has no words.
     yield "the words of each node are those of a node", set(told) - {b""} == {words}, told
     client = statuses.pop("c0", None)
@@ -226,13 +226,14 @@ def gathered_claims():
     good = (status, statuses.get("r2")) == (1, "6") and "link fault\n" in said
     yield "a replica without a port ends with 6", good, (status, statuses, said)
 
-    with gathered() as run:
+    # Its nodes are there for as long as a busy machine takes to see them all.
+    with gathered(turns=400) as run:
         os.kill(run.nodes()[2], signal.SIGKILL)
         status, statuses, lines, said = run.ended()
     good = (status, statuses.get("r2")) == (12, "none") and said.endswith("child fault\n")
     yield "a replica that is killed has no status", good, (status, statuses, said)
 
-    with gathered() as run:
+    with gathered(turns=100_000) as run:
         pids = [run.process.pid, *run.nodes()]
         os.killpg(run.process.pid, signal.SIGINT)
         run.process.wait(SECONDS)
