@@ -18,6 +18,7 @@ use Rattle.ab_key_text.proofs.FormLemmas.{derived_form}
 use Rattle.ab_words.specs.Commands.{ClusterCommand, NodeCommand}
 use Rattle.ab_words.specs.declared.command.Command.{Command}
 use Rattle.ab_words.specs.declared.command.Command.TheVariants.{Node}
+use Rattle.ab_words.specs.Limits.{highest_base, longest_wait, most_turns}
 use Rattle.ab_words.specs.Language.{command_in, command_of, node_in as asked_in}
 use Rattle.ab_words.specs.Uses.{◌>>=◌, opened, uses_in}
 use Rattle.ab_words.specs.Values.{number_in, optional_of, value_of}
@@ -35,13 +36,13 @@ abbrev node_by : Option ℕ → Option ℕ → Option ℕ → Option Command
 node_by base wait turns =
     (base >>= λ b. wait >>= λ w. turns >>= λ t. let n : Option NodeCommand = Some (record { base = b; wait = w; turns = t; trace = false; journal = None }) in n) >>= λ c. Some (Node c)
 
-pub words_ask : (k : ClusterCommand) → 1 ≤ k.base → k.base ≤ 65000 → 1 ≤ k.wait → k.wait ≤ 60000 → 1 ≤ k.turns → k.turns ≤ 1000000000
+pub words_ask : (k : ClusterCommand) → 1 ≤ k.base → k.base ≤ highest_base → 1 ≤ k.wait → k.wait ≤ longest_wait → 1 ≤ k.turns → k.turns ≤ most_turns
     → command_in (node_words k) ≡ Some (Node (record { base = k.base; wait = k.wait; turns = k.turns; trace = false; journal = None }))
 unfolding command_of uses_in opened asked_in value_of optional_of
 words_ask k b1 b2 w1 w2 t1 t2 =
-    let base = number_read 1 65000 k.base b1 b2 (omega (arith, b2)) in
-    let wait = number_read 1 60000 k.wait w1 w2 (omega (arith, w2)) in
-    let turns = number_read 1 1000000000 k.turns t1 t2 (omega (arith, t2)) in
+    let base = number_read 1 highest_base k.base b1 b2 (omega (arith, b2)) in
+    let wait = number_read 1 longest_wait k.wait w1 w2 (omega (arith, w2)) in
+    let turns = number_read 1 most_turns k.turns t1 t2 (omega (arith, t2)) in
     λ j. node_by (base j) (wait j) (turns j)
 
 -- ---- the input

@@ -9,6 +9,7 @@ ghost use Rattle.ab_text.specs.Lines.{lines_of};
 ghost use Rattle.ab_key_text.specs.Nodes.{AreCommandsOf, node_in};
 ghost use Rattle.ab_words.specs.Commands.{ClusterCommand as TheCluster};
 ghost use Rattle.ab_words.specs.declared.command.Command.{Command as TheCommand};
+ghost use Rattle.ab_words.specs.Limits.{highest_base, longest_wait, most_turns};
 ghost use Rattle.ab_words.specs.Language.{command_in};
 ghost use Rattle.ab_cluster.specs.declared.report.Conclusion.{Conclusion as TheConclusion};
 ghost use Rattle.ab_cluster.specs.Children.{Children as TheChildren, Job, SpawnerState, end_of};
@@ -19,7 +20,7 @@ ghost use Rattle.ab_cluster.specs.Reports.{conclusion_of};
 /// A job is the node of its party: its words ask for a node as the cluster is asked for, and its input sets up that party with the
 /// keys that the seed gives it, and with its commands.
 pub fn jobs_are_nodes()
-    ensures words { (k : TheCluster) → 1 ≤ k.base → k.base ≤ 65000 → 1 ≤ k.wait → k.wait ≤ 60000 → 1 ≤ k.turns → k.turns ≤ 1000000000
+    ensures words { (k : TheCluster) → 1 ≤ k.base → k.base ≤ highest_base → 1 ≤ k.wait → k.wait ≤ longest_wait → 1 ≤ k.turns → k.turns ≤ most_turns
         → command_in (node_words k) ≡ Some (TheCommand.Node (record { base = k.base; wait = k.wait; turns = k.turns; trace = false; journal = None })) }
     ensures input { (k : TheCluster) (commands : List (List ℕ)) (p : TheParty) → IsInBounds k.f 1 → IsTrue (is_party k.f 1 p) → AreCommandsOf (TheParty.Client 0) commands
         → node_in (lines_of (job_for k commands p).input) ≡ Ok (node_for k commands p) }

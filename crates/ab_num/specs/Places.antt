@@ -5,14 +5,19 @@ use Rattle.ab_num.specs.declared.plan.Plan.TheVariants as plan
 use Rattle.ab_num.specs.declared.plan.Kind.{Kind}
 use Rattle.ab_num.specs.declared.plan.Kind.TheVariants as kind
 
+-- a kind in odd instances, Backup in even ones
+abbrev pub kind_in_turn : Kind → ℕ → Kind
+kind_in_turn odd i = if nat_eq (i % 2) 1 then odd else kind.Backup
+
 -- the protocol of instance i, counted from 1
 abbrev pub kind_of : Plan → ℕ → Kind
-kind_of plan.AZyzzyva i = if nat_eq (i % 2) 1 then kind.ZLight else kind.Backup
+kind_of plan.AZyzzyva i = kind_in_turn kind.ZLight i
 kind_of plan.Aliph i = if nat_eq (i % 3) 1 then kind.Quorum else if nat_eq (i % 3) 2 then kind.Chain else kind.Backup
 kind_of plan.Quorum i = kind.Quorum
 kind_of plan.ZLight i = kind.ZLight
 kind_of plan.Chain i = kind.Chain
 kind_of plan.Backup i = kind.Backup
+kind_of plan.ZCert i = kind_in_turn kind.ZCert i
 
 -- the number of replicas where f may be faulty
 abbrev pub replicas_of : ℕ → ℕ
@@ -38,6 +43,7 @@ backups_before plan.Quorum i = 0
 backups_before plan.ZLight i = 0
 backups_before plan.Chain i = 0
 backups_before plan.Backup i = i - 1
+backups_before plan.ZCert i = i / 2 - 1
 
 -- how many requests the Backup instance i commits: 1 in the first, doubled from one to the next, at most 16
 abbrev pub limit_of : Plan → ℕ → ℕ

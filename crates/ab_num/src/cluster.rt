@@ -2,7 +2,7 @@
 
 ghost use Rattle.std.specs.Prelude.{◌≡◌, ◌+◌, ◌*◌, ◌^◌, ◌<◌, ◌≤◌, ◌↔◌, min, IsSome, IfSome};
 ghost use Rattle.ab_num.specs.Bounds.{IsInBounds};
-ghost use Rattle.ab_num.specs.Places.{at_position_of, backups_before, kind_of, limit_of, position_in, primary_of};
+ghost use Rattle.ab_num.specs.Places.{at_position_of, backups_before, kind_in_turn, kind_of, limit_of, position_in, primary_of};
 
 use crate::plan::{Kind, Plan};
 
@@ -48,16 +48,17 @@ impl Cluster {
         ensures { result ≡ kind_of self.now.plan i }
     {
         match self.plan {
-            Plan::AZyzzyva => alternating_kind(i),
+            Plan::AZyzzyva => alternating_kind(Kind::ZLight, i),
             Plan::Aliph => cyclic_kind(i),
             Plan::Quorum => Kind::Quorum,
             Plan::ZLight => Kind::ZLight,
             Plan::Chain => Kind::Chain,
             Plan::Backup => Kind::Backup,
+            Plan::ZCert => alternating_kind(Kind::ZCert, i),
         }
     }
 
-    /// The primary of instance `i` in ZLight.
+    /// The primary of instance `i` in ZLight and ZCert.
     pub fn primary(&self, i: u32) -> u8
         requires { 1 ≤ i }
         ensures place { result ≡ primary_of self.now.f i }
@@ -110,7 +111,7 @@ impl Cluster {
         ensures { result ≡ backups_before self.now.plan i }
     {
         match self.plan {
-            Plan::AZyzzyva => i / 2 - 1,
+            Plan::AZyzzyva | Plan::ZCert => i / 2 - 1,
             Plan::Aliph => i / 3 - 1,
             Plan::Backup => i - 1,
             Plan::Quorum | Plan::ZLight | Plan::Chain => 0,
@@ -118,15 +119,11 @@ impl Cluster {
     }
 }
 
-/// ZLight in odd instances, Backup in even ones.
-fn alternating_kind(i: u32) -> Kind
-    ensures { result ≡ kind_of Plan.AZyzzyva i }
+/// The kind `odd` in odd instances, Backup in even ones.
+fn alternating_kind(odd: Kind, i: u32) -> Kind
+    ensures { result ≡ kind_in_turn odd i }
 {
-    if i % 2 == 1 {
-        Kind::ZLight
-    } else {
-        Kind::Backup
-    }
+    if i % 2 == 1 { odd } else { Kind::Backup }
 }
 
 /// Quorum, Chain, Backup, and again.

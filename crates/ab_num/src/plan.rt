@@ -7,6 +7,7 @@ pub enum Kind {
     ZLight,
     Chain,
     Backup,
+    ZCert,
 }
 
 /// Which protocol each instance has.
@@ -18,6 +19,7 @@ pub enum Plan {
     ZLight,
     Chain,
     Backup,
+    ZCert,
 }
 
 /// The service that a cluster replicates.

@@ -15,4 +15,8 @@ message_name code =
     (if code == 9 then codes "PREPARE" else
     (if code == 10 then codes "COMMIT" else
     (if code == 11 then codes "VIEW-CHANGE" else
-    (if code == 12 then codes "NEW-VIEW" else codes "?")))))))))))
+    (if code == 12 then codes "NEW-VIEW" else
+    (if code == 13 then codes "CHECKPOINT" else
+    (if code == 14 then codes "LOCAL-COMMIT" else
+    (if code == 15 then codes "SPEC" else
+    (if code == 16 then codes "CERT" else codes "?")))))))))))))))

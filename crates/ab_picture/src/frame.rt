@@ -64,6 +64,7 @@ fn plan_name(plan: Plan) -> &'static str {
         Plan::ZLight => "zlight",
         Plan::Chain => "chain",
         Plan::Backup => "backup",
+        Plan::ZCert => "zcert",
     }
 }
 

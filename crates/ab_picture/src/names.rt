@@ -20,6 +20,10 @@ pub(crate) fn message_name(code: u8) -> &'static str
         10 => "COMMIT",
         11 => "VIEW-CHANGE",
         12 => "NEW-VIEW",
+        13 => "CHECKPOINT",
+        14 => "LOCAL-COMMIT",
+        15 => "SPEC",
+        16 => "CERT",
         _ => "?",
     }
 }

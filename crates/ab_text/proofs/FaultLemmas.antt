@@ -10,7 +10,7 @@ use Rattle.ab_text.specs.declared.fault.TextFault.TheVariants.{BadLine, NoEnd, N
 use Rattle.ab_text.specs.declared.version.Version.{Version}
 use Rattle.ab_text.specs.declared.version.Version.TheVariants.{One, Two, Three, Four}
 use Rattle.ab_text.specs.Lines.{lines_of}
-use Rattle.ab_text.specs.Heads.{◌>>=◌, Front, Script, number_at, number_after, within, spelled_in, taken, name_at, abstract_line, versions, plan_line, plans, service_line, services, lms_line, schemes_of, no_seed, seed_line, built, checkpoint_line, checkpoint_at, seed_in, seed_at, head_count, head_at}
+use Rattle.ab_text.specs.Heads.{◌>>=◌, Front, Script, number_at, number_after, within, spelled_in, taken, name_at, abstract_line, versions, plan_line, plans, service_line, services, lms_line, schemes_of, no_seed, seed_line, built, most_every, checkpoint_line, checkpoint_at, seed_in, seed_at, head_count, head_at}
 use Rattle.ab_text.specs.Schedules.{ReadsEvents, ReadsFaulty, ReadsText, Continues, Ends, with_event, with_faulty}
 use Rattle.ab_text.specs.Spelling.{Allows, IsSpelled, Spell}
 use Rattle.ab_text.specs.Faults.{BeginsNone, BeginsUnbuilt}
@@ -121,9 +121,9 @@ taken_decided n (Some a) = inl (a, λ ls. refl)
 pub name_step : {A : Type 0} (spell : A → List ℕ) (all : List A) (n : ℕ) → IsStep n (name_at spell all n)
 name_step spell all n = record { none = refl; each = λ l. taken_decided n (spelled_in spell all l) }
 
-built_decided : (o : Option ℕ) → Decided 7 (λ ls. within 0 128 7 ls o >>= built 7)
-built_decided None = inr (BadLine 7, refl, λ ls. refl)
-built_decided (Some k) = by (nat_le 0 k && nat_le k 128)
+built_decided : (most : ℕ) (o : Option ℕ) → Decided 7 (λ ls. within 0 most 7 ls o >>= built 7)
+built_decided most None = inr (BadLine 7, refl, λ ls. refl)
+built_decided most (Some k) = by (nat_le 0 k && nat_le k most)
   where
     asked : (b : Bool) → Decided 7 (λ ls. if b then Ok (k, ls) else Err (NotBuilt 7))
     asked true = inl (k, λ ls. refl)
@@ -133,8 +133,8 @@ built_decided (Some k) = by (nat_le 0 k && nat_le k 128)
     by true = asked (nat_eq k 0)
     by false = inr (BadLine 7, refl, λ ls. refl)
 
-pub checkpoint_step : IsStep 7 checkpoint_at
-checkpoint_step = record { none = refl; each = λ l. built_decided (number_after (codes "checkpoint ") l) }
+pub checkpoint_step : (p : Plan) → IsStep 7 (checkpoint_at p)
+checkpoint_step p = record { none = refl; each = λ l. built_decided (most_every p) (number_after (codes "checkpoint ") l) }
 
 pub seed_step : IsStep 8 seed_at
 seed_step = record { none = refl; each = λ l. taken_decided 8 (seed_in l) }
@@ -162,8 +162,8 @@ body_sticks w s ls e m at r = faulty_stuck ls (head_count w + 1) s e m at r
 sticks7 : (w : Version) (f : ℕ) (p : Plan) (c : ℕ) (v : ServiceName) (h : Scheme) → Sticks 7 (from7 w f p c v h)
 sticks7 One f p c v h = body_sticks One (script f p c v h 0 no_seed)
 sticks7 Two f p c v h = body_sticks Two (script f p c v h 0 no_seed)
-sticks7 Three f p c v h = step_sticks 7 checkpoint_at (from8 Three f p c v h) checkpoint_step (λ k. body_sticks Three (script f p c v h k no_seed))
-sticks7 Four f p c v h = step_sticks 7 checkpoint_at (from8 Four f p c v h) checkpoint_step
+sticks7 Three f p c v h = step_sticks 7 (checkpoint_at p) (from8 Three f p c v h) (checkpoint_step p) (λ k. body_sticks Three (script f p c v h k no_seed))
+sticks7 Four f p c v h = step_sticks 7 (checkpoint_at p) (from8 Four f p c v h) (checkpoint_step p)
     (λ k. step_sticks 8 seed_at (λ x ls. Ok (front Four (script f p c v h k x) ls)) seed_step (λ x. body_sticks Four (script f p c v h k x)))
 
 sticks6 : (w : Version) (f : ℕ) (p : Plan) (c : ℕ) (v : ServiceName) → Sticks 6 (from6 w f p c v)
@@ -222,8 +222,8 @@ body_counts w s ls m r = faulty_count ls (head_count w + 1) s m r
 counts7 : (w : Version) (f : ℕ) (p : Plan) (c : ℕ) (v : ServiceName) (h : Scheme) → Counts 7 (from7 w f p c v h)
 counts7 One f p c v h = body_counts One (script f p c v h 0 no_seed)
 counts7 Two f p c v h = body_counts Two (script f p c v h 0 no_seed)
-counts7 Three f p c v h = step_counts 7 checkpoint_at (from8 Three f p c v h) checkpoint_step (λ k. body_counts Three (script f p c v h k no_seed))
-counts7 Four f p c v h = step_counts 7 checkpoint_at (from8 Four f p c v h) checkpoint_step
+counts7 Three f p c v h = step_counts 7 (checkpoint_at p) (from8 Three f p c v h) (checkpoint_step p) (λ k. body_counts Three (script f p c v h k no_seed))
+counts7 Four f p c v h = step_counts 7 (checkpoint_at p) (from8 Four f p c v h) (checkpoint_step p)
     (λ k. step_counts 8 seed_at (λ x ls. Ok (front Four (script f p c v h k x) ls)) seed_step (λ x. body_counts Four (script f p c v h k x)))
 
 counts6 : (w : Version) (f : ℕ) (p : Plan) (c : ℕ) (v : ServiceName) → Counts 6 (from6 w f p c v)
@@ -329,7 +329,7 @@ head_decides ls n h = by (head_at ls) refl h
     by (Err d) is k = is ∙ ap (λ f. let r : Result Front TextFault = Err f in r) (sym (err_is (NotBuilt n) d k))
 
 -- these lines, and some more
-begun : (w : Version) (f : ℕ) (p : Plan) (c : ℕ) (v : ServiceName) (h : Scheme) (k : ℕ) → (w ≡ Three) ⊎ (w ≡ Four) → IsInBounds f c → Allows w h → k ≤ 128
+begun : (w : Version) (f : ℕ) (p : Plan) (c : ℕ) (v : ServiceName) (h : Scheme) (k : ℕ) → (w ≡ Three) ⊎ (w ≡ Four) → IsInBounds f c → Allows w h → k ≤ most_every p
     → (more : Rest) × Spell (first_lines w f p c v h (checkpoint_line k ∷ []) ++ more) (script f p c v h k no_seed)
 begun w f p c v h k (inl three) bounds allows few = (
   codes "run" ∷ codes "end" ∷ [],

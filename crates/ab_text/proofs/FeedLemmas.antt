@@ -8,7 +8,7 @@ use Rattle.hex.specs.Hex.{encode_lower}
 use Rattle.ab_num.specs.declared.party.Party.{Party}
 use Rattle.ab_num.specs.declared.party.Party.TheVariants.{Replica, Client}
 use Rattle.ab_num.specs.declared.plan.Plan.{Plan}
-use Rattle.ab_num.specs.declared.plan.Plan.TheVariants.{AZyzzyva, Aliph, Quorum, ZLight, Chain, Backup}
+use Rattle.ab_num.specs.declared.plan.Plan.TheVariants.{AZyzzyva, Aliph, Quorum, ZLight, Chain, Backup, ZCert}
 use Rattle.ab_num.specs.declared.plan.ServiceName.{ServiceName}
 use Rattle.ab_num.specs.declared.plan.ServiceName.TheVariants.{Echo, Kv}
 use Rattle.ab_num.specs.declared.plan.Height.TheVariants.{Five, Ten}
@@ -27,7 +27,7 @@ use Rattle.ab_text.specs.Lines.{lines_of, onto_first}
 use Rattle.ab_text.specs.Schedules.{IsInside, faulty_line}
 use Rattle.ab_text.specs.Spelling.{AreFaulty, IsSchedule, IsSeed, IsSpelled, event_lines, faulty_lines, head_lines, later_lines, schedule_lines}
 use Rattle.ab_text.proofs.CoreLemmas.{Lacks-party}
-use Rattle.ab_text.proofs.HeadLemmas.{goes_least}
+use Rattle.ab_text.proofs.HeadLemmas.{goes_least, most_few}
 use Rattle.ab_text.proofs.HexLemmas.{encoded_lower}
 use Rattle.ab_text.proofs.PartLemmas.{Lacks-append, Lacks-cons, Lacks-decimal}
 use Rattle.ab_text.specs.Texts.{text_of, schedule_text}
@@ -137,6 +137,7 @@ no_feed_in_plan Quorum = tested (codes "plan quorum") refl
 no_feed_in_plan ZLight = tested (codes "plan zlight") refl
 no_feed_in_plan Chain = tested (codes "plan chain") refl
 no_feed_in_plan Backup = tested (codes "plan backup") refl
+no_feed_in_plan ZCert = tested (codes "plan zcert") refl
 
 pub no_feed_in_service : (v : ServiceName) → HasNoFeed (service_line v)
 no_feed_in_service Echo = tested (codes "service echo") refl
@@ -163,7 +164,9 @@ no_feed_in_later Four every seed dense good = (numbered (codes "checkpoint ") ev
 no_feed_in_head : (w : Version) (s : Script) → IsSchedule s → HaveNoFeed (head_lines w s)
 no_feed_in_head w s schedule =
     let few = schedule.bounds.few_faulty in
-    let count = schedule.bounds.few_clients in (
+    let count = schedule.bounds.few_clients in
+    let dense = schedule.dense in
+    let most = most_few s.plan in (
       no_feed_in_version w,
       (
         numbered (codes "f ") s.f refl (omega (arith, few)),
@@ -171,7 +174,7 @@ no_feed_in_head w s schedule =
           no_feed_in_plan s.plan,
           (
             numbered (codes "clients ") s.clients refl (omega (arith, count)),
-            (no_feed_in_service s.service, (no_feed_in_scheme s.lms, no_feed_in_later w s.every s.seed schedule.dense schedule.seed)),
+            (no_feed_in_service s.service, (no_feed_in_scheme s.lms, no_feed_in_later w s.every s.seed (omega (arith, dense, most)) schedule.seed)),
           ),
         ),
       ),

@@ -239,12 +239,12 @@ fronts8 f p c v h k bounds allows built = step_front seed_line 8 seed_at (λ x l
 fronts7 : (w : Version) (f : ℕ) (p : Plan) (c : ℕ) (v : ServiceName) (h : Scheme) → IsInBounds f c → Allows w h → Fronts 7 (from7 w f p c v h) (before7 w f p c v h)
 fronts7 One f p c v h bounds allows = body_fronts One f p c v h 0 no_seed bounds allows (refl, refl) refl IsSeed-none
 fronts7 Two f p c v h bounds allows = body_fronts Two f p c v h 0 no_seed bounds allows (refl, refl) refl IsSeed-none
-fronts7 Three f p c v h bounds allows = step_front checkpoint_line 7 checkpoint_at (from8 Three f p c v h) (before7 Three f p c v h) (checkpoint_line 0 ∷ last) checkpoint_step
+fronts7 Three f p c v h bounds allows = step_front checkpoint_line 7 (checkpoint_at p) (from8 Three f p c v h) (before7 Three f p c v h) (checkpoint_line 0 ∷ last) (checkpoint_step p)
     (bare_schedule Three f p c v h _ bounds allows refl)
-    (λ ls rest k is. let said = checkpoint_is ls rest k is in (said.0, body_fronts Three f p c v h k no_seed bounds allows refl said.1 IsSeed-none))
-fronts7 Four f p c v h bounds allows = step_front checkpoint_line 7 checkpoint_at (from8 Four f p c v h) (before7 Four f p c v h) (checkpoint_line 0 ∷ seed_line no_seed ∷ last) checkpoint_step
+    (λ ls rest k is. let said = checkpoint_is p ls rest k is in (said.0, body_fronts Three f p c v h k no_seed bounds allows refl said.1 IsSeed-none))
+fronts7 Four f p c v h bounds allows = step_front checkpoint_line 7 (checkpoint_at p) (from8 Four f p c v h) (before7 Four f p c v h) (checkpoint_line 0 ∷ seed_line no_seed ∷ last) (checkpoint_step p)
     (bare_schedule Four f p c v h _ bounds allows refl)
-    (λ ls rest k is. let said = checkpoint_is ls rest k is in (said.0, fronts8 f p c v h k bounds allows said.1))
+    (λ ls rest k is. let said = checkpoint_is p ls rest k is in (said.0, fronts8 f p c v h k bounds allows said.1))
 
 abbrev five : Scheme
 five = Lms Five

@@ -13,7 +13,7 @@ use Rattle.hex.specs.Hex.{encode_lower}
 use Rattle.std.proofs.lemmas.Option.{same_Some, none-some}
 use Rattle.ab_num.specs.Bounds.{IsInBounds}
 use Rattle.ab_num.specs.declared.plan.Plan.{Plan}
-use Rattle.ab_num.specs.declared.plan.Plan.TheVariants.{AZyzzyva, Aliph, Quorum, ZLight, Chain, Backup}
+use Rattle.ab_num.specs.declared.plan.Plan.TheVariants.{AZyzzyva, Aliph, Quorum, ZLight, Chain, Backup, ZCert}
 use Rattle.ab_num.specs.declared.plan.ServiceName.{ServiceName}
 use Rattle.ab_num.specs.declared.plan.ServiceName.TheVariants.{Echo, Kv}
 use Rattle.ab_num.specs.declared.plan.Height.{Height}
@@ -26,7 +26,7 @@ use Rattle.ab_text.specs.declared.version.Version.{Version}
 use Rattle.ab_text.specs.declared.version.Version.TheVariants.{One, Two, Three, Four}
 use Rattle.ab_text.specs.HexBytes.{bytes_in}
 use Rattle.ab_text.specs.Numbers.{number_of, is_number}
-use Rattle.ab_text.specs.Heads.{◌>>=◌, Front, Script, number_at, number_after, number_in, stripped, within, spelled_in, taken, name_at, abstract_line, versions, plan_line, plans, service_line, services, lms_line, schemes_of, checkpoint_line, seed_line, no_seed, version_with, version_of, head_count, built, checkpoint_at, seed_in, seed_at, every_at, seed_with, head_at}
+use Rattle.ab_text.specs.Heads.{◌>>=◌, Front, Script, number_at, number_after, number_in, stripped, within, spelled_in, taken, name_at, abstract_line, versions, plan_line, plans, service_line, services, lms_line, schemes_of, checkpoint_line, seed_line, no_seed, version_with, version_of, head_count, built, most_every, checkpoint_at, seed_in, seed_at, every_at, seed_with, head_at}
 use Rattle.ab_text.specs.Spelling.{Allows, IsBuilt, IsSeed, Omits, head_lines, later_lines}
 use Rattle.ab_text.proofs.HexLemmas.{bytes_were, read_bytes}
 use Rattle.ab_text.proofs.WordLemmas.{stripped-is}
@@ -150,7 +150,7 @@ abbrev pub from8 : Version → ℕ → Plan → ℕ → ServiceName → Scheme �
 from8 w f p c v h e ls = seed_with w ls >>= λ (x : List ℕ × Rest). Ok (front w (script f p c v h e x.0) x.1)
 
 abbrev pub from7 : Version → ℕ → Plan → ℕ → ServiceName → Scheme → Rest → Read
-from7 w f p c v h ls = every_at w ls >>= λ (x : ℕ × Rest). from8 w f p c v h x.0 x.1
+from7 w f p c v h ls = every_at w p ls >>= λ (x : ℕ × Rest). from8 w f p c v h x.0 x.1
 
 abbrev pub from6 : Version → ℕ → Plan → ℕ → ServiceName → Rest → Read
 from6 w f p c v ls = name_at lms_line (schemes_of w) 6 ls >>= λ (x : Scheme × Rest). from7 w f p c v x.0 x.1
@@ -284,28 +284,28 @@ unbuilt_says n m p h = elim (cases_Bool (nat_eq p.0 0)) [
 ]
 
 -- the line of checkpoints, which says that none is due
-pub checkpoint_is : (ls rest : Rest) (e : ℕ) → checkpoint_at ls ≡ Ok (e, rest) → (ls ≡ checkpoint_line e ∷ rest) × (e ≡ 0)
-checkpoint_is ls rest e h =
-    let b = bind_ok (number_at (codes "checkpoint ") 0 128 7 ls) (built 7) (e, rest) h in
+pub checkpoint_is : (p : Plan) (ls rest : Rest) (e : ℕ) → checkpoint_at p ls ≡ Ok (e, rest) → (ls ≡ checkpoint_line e ∷ rest) × (e ≡ 0)
+checkpoint_is p ls rest e h =
+    let b = bind_ok (number_at (codes "checkpoint ") 0 (most_every p) 7 ls) (built 7) (e, rest) h in
     let said = built_says 7 b.0 (e, rest) b.2 in
-    ((number_is (codes "checkpoint ") 0 128 7 ls rest e (b.1 ∙ ap (λ (x : ℕ × Rest). let r : Result (ℕ × Rest) TextFault = Ok x in r) said.0)).0, said.1)
+    ((number_is (codes "checkpoint ") 0 (most_every p) 7 ls rest e (b.1 ∙ ap (λ (x : ℕ × Rest). let r : Result (ℕ × Rest) TextFault = Ok x in r) said.0)).0, said.1)
 
 -- the line of checkpoints, which says that some are due
-pub record AsksCheckpoints (n : ℕ) (ls : Rest) : Type 0 where
+pub record AsksCheckpoints (p : Plan) (n : ℕ) (ls : Rest) : Type 0 where
   pub every : ℕ
   pub rest : Rest
   pub lines : ls ≡ checkpoint_line every ∷ rest
   pub some : 1 ≤ every
-  pub few : every ≤ 128
+  pub few : every ≤ most_every p
   pub seventh : n ≡ 7
 
-checkpoints_asked : (ls : Rest) (n : ℕ) → checkpoint_at ls ≡ Err (NotBuilt n) → AsksCheckpoints n ls
-checkpoints_asked ls n h = by (number_at (codes "checkpoint ") 0 128 7 ls) refl (plain_number (codes "checkpoint ") 0 128 7 ls) h
+checkpoints_asked : (p : Plan) (ls : Rest) (n : ℕ) → checkpoint_at p ls ≡ Err (NotBuilt n) → AsksCheckpoints p n ls
+checkpoints_asked p ls n h = by (number_at (codes "checkpoint ") 0 (most_every p) 7 ls) refl (plain_number (codes "checkpoint ") 0 (most_every p) 7 ls) h
   where
-    by : (r : Result (ℕ × Rest) TextFault) → number_at (codes "checkpoint ") 0 128 7 ls ≡ r → IsPlain r → (r >>= built 7) ≡ Err (NotBuilt n) → AsksCheckpoints n ls
+    by : (r : Result (ℕ × Rest) TextFault) → number_at (codes "checkpoint ") 0 (most_every p) 7 ls ≡ r → IsPlain r → (r >>= built 7) ≡ Err (NotBuilt n) → AsksCheckpoints p n ls
     by (Ok (e, rest)) is plain k =
         let said = unbuilt_says 7 n (e, rest) k in
-        let asks = number_is (codes "checkpoint ") 0 128 7 ls rest e is in
+        let asks = number_is (codes "checkpoint ") 0 (most_every p) 7 ls rest e is in
         let some = said.0 in
         record { every = e; rest = rest; lines = asks.0; some = omega (arith, some); few = asks.2; seventh = said.1 }
     by (Err (NotBuilt m)) is plain k = absurd plain
@@ -389,8 +389,8 @@ whole_head x ls six = by six.version six.allows six.lines six.gives
     by One allows lines gives = plain One six.rest allows (refl, refl) lines refl (same_front One _ six.rest x gives)
     by Two allows lines gives = plain Two six.rest allows (refl, refl) lines refl (same_front Two _ six.rest x gives)
     by Three allows lines gives =
-        let b = bind_ok (checkpoint_at six.rest) (λ (y : ℕ × Rest). from8 Three f p c v h y.0 y.1) x gives in
-        let seven = checkpoint_is six.rest b.0.1 b.0.0 b.1 in
+        let b = bind_ok (checkpoint_at p six.rest) (λ (y : ℕ × Rest). from8 Three f p c v h y.0 y.1) x gives in
+        let seven = checkpoint_is p six.rest b.0.1 b.0.0 b.1 in
         subst (λ y. IsHead y ls) (same_front Three _ b.0.1 x b.2) (record {
           version = Three;
           allows = allows;
@@ -403,8 +403,8 @@ whole_head x ls six = by six.version six.allows six.lines six.gives
           events = refl;
         })
     by Four allows lines gives =
-        let b = bind_ok (checkpoint_at six.rest) (λ (y : ℕ × Rest). from8 Four f p c v h y.0 y.1) x gives in
-        let seven = checkpoint_is six.rest b.0.1 b.0.0 b.1 in
+        let b = bind_ok (checkpoint_at p six.rest) (λ (y : ℕ × Rest). from8 Four f p c v h y.0 y.1) x gives in
+        let seven = checkpoint_is p six.rest b.0.1 b.0.0 b.1 in
         let g = bind_ok (seed_at b.0.1) (λ (y : List ℕ × Rest). Ok (front Four (script f p c v h b.0.0 y.0) y.1)) x b.2 in
         let eight = seed_is b.0.1 g.0.1 g.0.0 g.1 in
         subst (λ y. IsHead y ls) (same_front Four _ g.0.1 x g.2) (record {
@@ -425,22 +425,22 @@ head_is ls x e = whole_head x ls (has_six (Ok x) ls tt e)
 -- six lines, and the one that asks for checkpoints, in a version that has it
 pub record IsUnbuilt (n : ℕ) (ls : Rest) : Type 0 where
   pub six : HasSix (Err (NotBuilt n)) ls
-  pub asks : AsksCheckpoints n six.rest
+  pub asks : AsksCheckpoints six.plan n six.rest
   pub later : (six.version ≡ Three) ⊎ (six.version ≡ Four)
 
 plain_seed : (ls : Rest) → IsPlain (seed_at ls)
 plain_seed [] = tt
 plain_seed (l ∷ ls) = plain_taken 8 ls (seed_in l)
 
-unbuilt_later : (w : Version) (f : ℕ) (p : Plan) (c : ℕ) (v : ServiceName) (h : Scheme) (n : ℕ) (ls : Rest) → from7 w f p c v h ls ≡ Err (NotBuilt n) → AsksCheckpoints n ls × ((w ≡ Three) ⊎ (w ≡ Four))
+unbuilt_later : (w : Version) (f : ℕ) (p : Plan) (c : ℕ) (v : ServiceName) (h : Scheme) (n : ℕ) (ls : Rest) → from7 w f p c v h ls ≡ Err (NotBuilt n) → AsksCheckpoints p n ls × ((w ≡ Three) ⊎ (w ≡ Four))
 unbuilt_later One f p c v h n ls e = absurd (cc)
 unbuilt_later Two f p c v h n ls e = absurd (cc)
-unbuilt_later Three f p c v h n ls e = by (checkpoint_at ls) refl e
+unbuilt_later Three f p c v h n ls e = by (checkpoint_at p ls) refl e
   where
-    by : (r : Result (ℕ × Rest) TextFault) → checkpoint_at ls ≡ r → (r >>= λ (x : ℕ × Rest). from8 Three f p c v h x.0 x.1) ≡ Err (NotBuilt n) → AsksCheckpoints n ls × ((Three ≡ Three) ⊎ (Three ≡ Four))
+    by : (r : Result (ℕ × Rest) TextFault) → checkpoint_at p ls ≡ r → (r >>= λ (x : ℕ × Rest). from8 Three f p c v h x.0 x.1) ≡ Err (NotBuilt n) → AsksCheckpoints p n ls × ((Three ≡ Three) ⊎ (Three ≡ Four))
     by (Ok x) is k = absurd (cc)
-    by (Err d) is k = (checkpoints_asked ls n (is ∙ (let same : ◌≡◌ {A = Result (ℕ × Rest) TextFault} (Err d) (Err (NotBuilt n)) = cc in same)), inl refl)
-unbuilt_later Four f p c v h n ls e = by (checkpoint_at ls) refl e
+    by (Err d) is k = (checkpoints_asked p ls n (is ∙ (let same : ◌≡◌ {A = Result (ℕ × Rest) TextFault} (Err d) (Err (NotBuilt n)) = cc in same)), inl refl)
+unbuilt_later Four f p c v h n ls e = by (checkpoint_at p ls) refl e
   where
     after : (k : ℕ) (rest : Rest) (r : Result (List ℕ × Rest) TextFault) → IsPlain r → (r >>= λ (x : List ℕ × Rest). Ok (front Four (script f p c v h k x.0) x.1)) ≡ Err (NotBuilt n) → ⊥
     after k rest (Ok x) plain g = cc
@@ -449,9 +449,9 @@ unbuilt_later Four f p c v h n ls e = by (checkpoint_at ls) refl e
     after k rest (Err (NoEnd m)) plain g = cc
     after k rest (Err OutOfMemory) plain g = cc
 
-    by : (r : Result (ℕ × Rest) TextFault) → checkpoint_at ls ≡ r → (r >>= λ (x : ℕ × Rest). from8 Four f p c v h x.0 x.1) ≡ Err (NotBuilt n) → AsksCheckpoints n ls × ((Four ≡ Three) ⊎ (Four ≡ Four))
+    by : (r : Result (ℕ × Rest) TextFault) → checkpoint_at p ls ≡ r → (r >>= λ (x : ℕ × Rest). from8 Four f p c v h x.0 x.1) ≡ Err (NotBuilt n) → AsksCheckpoints p n ls × ((Four ≡ Three) ⊎ (Four ≡ Four))
     by (Ok (k, rest)) is g = absurd (after k rest (seed_at rest) (plain_seed rest) g)
-    by (Err d) is k = (checkpoints_asked ls n (is ∙ (let same : ◌≡◌ {A = Result (ℕ × Rest) TextFault} (Err d) (Err (NotBuilt n)) = cc in same)), inr refl)
+    by (Err d) is k = (checkpoints_asked p ls n (is ∙ (let same : ◌≡◌ {A = Result (ℕ × Rest) TextFault} (Err d) (Err (NotBuilt n)) = cc in same)), inr refl)
 
 pub unbuilt_head : (ls : Rest) (n : ℕ) → head_at ls ≡ Err (NotBuilt n) → IsUnbuilt n ls
 unbuilt_head ls n e =
@@ -485,6 +485,7 @@ plan_read Quorum = refl
 plan_read ZLight = refl
 plan_read Chain = refl
 plan_read Backup = refl
+plan_read ZCert = refl
 
 pub service_read : (v : ServiceName) → spelled_in service_line services (service_line v) ≡ Some v
 unfolding spelled_in
@@ -566,14 +567,20 @@ six_read w f p c v h rest bounds allows =
     ∙ ap (λ (r : Result (ServiceName × Rest) TextFault). r >>= λ (x : ServiceName × Rest). from6 w f p c x.0 x.1) (name_reads service_line services 5 (lms_line h ∷ rest) v (service_read v))
     ∙ ap (λ (r : Result (Scheme × Rest) TextFault). r >>= λ (x : Scheme × Rest). from7 w f p c v x.0 x.1) (name_reads lms_line (schemes_of w) 6 rest h (scheme_read w h allows))
 
-checkpoint_read : (e : ℕ) (ls : Rest) → e ≤ 128 → checkpoint_at (checkpoint_line e ∷ ls) ≡ built 7 (e, ls)
-checkpoint_read e ls few = ap (λ (r : Result (ℕ × Rest) TextFault). r >>= built 7) (number_reads (codes "checkpoint ") 0 128 7 ls e (omega arith) few (omega (arith, few)))
+pub most_few : (p : Plan) → most_every p ≤ 128
+most_few ZCert = omega arith
+most_few p = omega arith
 
-none_read : (e : ℕ) (ls : Rest) → e ≡ 0 → checkpoint_at (checkpoint_line e ∷ ls) ≡ Ok (e, ls)
-none_read e ls none = checkpoint_read e ls (omega (arith, none)) ∙ ap (λ b. if b then Ok (e, ls) else Err (NotBuilt 7)) ((Decides-eqb e 0).1 none)
+checkpoint_read : (p : Plan) (e : ℕ) (ls : Rest) → e ≤ most_every p → checkpoint_at p (checkpoint_line e ∷ ls) ≡ built 7 (e, ls)
+checkpoint_read p e ls few =
+    let most = most_few p in
+    ap (λ (r : Result (ℕ × Rest) TextFault). r >>= built 7) (number_reads (codes "checkpoint ") 0 (most_every p) 7 ls e (omega arith) few (omega (arith, few, most)))
 
-some_refused : (e : ℕ) (ls : Rest) → 1 ≤ e → e ≤ 128 → checkpoint_at (checkpoint_line e ∷ ls) ≡ Err (NotBuilt 7)
-some_refused e ls some few = checkpoint_read e ls few ∙ ap (λ b. if b then Ok (e, ls) else Err (NotBuilt 7)) (false_from_ne_true (nat_eq e 0) (λ t. let none = (Decides-eqb e 0).0 t in omega (arith, none, some)))
+none_read : (p : Plan) (e : ℕ) (ls : Rest) → e ≡ 0 → checkpoint_at p (checkpoint_line e ∷ ls) ≡ Ok (e, ls)
+none_read p e ls none = checkpoint_read p e ls (omega (arith, none)) ∙ ap (λ b. if b then Ok (e, ls) else Err (NotBuilt 7)) ((Decides-eqb e 0).1 none)
+
+some_refused : (p : Plan) (e : ℕ) (ls : Rest) → 1 ≤ e → e ≤ most_every p → checkpoint_at p (checkpoint_line e ∷ ls) ≡ Err (NotBuilt 7)
+some_refused p e ls some few = checkpoint_read p e ls few ∙ ap (λ b. if b then Ok (e, ls) else Err (NotBuilt 7)) (false_from_ne_true (nat_eq e 0) (λ t. let none = (Decides-eqb e 0).0 t in omega (arith, none, some)))
 
 seed_read : (x : List ℕ) (ls : Rest) → IsSeed x → seed_at (seed_line x ∷ ls) ≡ Ok (x, ls)
 seed_read x ls good = ap (λ o. taken 8 ls (option_and_then (bytes_in 32) o)) (stripped-is (codes "seed ") (seed_line x) (encode_lower x) refl) ∙ ap (taken 8 ls) (read_bytes 32 x good.long good.small)
@@ -591,10 +598,10 @@ later_read Two s rest omits built good =
     let zeros = omits.1 in
     λ j. Ok (front Two (script s.f s.plan s.clients s.service s.lms (sym none j) (sym zeros j)) rest)
 later_read Three s rest omits built good =
-    ap (λ (r : Result (ℕ × Rest) TextFault). r >>= λ (x : ℕ × Rest). from8 Three s.f s.plan s.clients s.service s.lms x.0 x.1) (none_read s.every rest built)
+    ap (λ (r : Result (ℕ × Rest) TextFault). r >>= λ (x : ℕ × Rest). from8 Three s.f s.plan s.clients s.service s.lms x.0 x.1) (none_read s.plan s.every rest built)
     ∙ ap (λ x. let r : Read = Ok (front Three (script s.f s.plan s.clients s.service s.lms s.every x) rest) in r) (sym omits)
 later_read Four s rest omits built good =
-    ap (λ (r : Result (ℕ × Rest) TextFault). r >>= λ (x : ℕ × Rest). from8 Four s.f s.plan s.clients s.service s.lms x.0 x.1) (none_read s.every (seed_line s.seed ∷ rest) built)
+    ap (λ (r : Result (ℕ × Rest) TextFault). r >>= λ (x : ℕ × Rest). from8 Four s.f s.plan s.clients s.service s.lms x.0 x.1) (none_read s.plan s.every (seed_line s.seed ∷ rest) built)
     ∙ ap (λ (r : Result (List ℕ × Rest) TextFault). r >>= λ (x : List ℕ × Rest). Ok (front Four (script s.f s.plan s.clients s.service s.lms s.every x.0) x.1)) (seed_read s.seed rest good)
 
 pub head_reads : (w : Version) (s : Script) (rest : Rest) → IsInBounds s.f s.clients → Allows w s.lms → Omits w s → IsBuilt s → IsSeed s.seed
@@ -602,15 +609,15 @@ pub head_reads : (w : Version) (s : Script) (rest : Rest) → IsInBounds s.f s.c
 head_reads w s rest bounds allows omits built good =
     six_read w s.f s.plan s.clients s.service s.lms (later_lines w s.every s.seed ++ rest) bounds allows ∙ later_read w s rest omits built good
 
-later_asks : (w : Version) (s : Script) (rest : Rest) → Omits w s → 1 ≤ s.every → s.every ≤ 128 → from7 w s.f s.plan s.clients s.service s.lms (later_lines w s.every s.seed ++ rest) ≡ Err (NotBuilt 7)
+later_asks : (w : Version) (s : Script) (rest : Rest) → Omits w s → 1 ≤ s.every → s.every ≤ most_every s.plan → from7 w s.f s.plan s.clients s.service s.lms (later_lines w s.every s.seed ++ rest) ≡ Err (NotBuilt 7)
 later_asks One s rest omits some few = (let none = omits.0 in absurd (omega (arith, none, some)))
 later_asks Two s rest omits some few = (let none = omits.0 in absurd (omega (arith, none, some)))
 later_asks Three s rest omits some few =
-    ap (λ (r : Result (ℕ × Rest) TextFault). r >>= λ (x : ℕ × Rest). from8 Three s.f s.plan s.clients s.service s.lms x.0 x.1) (some_refused s.every rest some few)
+    ap (λ (r : Result (ℕ × Rest) TextFault). r >>= λ (x : ℕ × Rest). from8 Three s.f s.plan s.clients s.service s.lms x.0 x.1) (some_refused s.plan s.every rest some few)
 later_asks Four s rest omits some few =
-    ap (λ (r : Result (ℕ × Rest) TextFault). r >>= λ (x : ℕ × Rest). from8 Four s.f s.plan s.clients s.service s.lms x.0 x.1) (some_refused s.every (seed_line s.seed ∷ rest) some few)
+    ap (λ (r : Result (ℕ × Rest) TextFault). r >>= λ (x : ℕ × Rest). from8 Four s.f s.plan s.clients s.service s.lms x.0 x.1) (some_refused s.plan s.every (seed_line s.seed ∷ rest) some few)
 
 -- with checkpoints that is what is wrong
-pub head_asks : (w : Version) (s : Script) (rest : Rest) → IsInBounds s.f s.clients → Allows w s.lms → Omits w s → 1 ≤ s.every → s.every ≤ 128 → head_at (head_lines w s ++ rest) ≡ Err (NotBuilt 7)
+pub head_asks : (w : Version) (s : Script) (rest : Rest) → IsInBounds s.f s.clients → Allows w s.lms → Omits w s → 1 ≤ s.every → s.every ≤ most_every s.plan → head_at (head_lines w s ++ rest) ≡ Err (NotBuilt 7)
 head_asks w s rest bounds allows omits some few =
     six_read w s.f s.plan s.clients s.service s.lms (later_lines w s.every s.seed ++ rest) bounds allows ∙ later_asks w s rest omits some few

@@ -5,7 +5,7 @@ use Rattle.std.specs.Str.{bytes_eq}
 use Rattle.hex.specs.Hex.{encode_lower}
 use Rattle.ab_num.specs.declared.party.Party.{Party}
 use Rattle.ab_num.specs.declared.plan.Plan.{Plan}
-use Rattle.ab_num.specs.declared.plan.Plan.TheVariants.{AZyzzyva, Aliph, Quorum, ZLight, Chain, Backup}
+use Rattle.ab_num.specs.declared.plan.Plan.TheVariants.{AZyzzyva, Aliph, Quorum, ZLight, Chain, Backup, ZCert}
 use Rattle.ab_num.specs.declared.plan.ServiceName.{ServiceName}
 use Rattle.ab_num.specs.declared.plan.ServiceName.TheVariants.{Echo, Kv}
 use Rattle.ab_num.specs.declared.plan.Height.TheVariants.{Five, Ten}
@@ -47,9 +47,10 @@ plan_line Quorum = codes "plan quorum"
 plan_line ZLight = codes "plan zlight"
 plan_line Chain = codes "plan chain"
 plan_line Backup = codes "plan backup"
+plan_line ZCert = codes "plan zcert"
 
 abbrev pub plans : List Plan
-plans = AZyzzyva ∷ Aliph ∷ Quorum ∷ ZLight ∷ Chain ∷ Backup ∷ []
+plans = AZyzzyva ∷ Aliph ∷ Quorum ∷ ZLight ∷ Chain ∷ Backup ∷ ZCert ∷ []
 
 abbrev pub service_line : ServiceName → List ℕ
 service_line Echo = codes "service echo"
@@ -163,9 +164,14 @@ seed_in l = option_and_then (bytes_in 32) (stripped (codes "seed ") l)
 abbrev pub built : ℕ → ℕ × List (List ℕ) → Result (ℕ × List (List ℕ)) TextFault
 built n p = if nat_eq p.0 0 then Ok p else Err (NotBuilt n)
 
+-- after how many requests a checkpoint may be due at most: with certificates of answers none ever is
+abbrev pub most_every : Plan → ℕ
+most_every ZCert = 0
+most_every plan = 128
+
 -- line 7 is that of checkpoints
-abbrev pub checkpoint_at : List (List ℕ) → Result (ℕ × List (List ℕ)) TextFault
-checkpoint_at ls = number_at (codes "checkpoint ") 0 128 7 ls >>= built 7
+abbrev pub checkpoint_at : Plan → List (List ℕ) → Result (ℕ × List (List ℕ)) TextFault
+checkpoint_at plan ls = number_at (codes "checkpoint ") 0 (most_every plan) 7 ls >>= built 7
 
 -- line 8 is that of the seed
 abbrev pub seed_at : List (List ℕ) → Result (List ℕ × List (List ℕ)) TextFault
@@ -173,11 +179,11 @@ seed_at [] = Err (NoEnd 8)
 seed_at (l ∷ ls) = taken 8 ls (seed_in l)
 
 -- after how many requests a checkpoint is due: versions 3 and 4 have a line for it
-abbrev pub every_at : Version → List (List ℕ) → Result (ℕ × List (List ℕ)) TextFault
-every_at One ls = Ok (0, ls)
-every_at Two ls = Ok (0, ls)
-every_at Three ls = checkpoint_at ls
-every_at Four ls = checkpoint_at ls
+abbrev pub every_at : Version → Plan → List (List ℕ) → Result (ℕ × List (List ℕ)) TextFault
+every_at One plan ls = Ok (0, ls)
+every_at Two plan ls = Ok (0, ls)
+every_at Three plan ls = checkpoint_at plan ls
+every_at Four plan ls = checkpoint_at plan ls
 
 -- the seed: version 4 has a line for it
 abbrev pub seed_with : Version → List (List ℕ) → Result (List ℕ × List (List ℕ)) TextFault
@@ -201,7 +207,7 @@ head_at ls = do
   clients ← number_at (codes "clients ") 1 16 4 plan.1
   service ← name_at service_line services 5 clients.1
   lms ← name_at lms_line (schemes_of version.0) 6 service.1
-  every ← every_at version.0 lms.1
+  every ← every_at version.0 plan.0 lms.1
   seed ← seed_with version.0 every.1
   Ok (record {
     script = record { f = f.0; clients = clients.0; plan = plan.0; service = service.0; lms = lms.0; every = every.0; seed = seed.0; faulty = []; events = [] };

@@ -10,7 +10,7 @@ use Rattle.ab_text.specs.declared.version.Version.{Version}
 use Rattle.ab_text.specs.declared.version.Version.TheVariants.{One, Two, Three, Four}
 use Rattle.ab_text.specs.Lines.{lines_of}
 use Rattle.ab_text.specs.EventLines.{event_line, IsEvent}
-use Rattle.ab_text.specs.Heads.{Script, abstract_line, plan_line, service_line, lms_line, checkpoint_line, seed_line, no_seed}
+use Rattle.ab_text.specs.Heads.{Script, abstract_line, plan_line, service_line, lms_line, checkpoint_line, most_every, seed_line, no_seed}
 use Rattle.ab_text.specs.Schedules.{faulty_line, IsNextFaulty}
 
 -- the lines of a head that only later versions have
@@ -47,7 +47,7 @@ pub record IsSeed (seed : List ℕ) : Type 0 where
 -- a schedule of the grammar
 pub record IsSchedule (s : Script) : Type 0 where
   pub bounds : IsInBounds s.f s.clients
-  pub dense : s.every ≤ 128
+  pub dense : s.every ≤ most_every s.plan
   pub seed : IsSeed s.seed
   pub faulty : AreFaulty s.f s.clients [] s.faulty
   pub events : AllByRecursion IsEvent s.events

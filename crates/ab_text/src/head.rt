@@ -105,6 +105,7 @@ pub fn plan_text(plan: Plan) -> &'static str
         Plan::ZLight => "plan zlight",
         Plan::Chain => "plan chain",
         Plan::Backup => "plan backup",
+        Plan::ZCert => "plan zcert",
     }
 }
 
@@ -130,6 +131,9 @@ pub fn plan_in(line: &[u8]) -> Option<Plan>
     }
     if line == b"plan backup".as_slice() {
         return Some(Plan::Backup);
+    }
+    if line == b"plan zcert".as_slice() {
+        return Some(Plan::ZCert);
     }
     None
 }
@@ -290,7 +294,7 @@ pub(crate) fn head_of(text: &[u8]) -> Result<(HeadLines, &[u8]), TextFault>
     let (clients, rest) = numbered(rest, b"clients ", 1, 16, 4)?;
     let (service, rest) = service_at(rest, 5)?;
     let (lms, rest) = scheme_at(version, rest, 6)?;
-    let (every, rest) = every_at(version, rest)?;
+    let (every, rest) = every_at(version, plan, rest)?;
     let (seed, rest) = seed_with(version, rest)?;
     let cluster = cluster_of(f as u8, clients as u16, plan, every);
     let setting = HeadLines {

@@ -1,7 +1,7 @@
 //! The lines of the head that only later versions have.
 
 ghost use Rattle.std.specs.Prelude.{◌≡◌, ◌≤◌, [], IfOk, length};
-ghost use Rattle.ab_text.specs.Heads.{Gives, checkpoint_at, every_at, head_count, head_count_in, no_seed, seed_at, seed_in, seed_with, version_of as least_version};
+ghost use Rattle.ab_text.specs.Heads.{Gives, checkpoint_at, every_at, head_count, head_count_in, most_every, no_seed, seed_at, seed_in, seed_with, version_of as least_version};
 ghost use Rattle.ab_text.specs.Lines.{lines_of};
 ghost use Rattle.ab_text.specs.Schedules.{script_of};
 
@@ -12,6 +12,7 @@ use crate::lines::next_line;
 use crate::parts::after;
 use crate::schedule::Head;
 use crate::version::Version;
+use ab_num::Plan;
 
 /// The seed of a schedule that names none.
 pub(crate) const NO_SEED: [u8; 32] = [0; 32];
@@ -42,13 +43,25 @@ pub fn lines_of_head(text: &[u8]) -> u32
     }
 }
 
+/// After how many requests a checkpoint may be due at most.
+fn most_every(plan: Plan) -> u64
+    ensures most { result ≡ most_every plan }
+    ensures few { result ≤ 128 }
+{
+    match plan {
+        Plan::AZyzzyva | Plan::Aliph | Plan::Quorum | Plan::ZLight | Plan::Chain | Plan::Backup =>
+            128,
+        Plan::ZCert => 0,
+    }
+}
+
 /// After how many requests a checkpoint is due, by line 7, and what comes after that line.
-fn checkpoint_at(text: &[u8]) -> Result<(u16, &[u8]), TextFault>
-    ensures reads { Gives (λ p. (p.0, lines_of p.1.now)) result (checkpoint_at (lines_of text.now)) }
+fn checkpoint_at(plan: Plan, text: &[u8]) -> Result<(u16, &[u8]), TextFault>
+    ensures reads { Gives (λ p. (p.0, lines_of p.1.now)) result (checkpoint_at plan (lines_of text.now)) }
     ensures none { IfOk result (λ p. p.0 ≡ 0) }
     ensures shorter { IfOk result (λ p. length p.1.now ≤ length text.now) }
 {
-    let (every, rest) = numbered(text, b"checkpoint ", 0, 128, 7)?;
+    let (every, rest) = numbered(text, b"checkpoint ", 0, most_every(plan), 7)?;
     if every == 0 {
         Ok((0, rest))
     } else {
@@ -57,14 +70,14 @@ fn checkpoint_at(text: &[u8]) -> Result<(u16, &[u8]), TextFault>
 }
 
 /// After how many requests a checkpoint is due, and what comes after the line that says it, if the version has one.
-pub(crate) fn every_at(version: Version, text: &[u8]) -> Result<(u16, &[u8]), TextFault>
-    ensures reads { Gives (λ p. (p.0, lines_of p.1.now)) result (every_at version (lines_of text.now)) }
+pub(crate) fn every_at(version: Version, plan: Plan, text: &[u8]) -> Result<(u16, &[u8]), TextFault>
+    ensures reads { Gives (λ p. (p.0, lines_of p.1.now)) result (every_at version plan (lines_of text.now)) }
     ensures none { IfOk result (λ p. p.0 ≡ 0) }
     ensures shorter { IfOk result (λ p. length p.1.now ≤ length text.now) }
 {
     match version {
         Version::One | Version::Two => Ok((0, text)),
-        Version::Three | Version::Four => checkpoint_at(text),
+        Version::Three | Version::Four => checkpoint_at(plan, text),
     }
 }
 

@@ -7,6 +7,7 @@ ghost use Rattle.ab_words.specs.Options.{cluster_options, keys_options, node_opt
 ghost use Rattle.ab_words.specs.Uses.{texts};
 
 use crate::command::{ClusterCommand, Command, KeysCommand, NodeCommand, StormCommand};
+use crate::limits::{HIGHEST_BASE, LONGEST_WAIT, MOST_TURNS};
 use crate::names::{plan_named, scheme_named, service_named};
 use crate::options::{
     BASE, CLIENTS, CLUSTER, EVENTS, F, KEYS, LMS, NODE, PARTY, PLAN, SEED, SERVICE, STORM, TURNS,
@@ -67,9 +68,9 @@ fn node_in(uses: &Uses<'_>) -> Option<NodeCommand>
     requires { HasOnly node_options uses.now }
     ensures { result ≡ node_in uses.now }
 {
-    let base = number_of(uses, BASE, 1, 65000)? as u16;
-    let wait = number_of(uses, WAIT, 1, 60000)? as u16;
-    let turns = number_of(uses, TURNS, 1, 1000000000)? as u32;
+    let base = number_of(uses, BASE, 1, HIGHEST_BASE)? as u16;
+    let wait = number_of(uses, WAIT, 1, LONGEST_WAIT)? as u16;
+    let turns = number_of(uses, TURNS, 1, MOST_TURNS)? as u32;
     let trace = uses.trace();
     let journal = journal_of(uses)?;
     Some(NodeCommand {
@@ -92,9 +93,9 @@ fn cluster_in(uses: &Uses<'_>) -> Option<ClusterCommand>
     let service = service_named(uses.value_of(SERVICE)?)?;
     let lms = scheme_named(uses.value_of(LMS)?)?;
     let key_seed = bytes_in(uses.value_of(SEED)?)?;
-    let first_port = number_of(uses, BASE, 1, 65000)? as u16;
-    let wait = number_of(uses, WAIT, 1, 60000)? as u16;
-    let turns = number_of(uses, TURNS, 1, 1000000000)? as u32;
+    let first_port = number_of(uses, BASE, 1, HIGHEST_BASE)? as u16;
+    let wait = number_of(uses, WAIT, 1, LONGEST_WAIT)? as u16;
+    let turns = number_of(uses, TURNS, 1, MOST_TURNS)? as u32;
     let cluster = cluster_of(f, 1, plan, 0);
     Some(ClusterCommand {
         cluster,
