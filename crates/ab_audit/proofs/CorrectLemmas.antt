@@ -25,9 +25,14 @@ subject_maker (content.Prepare (Client c) i view slot x) a e = absurd (cc)
 subject_maker (content.Commit maker i view slot x) a e = absurd (cc)
 subject_maker (content.ViewChange maker i view entries) a e = absurd (cc)
 subject_maker (content.NewView maker i view) a e = absurd (cc)
+subject_maker (content.Checkpoint maker i n d) a e = absurd (cc)
+subject_maker (content.Spec maker i client stamp n d reply) a e = absurd (cc)
+subject_maker (content.LocalCommit maker i client stamp n d) a e = absurd (cc)
+subject_maker (content.AbortZ (Replica r) i h z) a e = let same : Abort r i ≡ a = cc in ap (λ b. Replica (accused_replica b)) same
+subject_maker (content.AbortZ (Client c) i h z) a e = absurd (cc)
 
 pub not_accused : (keys : List SignKey) (inputs : List (List ℕ)) (made : List Content) (r : ℕ) (a : Accusation) → FindsItsOwn keys inputs made r → StatesOnce made r → accused_replica a ≡ r → IsAccused keys inputs a → ⊥
 not_accused keys inputs made r a own once is d =
-    let one = own d.one d.one_found (subject_maker d.one a d.one_subject ∙ ap Replica is) in
-    let other = own d.other d.other_found (subject_maker d.other a d.other_subject ∙ ap Replica is) in
+    let one = own d.one a d.one_subject d.one_found (subject_maker d.one a d.one_subject ∙ ap Replica is) in
+    let other = own d.other a d.other_subject d.other_found (subject_maker d.other a d.other_subject ∙ ap Replica is) in
     d.differ (once d.one d.other a one other is d.one_subject d.other_subject)

@@ -34,7 +34,7 @@ found_among keys inputs = flat_map (λ bytes. found_as keys (message_of bytes)) 
 
 -- ---- accused
 
--- what a correct replica states once: its ABORT of an instance, and its PREPARE of a view and a slot
+-- what a correct replica states once: its ABORT of an instance, with or without a certificate of answers, and its PREPARE of a view and a slot
 abbrev pub subject_of : Content → Option Accusation
 subject_of (content.Req maker i m) = None
 subject_of (content.Order maker i n m) = None
@@ -49,6 +49,11 @@ subject_of (content.Prepare (Client c) i view slot x) = None
 subject_of (content.Commit maker i view slot x) = None
 subject_of (content.ViewChange maker i view entries) = None
 subject_of (content.NewView maker i view) = None
+subject_of (content.Checkpoint maker i n d) = None
+subject_of (content.Spec maker i client stamp n d reply) = None
+subject_of (content.LocalCommit maker i client stamp n d) = None
+subject_of (content.AbortZ (Replica r) i h z) = Some (Abort r i)
+subject_of (content.AbortZ (Client c) i h z) = None
 
 -- two different contents are found that a correct replica states once
 pub record IsContradicted (found : List Content) (a : Accusation) : Type 0 where

@@ -18,6 +18,7 @@ StatesOnce made r =
     (one other : Content) (a : Accusation) → Contains made one → Contains made other → accused_replica a ≡ r
     → subject_of one ≡ Some a → subject_of other ≡ Some a → one ≡ other
 
--- each statement that is found and names replica r was made by it
+-- each ABORT and each PREPARE that is found and names replica r was made by it
 abbrev pub FindsItsOwn : List SignKey → List (List ℕ) → List Content → ℕ → Type 0
-FindsItsOwn keys inputs made r = (c : Content) → Contains (found_among keys inputs) c → maker_of c ≡ Replica r → Contains made c
+FindsItsOwn keys inputs made r =
+    (c : Content) (a : Accusation) → subject_of c ≡ Some a → Contains (found_among keys inputs) c → maker_of c ≡ Replica r → Contains made c

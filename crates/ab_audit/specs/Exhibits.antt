@@ -71,5 +71,6 @@ pub record Contradict (keys : List SignKey) (inputs : List (List ℕ)) (a : Accu
 -- the log that an ABORT states, or the digest that a PREPARE states
 abbrev pub words_of : Content → List ℕ
 words_of (content.Abort (Replica r) i h) = log_line r i (map key_of h)
+words_of (content.AbortZ (Replica r) i h z) = log_line r i (map key_of h)
 words_of (content.Prepare maker i view slot x) = codes "digest " then encode_lower x then codes "\n"
 words_of _ = []

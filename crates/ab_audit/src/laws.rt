@@ -51,7 +51,7 @@ pub fn evidence_contradicts()
     opened_messages_are_of_the_grammar();
 }
 
-/// A replica isn't accused if each statement that is found in its name is among what was made, and it made one
+/// A replica isn't accused if each ABORT and each PREPARE that is found in its name is among what was made, and it made one
 /// ABORT of an instance and one PREPARE of a view and a slot.
 pub fn correct_replicas_are_not_accused()
     ensures { (keys : List SignKey) (inputs : List (List ℕ)) (made : List Stated) (r : ℕ) (a : Accusation) → FindsItsOwn keys inputs made r → StatesOnce made r

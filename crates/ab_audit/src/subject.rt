@@ -23,6 +23,14 @@ fn subject_in(content: &ContentRef<'_>) -> Option<Accusation>
             replica: *replica,
             instance: *instance,
         }),
+        ContentRef::AbortZ {
+            maker: Party::Replica(replica),
+            instance,
+            ..
+        } => Some(Accusation::Abort {
+            replica: *replica,
+            instance: *instance,
+        }),
         ContentRef::Prepare {
             maker: Party::Replica(replica),
             instance,
@@ -48,6 +56,7 @@ pub(crate) fn subject(claim: &ClaimRef<'_>) -> Option<Accusation>
         ClaimRef::Received { content, .. } => subject_in(content),
         ClaimRef::Asked { .. } => None,
         ClaimRef::Said { .. } => None,
+        ClaimRef::Answered { .. } => None,
         ClaimRef::Prepared {
             replica,
             instance,

@@ -65,6 +65,12 @@ fn words_in(alloc: Global, content: &ContentRef<'_>) -> Result<Vec<u8>, OutOfMem
             instance,
             history,
         } => log_words(alloc, *replica, *instance, history),
+        ContentRef::AbortZ {
+            maker: Party::Replica(replica),
+            instance,
+            history,
+            ..
+        } => log_words(alloc, *replica, *instance, history),
         ContentRef::Prepare { x, .. } => digest_words(alloc, x),
         _ => Ok(Vec::new(alloc)),
     }
@@ -79,6 +85,7 @@ pub(crate) fn words(alloc: Global, claim: &ClaimRef<'_>) -> Result<Vec<u8>, OutO
         ClaimRef::Received { content, .. } => words_in(alloc, content),
         ClaimRef::Asked { .. } => Ok(Vec::new(alloc)),
         ClaimRef::Said { .. } => Ok(Vec::new(alloc)),
+        ClaimRef::Answered { .. } => Ok(Vec::new(alloc)),
         ClaimRef::Prepared { x, .. } => digest_words(alloc, x),
     }
 }

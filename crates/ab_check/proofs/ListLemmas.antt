@@ -1,13 +1,16 @@
 -- What is left of the checks of a message.
-use Rattle.std.proofs.Common.{◌≡◌, ℕ, zero, suc, ◌+◌, ◌-◌, ◌<◌, ◌≤◌, min, leb, Bool, true, false, List, [], ◌∷◌, ◌++◌, Option, Some, None, refl, sym, ap, arith}
+use Rattle.std.proofs.Common.{◌≡◌, ℕ, zero, suc, ◌+◌, ◌-◌, ◌<◌, ◌≤◌, min, leb, Bool, true, false, List, [], ◌∷◌, ◌++◌, map, Option, Some, None, refl, sym, ap, arith}
 use Rattle.std.proofs.lemmas.Bool.{lt-leb, leb-true, leb-false}
+use Rattle.std.specs.Prelude.{if◌then◌else◌, nat_le}
+use Rattle.std.proofs.lemmas.List.{append-nil}
 use Rattle.std.specs.Borrow.{Bor}
 use Rattle.ab_num.specs.declared.party.Party.TheVariants.{Replica}
 use Rattle.ab_msg.specs.declared.content.Content.{Content}
-use Rattle.ab_msg.specs.Claims.{maker_of, each_before}
+use Rattle.ab_hist.specs.declared.request.Request.{Request}
+use Rattle.ab_msg.specs.Claims.{maker_of, asked, each_before, claims_at, tag_of_position}
 use Rattle.ab_check.specs.declared.chain.PassingRef.{PassingRef}
-use Rattle.ab_check.specs.Chains.{said, said_by}
-use Rattle.ab_check.specs.Checks.{slot_checks, slots_checks}
+use Rattle.ab_check.specs.Chains.{said, said_by, asked_at}
+use Rattle.ab_check.specs.Checks.{Check, slot_checks, slots_checks}
 
 -- ---- along a chain
 
@@ -39,6 +42,20 @@ maker_said l (Some reply) r = refl
 
 pub said_maker : (l : PassingRef) (r : ℕ) → maker_of (said l r) ≡ Replica r
 said_maker l r = maker_said l l.reply r
+
+-- the client's request and the positions before, in two parts
+two-parts : (g : Content → Check) (one : Content) (before : List Content) (b : Bool)
+    → map g (if b then one ∷ [] else []) ++ map g before ≡ map g (if b then one ∷ before else before)
+two-parts g one before true = refl
+two-parts g one before false = refl
+
+-- all that position p checks, where nothing else is left
+pub position-claims : (g : Content → Check) (f i : ℕ) (m : Request) (n : ℕ) (d : List ℕ) (p place : ℕ) (front passed aborts prepared changes : List Check)
+    → front ≡ map g (asked_at f i m p) → passed ≡ map g (each_before (f + 1) (tag_of_position f i m n d) p) → aborts ≡ [] → prepared ≡ [] → changes ≡ [] → p ≡ place
+    → front ++ ([] ++ (passed ++ (aborts ++ (prepared ++ changes)))) ≡ map g (claims_at f i m n d place)
+position-claims g f i m n d p place front passed aborts prepared changes one before none none' none'' here =
+    rw (one, before, none, none', none'', sym here, append-nil (map g (each_before (f + 1) (tag_of_position f i m n d) p)))
+    (two-parts g (asked i m) (each_before (f + 1) (tag_of_position f i m n d) p) (nat_le p (f + 1)))
 
 -- ---- behind a view change
 

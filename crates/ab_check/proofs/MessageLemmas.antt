@@ -9,17 +9,19 @@ use Rattle.ab_num.specs.declared.party.Party.{Party}
 use Rattle.ab_num.specs.declared.party.Party.TheVariants.{Replica, Client}
 use Rattle.ab_hist.specs.declared.request.Request.{Request}
 use Rattle.ab_msg.specs.declared.content.Content.{Content}
-use Rattle.ab_msg.specs.declared.content.Content.TheVariants.{Req, Order, Resp, ChainTag, Panic, Abort, PrePrepare, Prepare, Commit, ViewChange, NewView}
+use Rattle.ab_msg.specs.declared.content.Content.TheVariants.{Req, Order, Resp, ChainTag, Panic, Abort, PrePrepare, Prepare, Commit, ViewChange, NewView, Checkpoint, Spec, LocalCommit, AbortZ}
+use Rattle.ab_msg.specs.declared.signed.Signed.{Signed}
+use Rattle.ab_msg.specs.declared.zcert.Zcert.{Zcert}
 use Rattle.ab_msg.specs.declared.change.Proof.{Proof}
 use Rattle.ab_msg.specs.declared.message.Msg.{Msg}
 use Rattle.ab_msg.specs.declared.message.Msg.TheVariants as msg
 use Rattle.ab_msg.specs.declared.message.Offer.{Offer}
 use Rattle.ab_msg.specs.declared.message.Offer.TheVariants as offer
 use Rattle.ab_msg.specs.Claims.{asked, chain_claims, each_before, instance_of, maker_of, ordered, tag_of_position, tail_claims}
-use Rattle.ab_msg.specs.Contents.{IsChange}
-use Rattle.ab_msg.specs.Certs.{ArePrepares, IsProof, entries_of}
+use Rattle.ab_msg.specs.Contents.{IsChange, IsStopContent, IsZcert}
+use Rattle.ab_msg.specs.Certs.{ArePrepares, IsProof, IsSigned, entries_of}
 use Rattle.ab_msg.specs.Messages.{IsMessage, IsOffer, slot_in}
-use Rattle.ab_check.specs.Checks.{Check, all_checks, checks_of, offer_checks, prepare_check, proof_checks, signed_check, slot_checks, slots_checks, tag_between, tagged}
+use Rattle.ab_check.specs.Checks.{Check, abort_checks, aborts_checks, all_checks, answer_check, answers_checks, checks_of, kept_checks, offer_checks, prepare_check, proof_checks, slot_checks, slots_checks, tag_between, tagged}
 
 -- ---- parts of messages
 
@@ -49,8 +51,29 @@ changes-few (v ∷ vs) h =
 new_view-few : (vs : List Proof) → length vs ≤ 7 → All IsProof vs → length (all_checks vs) ≤ 840
 new_view-few vs few h = omega (arith, few, changes-few vs h)
 
-offer-few : (i slot : ℕ) (o : Offer) → IsOffer slot o → length (offer_checks i o) ≤ 7
-offer-few i slot (offer.Base aborts) h = omega (arith, length-map aborts signed_check, h.1.0.1)
+answers-few : (i : ℕ) (z : Zcert) → IsZcert z → length (answers_checks i z) ≤ 7
+answers-few i z h = omega (arith, length-map z.sigs (answer_check i z), h.1.1.1.1.1.0.1)
+
+kept-few : (c : Content) → IsStopContent c → length (kept_checks c) ≤ 7
+kept-few (AbortZ maker i h None) g = omega arith
+kept-few (AbortZ maker i h (Some z)) g = answers-few i z g.1.1.1
+kept-few (Abort maker i h) g = omega arith
+kept-few c g = absurd g
+
+abort-few : (s : Signed) → IsSigned IsStopContent s → length (abort_checks s) ≤ 8
+abort-few s h = omega (arith, kept-few s.content h.1.0)
+
+aborts-few : (ss : List Signed) → All (IsSigned IsStopContent) ss → length (aborts_checks ss) ≤ 8 * length ss
+aborts-few [] h = omega arith
+aborts-few (s ∷ ss) h =
+    omega (arith, length-append (abort_checks s) (aborts_checks ss), abort-few s (All-head (IsSigned IsStopContent) s ss h), aborts-few ss (All-tail (IsSigned IsStopContent) s ss h))
+
+-- a certificate has at most 7 ABORTs
+cert-few : (ss : List Signed) → length ss ≤ 7 → All (IsSigned IsStopContent) ss → length (aborts_checks ss) ≤ 56
+cert-few ss few h = omega (arith, few, aborts-few ss h)
+
+offer-few : (i slot : ℕ) (o : Offer) → IsOffer slot o → length (offer_checks i o) ≤ 56
+offer-few i slot (offer.Base aborts) h = cert-few aborts h.1.0.1 h.1.1
 offer-few i slot (offer.Request m tag) h = omega arith
 
 ordered-few : (c : Content) → length (ordered c) ≤ 1
@@ -65,6 +88,10 @@ ordered-few (Prepare maker i view slot x) = omega arith
 ordered-few (Commit maker i view slot x) = omega arith
 ordered-few (ViewChange maker i view entries) = omega arith
 ordered-few (NewView maker i view) = omega arith
+ordered-few (Checkpoint maker i n d) = omega arith
+ordered-few (Spec maker i client stamp n d reply) = omega arith
+ordered-few (LocalCommit maker i client stamp n d) = omega arith
+ordered-few (AbortZ maker i h zcert) = omega arith
 
 order-few : (cs : List Check) (one : Check) → length cs ≤ 1 → length (cs ++ one ∷ []) ≤ 2
 order-few cs one few = omega (arith, few, length-append cs (one ∷ []))
@@ -99,8 +126,8 @@ checks-few f me (msg.Req content tags) few is = omega arith
 checks-few f me (msg.Resp content tag) few is = omega arith
 checks-few f me (msg.Chain i m n d reply tags) few is =
     omega (arith, few, few-chain f me i m n d reply, length-map (chain_claims f me i m n d reply) (λ c. tagged c (tag_between (maker_of c) me tags)))
-checks-few f me (msg.Abort abort) few is = omega arith
-checks-few f me (msg.Init cert) few is = omega (arith, is.0.1, length-map cert signed_check)
+checks-few f me (msg.Abort abort) few is = omega (arith, abort-few abort is)
+checks-few f me (msg.Init cert) few is = omega (arith, cert-few cert is.0.1 is.1)
 checks-few f me (msg.Order content client_tag tag) few is =
     let one = order-few (map (λ c. tagged c (Some client_tag)) (ordered content)) (tagged content (Some tag)) (omega (arith, ordered-few content, length-map (ordered content) (λ c. tagged c (Some client_tag)))) in
     omega (arith, one)
@@ -110,3 +137,7 @@ checks-few f me (msg.Prepare prepare) few is = omega arith
 checks-few f me (msg.Commit content tag) few is = omega arith
 checks-few f me (msg.ViewChange change) few is = omega (arith, proof-few change is)
 checks-few f me (msg.NewView content tag changes) few is = omega (arith, new_view-few changes is.1.1.0.1 is.1.1.1)
+checks-few f me (msg.Checkpoint content tag) few is = omega arith
+checks-few f me (msg.LocalCommit content tag) few is = omega arith
+checks-few f me (msg.Spec spec) few is = omega arith
+checks-few f me (msg.Cert i z) few is = omega (arith, answers-few i z is.1)

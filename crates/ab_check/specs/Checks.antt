@@ -5,15 +5,16 @@ use Rattle.ab_num.specs.declared.party.Party.{Party}
 use Rattle.ab_num.specs.declared.party.Party.TheVariants.{Replica, Client}
 use Rattle.ab_num.specs.Parties.{party_eq}
 use Rattle.ab_msg.specs.declared.content.Content.{Content}
-use Rattle.ab_msg.specs.declared.content.Content.TheVariants.{Prepare}
+use Rattle.ab_msg.specs.declared.content.Content.TheVariants.{Prepare, AbortZ}
 use Rattle.ab_msg.specs.declared.signed.Signed.{Signed}
 use Rattle.ab_msg.specs.declared.change.Proof.{Proof}
+use Rattle.ab_msg.specs.declared.zcert.Zcert.{Zcert}
 use Rattle.ab_msg.specs.declared.chain_tags.TagBetween.{TagBetween}
 use Rattle.ab_msg.specs.declared.message.Msg.{Msg}
 use Rattle.ab_msg.specs.declared.message.Msg.TheVariants as msg
 use Rattle.ab_msg.specs.declared.message.Offer.{Offer}
 use Rattle.ab_msg.specs.declared.message.Offer.TheVariants as offer
-use Rattle.ab_msg.specs.Claims.{maker_of, instance_of, asked, ordered, chain_claims}
+use Rattle.ab_msg.specs.Claims.{maker_of, instance_of, asked, ordered, chain_claims, spec_of}
 use Rattle.ab_msg.specs.Contents.{spell_content}
 use Rattle.ab_msg.specs.Certs.{entries_of}
 use Rattle.ab_wire.specs.Inside.{tag_in}
@@ -48,8 +49,30 @@ tagged c tag = record { content = c; token = by_tag tag }
 abbrev pub signed_check : Signed → Check
 signed_check s = record { content = s.content; token = by_sig s.sig }
 
+-- an answer in a certificate of answers, by one of those who signed it
+abbrev pub answer_check : ℕ → Zcert → ℕ × List ℕ → Check
+answer_check instance z s = record { content = spec_of instance z s.0; token = by_sig s.1 }
+
+abbrev pub answers_checks : ℕ → Zcert → List Check
+answers_checks instance z = map (answer_check instance z) z.sigs
+
+abbrev pub kept_answers : ℕ → Option Zcert → List Check
+kept_answers instance None = []
+kept_answers instance (Some z) = answers_checks instance z
+
+-- the answers in the certificate that an ABORT holds
+abbrev pub kept_checks : Content → List Check
+kept_checks (AbortZ maker instance history zcert) = kept_answers instance zcert
+kept_checks _ = []
+
+-- its own signature, and then those of the answers that it holds
+abbrev pub abort_checks : Signed → List Check
+abort_checks s = signed_check s ∷ kept_checks s.content
+
+-- of ABORTs, one after the other
 abbrev pub aborts_checks : List Signed → List Check
-aborts_checks aborts = map signed_check aborts
+aborts_checks [] = []
+aborts_checks (s ∷ ss) = abort_checks s ++ aborts_checks ss
 
 -- the PREPARE of a slot, by one of those who signed it
 abbrev pub prepare_check : ℕ → ℕ → ℕ → List ℕ → ℕ × List ℕ → Check
@@ -95,13 +118,17 @@ checks_of f me (msg.Order content client_tag tag) = map (λ c. tagged c (Some cl
 checks_of f me (msg.Resp content tag) = tagged content (Some tag) ∷ []
 checks_of f me (msg.Chain i m n d reply tags) = map (λ c. tagged c (tag_between (maker_of c) me tags)) (chain_claims f me i m n d reply)
 checks_of f me (msg.Panic content tag) = tagged content (Some tag) ∷ []
-checks_of f me (msg.Abort abort) = signed_check abort ∷ []
+checks_of f me (msg.Abort abort) = abort_checks abort
 checks_of f me (msg.Init cert) = aborts_checks cert
 checks_of f me (msg.PrePrepare content tag offer) = tagged content (Some tag) ∷ offer_checks (instance_of content) offer
 checks_of f me (msg.Prepare prepare) = signed_check prepare ∷ []
 checks_of f me (msg.Commit content tag) = tagged content (Some tag) ∷ []
 checks_of f me (msg.ViewChange change) = proof_checks change
 checks_of f me (msg.NewView content tag changes) = tagged content (Some tag) ∷ all_checks changes
+checks_of f me (msg.Checkpoint content tag) = tagged content (Some tag) ∷ []
+checks_of f me (msg.LocalCommit content tag) = tagged content (Some tag) ∷ []
+checks_of f me (msg.Spec spec) = signed_check spec ∷ []
+checks_of f me (msg.Cert i z) = answers_checks i z
 
 -- whether a client is handed no reply
 abbrev pub lacks_reply : Party → Option (ArrayVec ℕ) → Bool

@@ -2,7 +2,7 @@
 use Rattle.std.specs.Prelude.{ℕ, ◌+◌, ◌*◌, ◌<◌, ◌≤◌, List, [], ◌∷◌, ◌++◌, length, map, Option, Some, None, IfSome}
 use Rattle.std.specs.Option.{option_map}
 use Rattle.ab_num.specs.Places.{at_position_of}
-use Rattle.ab_content.specs.Views.{content, request}
+use Rattle.ab_content.specs.Views.{content, request, zcert}
 use Rattle.ab_msg.specs.declared.content.Content.{Content}
 use Rattle.ab_msg.specs.declared.content.Content.TheVariants as statement
 use Rattle.ab_num.specs.declared.party.Party.TheVariants.{Replica}
@@ -10,19 +10,21 @@ use Rattle.ab_form.specs.Readers.{listed}
 use Rattle.ab_content.specs.Parts.{signer_at}
 use Rattle.ab_content.specs.Rows.{entry_at}
 use Rattle.ab_wire.specs.Changes.{prepares_at}
-use Rattle.ab_msg.specs.Claims.{asked, each_before}
+use Rattle.ab_msg.specs.Claims.{asked, each_before, spec_of}
 use Rattle.ab_msg.specs.Contents.{IsContent}
-use Rattle.ab_wire.specs.Views.{Spells, chain_tags}
-use Rattle.ab_check.specs.Checks.{Check, Token, by_tag, by_sig, slot_checks, slots_checks}
+use Rattle.ab_wire.specs.Views.{Spells, aborts, chain_tags}
+use Rattle.ab_check.specs.Checks.{Check, Token, by_tag, by_sig, aborts_checks, answers_checks, slot_checks, slots_checks}
 use Rattle.ab_check.specs.Chains.{passed_to, said}
 use Rattle.ab_check.specs.declared.check_ref.CheckRef.{CheckRef}
 use Rattle.ab_check.specs.declared.claim_ref.ClaimRef.{ClaimRef}
-use Rattle.ab_check.specs.declared.claim_ref.ClaimRef.TheVariants.{Received, Asked, Said, Prepared}
+use Rattle.ab_check.specs.declared.claim_ref.ClaimRef.TheVariants.{Received, Asked, Said, Answered, Prepared}
 use Rattle.ab_check.specs.declared.check_ref.TokenRef.{TokenRef}
 use Rattle.ab_check.specs.declared.check_ref.TokenRef.TheVariants.{Tag, Sig}
 use Rattle.ab_check.specs.declared.stated_bytes.StatedBytes.{StatedBytes}
 use Rattle.ab_check.specs.declared.stated_bytes.StatedBytes.TheVariants as bytes
 use Rattle.ab_check.specs.declared.passed.Passed.{Passed}
+use Rattle.ab_check.specs.declared.aborts.AnswersRef.{AnswersRef}
+use Rattle.ab_check.specs.declared.aborts.AbortsRef.{AbortsRef}
 use Rattle.ab_check.specs.declared.prepared.PreparedRef.{PreparedRef}
 
 abbrev pub bytes_of : StatedBytes → List ℕ
@@ -38,6 +40,7 @@ abbrev pub claimed : ClaimRef → Content
 claimed (Received c bytes) = content c
 claimed (Asked instance m) = asked instance (request m)
 claimed (Said link r) = said link r
+claimed (Answered instance z replica) = spec_of instance (zcert z) replica
 claimed (Prepared replica instance view slot x) = statement.Prepare (Replica replica) instance view slot x.now
 
 -- with what stands for it
@@ -49,6 +52,7 @@ abbrev pub IsClaim : ClaimRef → Type 0
 IsClaim (Received c bytes) = Spells bytes.now c × IsContent (content c)
 IsClaim (Asked instance m) = length m.command.now ≤ 128
 IsClaim (Said link r) = IfSome link.reply (λ reply. length reply.now ≤ 72)
+IsClaim (Answered instance z replica) = length z.reply.now ≤ 72
 IsClaim (Prepared replica instance view slot x) = Unit {0}
 
 abbrev pub one_left : Option CheckRef → List Check
@@ -67,6 +71,19 @@ pub record IsPassed (p : Passed) : Type 0 where
   pub left : p.left < p.position
   pub few : p.left ≤ p.k.f + 1
   pub short : IfSome p.link.reply (λ reply. length reply.now ≤ 72)
+
+-- ---- answers in a certificate, and ABORTs
+
+-- its signatures are those that are left
+abbrev pub answers_left : AnswersRef → List Check
+answers_left a = answers_checks a.instance (zcert a.zcert)
+
+-- the answers that are left of one ABORT, and the ABORTs behind it
+abbrev pub aborts_left : AbortsRef → List Check
+aborts_left a = answers_left a.answers ++ aborts_checks (aborts a.aborts)
+
+abbrev pub AreAnswers : AnswersRef → Type 0
+AreAnswers a = length a.zcert.reply.now ≤ 72
 
 -- ---- behind a view change
 

@@ -1,16 +1,17 @@
 //! The checks of a message, one after the other.
 
 ghost use Rattle.std.specs.Prelude.{◌≡◌, ◌++◌, ◌∷◌, [], IfSome, MatchOption};
-ghost use Rattle.ab_check.specs.Checks.{aborts_checks, all_checks};
-ghost use Rattle.ab_wire.specs.Views.{aborts as shown_aborts, proofs};
-ghost use Rattle.ab_check.specs.Listing.{IsClaim, IsPassed, IsPrepared, checked, one_left, passed_left, prepared_left};
+ghost use Rattle.ab_check.specs.Checks.{all_checks};
+ghost use Rattle.ab_wire.specs.Views.{proofs};
+ghost use Rattle.ab_check.specs.Listing.{AreAnswers, IsClaim, IsPassed, IsPrepared, aborts_left, checked, one_left, passed_left, prepared_left};
 
+use crate::aborts::{AbortsRef, next_abort};
 use crate::check_ref::{CheckRef, TokenRef};
 use crate::claim_ref::ClaimRef;
 use crate::passed::{Passed, next_passed};
 use crate::prepared::{PreparedRef, next_prepared, prepared_of};
 use ab_form::ListRef;
-use ab_wire::{ProofRef, SignedRef};
+use ab_wire::ProofRef;
 use std::marker::Model;
 
 /// What a party checks of a message, in order. It takes no memory.
@@ -19,7 +20,7 @@ pub struct Checks<'a> {
     first: Option<CheckRef<'a>>,
     second: Option<CheckRef<'a>>,
     passed: Passed<'a>,
-    aborts: ListRef<'a, SignedRef<'a>>,
+    aborts: AbortsRef<'a>,
     prepared: PreparedRef<'a>,
     changes: ListRef<'a, ProofRef<'a>>,
 }
@@ -27,15 +28,15 @@ pub struct Checks<'a> {
 /// It is seen as the list of what is left.
 impl<'a> Model for Checks<'a> {
     ghost use Rattle.std.specs.Prelude.{◌++◌, List, IfSome};
-    ghost use Rattle.ab_check.specs.Checks.{Check, aborts_checks, all_checks};
-    ghost use Rattle.ab_wire.specs.Views.{aborts as shown_aborts, proofs};
-    ghost use Rattle.ab_check.specs.Listing.{IsClaim, IsPassed, IsPrepared, one_left, passed_left, prepared_left};
+    ghost use Rattle.ab_check.specs.Checks.{Check, all_checks};
+    ghost use Rattle.ab_wire.specs.Views.{proofs};
+    ghost use Rattle.ab_check.specs.Listing.{AreAnswers, IsClaim, IsPassed, IsPrepared, aborts_left, one_left, passed_left, prepared_left};
 
     ghost Value = { List Check };
 
-    ghost view = { λ s. one_left s.first ++ (one_left s.second ++ (passed_left s.passed ++ (aborts_checks (shown_aborts s.aborts) ++ (prepared_left s.prepared ++ all_checks (proofs s.changes))))) };
+    ghost view = { λ s. one_left s.first ++ (one_left s.second ++ (passed_left s.passed ++ (aborts_left s.aborts ++ (prepared_left s.prepared ++ all_checks (proofs s.changes))))) };
 
-    ghost invariant = { λ s. IfSome s.first (λ c. IsClaim c.claim) × IfSome s.second (λ c. IsClaim c.claim) × IsPassed s.passed × IsPrepared s.prepared };
+    ghost invariant = { λ s. IfSome s.first (λ c. IsClaim c.claim) × IfSome s.second (λ c. IsClaim c.claim) × IsPassed s.passed × AreAnswers s.aborts.answers × IsPrepared s.prepared };
 }
 
 impl<'a> Checks<'a> {
@@ -44,15 +45,16 @@ impl<'a> Checks<'a> {
         first: Option<CheckRef<'a>>,
         second: Option<CheckRef<'a>>,
         passed: Passed<'a>,
-        aborts: ListRef<'a, SignedRef<'a>>,
+        aborts: AbortsRef<'a>,
         prepared: PreparedRef<'a>,
         changes: ListRef<'a, ProofRef<'a>>,
     ) -> Checks<'a>
         requires first { IfSome first (λ c. IsClaim c.claim) }
         requires second { IfSome second (λ c. IsClaim c.claim) }
         requires passed { IsPassed passed }
+        requires aborts { AreAnswers aborts.answers }
         requires prepared { IsPrepared prepared }
-        ensures { result ≡ one_left first.entry ++ (one_left second.entry ++ (passed_left passed.entry ++ (aborts_checks (shown_aborts aborts.entry) ++ (prepared_left prepared.entry ++ all_checks (proofs changes.entry))))) }
+        ensures { result ≡ one_left first.entry ++ (one_left second.entry ++ (passed_left passed.entry ++ (aborts_left aborts.entry ++ (prepared_left prepared.entry ++ all_checks (proofs changes.entry))))) }
     {
         Checks {
             first,
@@ -62,24 +64,6 @@ impl<'a> Checks<'a> {
             prepared,
             changes,
         }
-    }
-}
-
-/// The next ABORT of a certificate, and its signature.
-#[tactic(auto, using(ab_wire::proofs::KindLemmas::abort_content))]
-fn next_abort<'a>(aborts: &mut ListRef<'a, SignedRef<'a>>) -> Option<CheckRef<'a>>
-    ensures next { MatchOption result ((aborts_checks (shown_aborts aborts.old) ≡ []) × (aborts_checks (shown_aborts aborts.new) ≡ [])) (λ s. aborts_checks (shown_aborts aborts.old) ≡ checked s ∷ aborts_checks (shown_aborts aborts.new)) }
-    ensures claim { IfSome result (λ s. IsClaim s.claim) }
-{
-    match aborts.next() {
-        Some(s) => Some(CheckRef {
-            claim: ClaimRef::Received {
-                content: s.content,
-                bytes: s.bytes,
-            },
-            token: TokenRef::Sig(s.sig),
-        }),
-        None => None,
     }
 }
 

@@ -1,15 +1,16 @@
 //! One claim of a message, without memory.
 
 ghost use Rattle.std.specs.Prelude.{◌≡◌, ◌≤◌, length, IfOk, IfSome};
-ghost use Rattle.ab_msg.specs.Claims.{maker_of};
+ghost use Rattle.ab_msg.specs.Claims.{maker_of, spec_of};
 ghost use Rattle.ab_msg.specs.Contents.{spell_content};
+ghost use Rattle.ab_content.specs.Views.{zcert};
 ghost use Rattle.ab_check.specs.Chains.{said};
 ghost use Rattle.ab_check.specs.Listing.{IsClaim, bytes_of, claimed};
 
-use crate::chain::{PassingRef, said_text};
+use crate::chain::{PassingRef, said_text, spec_text};
 use crate::stated_bytes::StatedBytes;
 use crate::text::{prepare_text, request_text};
-use ab_content::{ContentRef, RequestRef};
+use ab_content::{ContentRef, RequestRef, ZcertRef};
 use ab_hist::{History, array_of};
 use ab_msg::Content;
 use ab_num::{OutOfMemory, Party};
@@ -32,6 +33,12 @@ pub enum ClaimRef<'a> {
     Said {
         link: PassingRef<'a>,
         r: u8,
+    },
+    /// The answer of a replica that a certificate has.
+    Answered {
+        instance: u32,
+        zcert: ZcertRef<'a>,
+        replica: u8,
     },
     /// What a replica states of a slot that a view change names.
     Prepared {
@@ -70,6 +77,23 @@ fn own_said(link: &PassingRef<'_>, r: u8) -> Content
     }
 }
 
+/// The answer of a replica that a certificate has, as a content of its own.
+fn own_answer(instance: u32, z: &ZcertRef<'_>, replica: u8) -> Content
+    requires { length z.now.reply.now ≤ 72 }
+    ensures { result ≡ spec_of instance (zcert z.now) replica }
+{
+    let d = *z.d;
+    Content::Spec {
+        maker: Party::Replica(replica),
+        instance,
+        client: z.client,
+        stamp: z.stamp,
+        n: z.n,
+        d,
+        reply: array_of(z.reply),
+    }
+}
+
 impl<'a> ClaimRef<'a> {
     /// Who states it.
     #[tactic(auto, using(crate::proofs::ListLemmas::said_maker))]
@@ -80,6 +104,7 @@ impl<'a> ClaimRef<'a> {
             ClaimRef::Received { content, .. } => content.maker(),
             ClaimRef::Asked { request, .. } => Party::Client(request.client),
             ClaimRef::Said { r, .. } => Party::Replica(*r),
+            ClaimRef::Answered { replica, .. } => Party::Replica(*replica),
             ClaimRef::Prepared { replica, .. } => Party::Replica(*replica),
         }
     }
@@ -95,6 +120,11 @@ impl<'a> ClaimRef<'a> {
                 StatedBytes::Made(request_text(*instance, request))
             }
             ClaimRef::Said { link, r } => StatedBytes::Made(said_text(link, *r)),
+            ClaimRef::Answered {
+                instance,
+                zcert,
+                replica,
+            } => StatedBytes::Made(spec_text(*instance, zcert, *replica)),
             ClaimRef::Prepared {
                 replica,
                 instance,
@@ -118,6 +148,11 @@ impl<'a> ClaimRef<'a> {
                 request: request.own(),
             }),
             ClaimRef::Said { link, r } => Ok(own_said(&link, r)),
+            ClaimRef::Answered {
+                instance,
+                zcert,
+                replica,
+            } => Ok(own_answer(instance, &zcert, replica)),
             ClaimRef::Prepared {
                 replica,
                 instance,

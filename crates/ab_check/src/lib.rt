@@ -2,6 +2,7 @@
 //! its order over the bytes that were received.
 #![tactic(auto)]
 
+mod aborts;
 mod chain;
 mod check_ref;
 mod checker;

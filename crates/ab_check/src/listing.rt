@@ -7,14 +7,15 @@ ghost use Rattle.ab_num.specs.declared.party.Party.TheVariants.{Replica};
 ghost use Rattle.ab_msg.specs.declared.message.Msg.TheVariants as msg;
 ghost use Rattle.ab_msg.specs.Claims.{chain_claims, claims_at, instance_of, ordered, tail_claims};
 ghost use Rattle.ab_msg.specs.Certs.{IsProof};
-ghost use Rattle.ab_msg.specs.Contents.{IsContent, IsOrder, IsPrePrepare};
+ghost use Rattle.ab_msg.specs.Contents.{IsContent, IsOrder, IsPrePrepare, IsStopContent};
 ghost use Rattle.ab_msg.specs.Messages.{IsMessage, IsOffer, slot_in};
 ghost use Rattle.ab_content.specs.Views.{content as shown, request};
-ghost use Rattle.ab_check.specs.Checks.{aborts_checks, all_checks, checks_of, offer_checks, proof_checks, tag_of, tagged};
+ghost use Rattle.ab_check.specs.Checks.{abort_checks, all_checks, checks_of, offer_checks, proof_checks, tag_of, tagged};
 ghost use Rattle.ab_check.specs.Chains.{IsPlaced, asked_at, passed_to};
-ghost use Rattle.ab_wire.specs.Views.{IsReceived, Spells, aborts as shown_aborts, chain_tags, message, offered, proof, proofs, reply_of, tags as shown_tags};
-ghost use Rattle.ab_check.specs.Listing.{IsClaim, checked, one_left};
+ghost use Rattle.ab_wire.specs.Views.{IsReceived, Spells, chain_tags, message, offered, proof, proofs, reply_of, signed as shown_signed, tags as shown_tags};
+ghost use Rattle.ab_check.specs.Listing.{AreAnswers, IsClaim, aborts_left, checked, one_left};
 
+use crate::aborts::{AbortsRef, aborts_of, answers_of, behind, none_aborted};
 use crate::chain::PassingRef;
 use crate::check_ref::{CheckRef, TokenRef};
 use crate::checks::Checks;
@@ -37,7 +38,7 @@ fn one<'a>(k: &Cluster, check: CheckRef<'a>) -> Checks<'a>
         Some(check),
         None,
         none_passed(k),
-        none(),
+        none_aborted(),
         none_prepared(),
         none(),
     )
@@ -138,7 +139,7 @@ fn chain_at_replica<'a>(
         first,
         None,
         passed_before(k, link, p, me, tags),
-        none(),
+        none_aborted(),
         none_prepared(),
         none(),
     )
@@ -160,7 +161,14 @@ fn chain_at_client<'a>(
     ensures { result ≡ map (passed_to me (chain_tags tags.entry)) (tail_claims k.now.f instance (request m.entry) n d.now (option_map reply_of reply.entry)) }
 {
     match reply {
-        None => Checks::of(None, None, none_passed(k), none(), none_prepared(), none()),
+        None => Checks::of(
+            None,
+            None,
+            none_passed(k),
+            none_aborted(),
+            none_prepared(),
+            none(),
+        ),
         Some(reply) => {
             let link = PassingRef {
                 instance,
@@ -174,7 +182,7 @@ fn chain_at_client<'a>(
                 None,
                 None,
                 passed_before(k, link, 3 * k.f + 2, me, tags),
-                none(),
+                none_aborted(),
                 none_prepared(),
                 none(),
             )
@@ -238,22 +246,30 @@ fn order<'a>(
         first,
         second,
         none_passed(k),
-        none(),
+        none_aborted(),
         none_prepared(),
         none(),
     )
 }
 
-/// The ABORTs of a certificate.
-fn certificate<'a>(
-    k: &Cluster,
-    first: Option<CheckRef<'a>>,
-    aborts: ListRef<'a, SignedRef<'a>>,
-) -> Checks<'a>
-    requires { IfSome first (λ c. IsClaim c.claim) }
-    ensures { result ≡ one_left first.entry ++ aborts_checks (shown_aborts aborts.entry) }
+/// A check, if there is one, and ABORTs or answers behind it.
+fn with_aborts<'a>(k: &Cluster, first: Option<CheckRef<'a>>, aborts: AbortsRef<'a>) -> Checks<'a>
+    requires first { IfSome first (λ c. IsClaim c.claim) }
+    requires aborts { AreAnswers aborts.answers }
+    ensures { result ≡ one_left first.entry ++ aborts_left aborts.entry }
 {
     Checks::of(first, None, none_passed(k), aborts, none_prepared(), none())
+}
+
+/// An ABORT, and the answers that it holds.
+#[tactic(auto, using(ab_wire::proofs::KindLemmas::abort_content))]
+fn abort<'a>(k: &Cluster, s: SignedRef<'a>) -> Checks<'a>
+    requires lawful { IsStopContent (shown s.content) }
+    requires stated { Spells s.bytes.now s.content }
+    ensures { result ≡ abort_checks (shown_signed s.entry) }
+{
+    let behind = behind(&s.content);
+    with_aborts(k, Some(signed(s)), behind)
 }
 
 /// A PRE-PREPARE.
@@ -273,14 +289,14 @@ fn pre_prepare<'a>(
     let instance = content.instance();
     let first = Some(tagged(content, bytes, Some(tag)));
     match offer {
-        OfferRef::Base(aborts) => certificate(k, first, aborts),
+        OfferRef::Base(aborts) => with_aborts(k, first, aborts_of(aborts)),
         OfferRef::Request { request, tag } => {
             let second = Some(asked(instance, request, Some(tag)));
             Checks::of(
                 first,
                 second,
                 none_passed(k),
-                none(),
+                none_aborted(),
                 none_prepared(),
                 none(),
             )
@@ -301,7 +317,7 @@ fn view_change<'a>(k: &Cluster, v: ProofRef<'a>) -> Checks<'a>
         Some(signed(v.change)),
         None,
         none_passed(k),
-        none(),
+        none_aborted(),
         prepared,
         none(),
     )
@@ -323,7 +339,7 @@ fn new_view<'a>(
         Some(tagged(content, bytes, Some(tag))),
         None,
         none_passed(k),
-        none(),
+        none_aborted(),
         none_prepared(),
         changes,
     )
@@ -331,7 +347,7 @@ fn new_view<'a>(
 
 /// All that party `me` checks of a message, in the order in which a fault is told: what is stated, and the tag or signature
 /// that stands for it. The list reads the message's bytes as it goes on, so it takes no memory.
-#[tactic(auto, using(ab_wire::proofs::KindLemmas::req_content, ab_wire::proofs::KindLemmas::resp_content, ab_wire::proofs::KindLemmas::panic_content, ab_wire::proofs::KindLemmas::abort_content, ab_wire::proofs::KindLemmas::prepare_content, ab_wire::proofs::KindLemmas::commit_content, ab_wire::proofs::KindLemmas::new_view_content))]
+#[tactic(auto, using(ab_wire::proofs::KindLemmas::req_content, ab_wire::proofs::KindLemmas::resp_content, ab_wire::proofs::KindLemmas::panic_content, ab_wire::proofs::KindLemmas::abort_content, ab_wire::proofs::KindLemmas::prepare_content, ab_wire::proofs::KindLemmas::commit_content, ab_wire::proofs::KindLemmas::new_view_content, ab_wire::proofs::KindLemmas::checkpoint_content, ab_wire::proofs::KindLemmas::local_commit_content, ab_wire::proofs::KindLemmas::spec_content))]
 pub fn checks_in<'a>(k: &Cluster, me: Party, m: MsgRef<'a>) -> Checks<'a>
     requires received { IsReceived m }
     requires party { IsPlaced k.now.f me }
@@ -367,8 +383,8 @@ pub fn checks_in<'a>(k: &Cluster, me: Party, m: MsgRef<'a>) -> Checks<'a>
             bytes,
             tag,
         } => one(k, tagged(content, bytes, Some(tag))),
-        MsgRef::Abort { abort } => one(k, signed(abort)),
-        MsgRef::Init { cert } => certificate(k, None, cert),
+        MsgRef::Abort { abort: s } => abort(k, s),
+        MsgRef::Init { cert } => with_aborts(k, None, aborts_of(cert)),
         MsgRef::PrePrepare {
             content,
             bytes,
@@ -388,5 +404,17 @@ pub fn checks_in<'a>(k: &Cluster, me: Party, m: MsgRef<'a>) -> Checks<'a>
             tag,
             changes,
         } => new_view(k, content, bytes, tag, changes),
+        MsgRef::Checkpoint {
+            content,
+            bytes,
+            tag,
+        } => one(k, tagged(content, bytes, Some(tag))),
+        MsgRef::LocalCommit {
+            content,
+            bytes,
+            tag,
+        } => one(k, tagged(content, bytes, Some(tag))),
+        MsgRef::Spec { spec } => one(k, signed(spec)),
+        MsgRef::Cert { instance, zcert } => { with_aborts(k, None, answers_of(instance, zcert)) }
     }
 }

@@ -1,5 +1,5 @@
 -- The laws of contents.
-use Rattle.std.proofs.Common.{◌≡◌, ℕ, ◌^◌, ◌<◌, List, ◌++◌, length, refl, ap, arith, lit<}
+use Rattle.std.proofs.Common.{◌≡◌, ℕ, ◌^◌, ◌<◌, Option, List, ◌++◌, length, refl, ap, arith, lit<}
 use Rattle.std.specs.Int.{w32}
 use Rattle.ab_num.specs.declared.party.Party.{Party}
 use Rattle.ab_num.specs.declared.party.Party.TheVariants.{Replica, Client}
@@ -10,17 +10,18 @@ use Rattle.ab_content.specs.Parts.{replica_at}
 use Rattle.ab_form.specs.Formats.{IsFormat, IsWithin, Stays, u8_bytes, u16_bytes, u32_bytes}
 use Rattle.ab_form.proofs.FormatLemmas.{same-format, both-format, both-stays, after-format, inject-format}
 use Rattle.ab_form.proofs.PartLemmas.{u8-format, u16-format, number-format, wide32, marked-format, bytes-format, u8_text-format}
-use Rattle.ab_form.specs.Lists.{AreCounted}
-use Rattle.ab_form.proofs.ListLemmas.{u8_counted-format}
-use Rattle.ab_content.specs.Parts.{client_at, instance_at, request_at}
-use Rattle.ab_msg.specs.Fields.{IsStamp, spell_request, IsRequest}
+use Rattle.ab_form.specs.Lists.{AreCounted, FitsInside}
+use Rattle.ab_msg.specs.declared.zcert.Zcert.{Zcert}
+use Rattle.ab_form.proofs.ListLemmas.{u8_counted-format, optional-format}
+use Rattle.ab_content.specs.Parts.{client_at, instance_at, request_at, signer_at}
+use Rattle.ab_msg.specs.Fields.{IsStamp, spell_request, IsRequest, spell_signer, IsSigner}
 use Rattle.ab_msg.specs.Fields.{IsWritten}
-use Rattle.ab_content.proofs.PartLemmas.{replica-format, client-format, instance-format, stamp-format, request-format, any_request-format, request-stays, history-format}
+use Rattle.ab_content.proofs.PartLemmas.{replica-format, client-format, instance-format, stamp-format, request-format, any_request-format, request-stays, history-format, signer-format}
 use Rattle.ab_msg.specs.declared.content.Content.{Content}
-use Rattle.ab_msg.specs.declared.content.Content.TheVariants.{Req, Order, Resp, ChainTag, Panic, Abort, PrePrepare, Prepare, Commit, ViewChange, NewView}
+use Rattle.ab_msg.specs.declared.content.Content.TheVariants.{Req, Order, Resp, ChainTag, Panic, Abort, PrePrepare, Prepare, Commit, ViewChange, NewView, Checkpoint, Spec, LocalCommit, AbortZ}
 use Rattle.ab_msg.specs.Fields.{IsInstance, IsView}
-use Rattle.ab_content.specs.Rows.{req_from, req_at, order_from, order_at, resp_from, resp_at, chain_tag_from, chain_tag_at, panic_from, panic_at, abort_from, abort_at, SlotParts, slot_parts_at, pre_prepare_from, pre_prepare_at, prepare_from, prepare_at, commit_from, commit_at, entry_at, change_from, change_at, new_view_from, new_view_at}
-use Rattle.ab_msg.specs.Contents.{IsReq, IsOrder, IsResp, IsChainTag, IsPanic, IsAbort, spell_slot, IsPrePrepare, IsPrepare, IsCommit, spell_entry, IsEntry, IsChange, IsNewView, spell_content}
+use Rattle.ab_content.specs.Rows.{req_from, req_at, order_from, order_at, resp_from, resp_at, chain_tag_from, chain_tag_at, panic_from, panic_at, abort_from, abort_at, SlotParts, slot_parts_at, pre_prepare_from, pre_prepare_at, prepare_from, prepare_at, commit_from, commit_at, entry_at, change_from, change_at, new_view_from, new_view_at, checkpoint_from, checkpoint_at, spec_from, spec_at, local_commit_from, local_commit_at, ZcertParts, zcert_from, zcert_at, abort_z_from, abort_z_at}
+use Rattle.ab_msg.specs.Contents.{IsReq, IsOrder, IsResp, IsChainTag, IsPanic, IsAbort, spell_slot, IsPrePrepare, IsPrepare, IsCommit, spell_entry, IsEntry, IsChange, IsNewView, IsCheckpoint, IsSpec, IsLocalCommit, IsZcert, IsAbortZ, spell_zcert, spell_content}
 
 -- ---- requests
 
@@ -82,7 +83,7 @@ view-format = number-format w32 (2 ^ 32) wide32
 
 -- ---- places of requests
 
-order-back : (y : Content) → IsOrder y → (t : Headed (ℕ × Request)) × (y ≡ order_from t) × IsHeaded (λ p. IsWithin 1 1024 p.0 × IsRequest 0 15 p.1) t
+order-back : (y : Content) → IsOrder y → (t : Headed (ℕ × Request)) × (y ≡ order_from t) × IsHeaded (λ p. IsWithin 1 65535 p.0 × IsRequest 0 15 p.1) t
 order-back (Order (Replica r) instance n m) g = ((r, (instance, (n, m))), refl, g)
 order-back (Order (Client c) instance n m) g = absurd g.0
 order-back y g = absurd g
@@ -90,7 +91,7 @@ order-back y g = absurd g
 pub order-format : IsFormat order_at spell_content IsOrder
 unfolding order_at
 order-format = inject-format order_from _ _ _ spell_content IsOrder (λ t. refl) (λ t h. h) order-back
-    (headed-format 2 _ _ (λ p. IsWithin 1 1024 p.0 × IsRequest 0 15 p.1) (lit< tt) (both-format _ _ _ _ _ _ (u16-format 1 1024 BadField (lit< tt)) any_request-format))
+    (headed-format 2 _ _ (λ p. IsWithin 1 65535 p.0 × IsRequest 0 15 p.1) (lit< tt) (both-format _ _ _ _ _ _ (u16-format 1 65535 BadField (lit< tt)) any_request-format))
 
 -- ---- answers
 
@@ -98,7 +99,7 @@ abbrev RespParts : Type 0
 RespParts = ℕ × (ℕ × (ℕ × (List ℕ × List ℕ)))
 
 abbrev AreRespParts : RespParts → Type 0
-AreRespParts t = IsWithin 0 15 t.0 × (IsStamp t.1.0 × (IsWithin 1 1024 t.1.1.0 × ((length t.1.1.1.0 ≡ 32) × IsWithin 0 72 (length t.1.1.1.1))))
+AreRespParts t = IsWithin 0 15 t.0 × (IsStamp t.1.0 × (IsWithin 1 65535 t.1.1.0 × ((length t.1.1.1.0 ≡ 32) × IsWithin 0 72 (length t.1.1.1.1))))
 
 resp-back : (y : Content) → IsResp y → (t : Headed RespParts) × (y ≡ resp_from t) × IsHeaded AreRespParts t
 resp-back (Resp (Replica r) instance client stamp n d reply) g = ((r, (instance, (client, (stamp, (n, (d, reply.items)))))), refl, g)
@@ -111,7 +112,7 @@ resp-format = inject-format resp_from _ _ _ spell_content IsResp (λ t. refl) (�
     (headed-format 3 _ _ AreRespParts (lit< tt)
     (both-format _ _ _ _ _ _ (u16-format 0 15 BadField (lit< tt))
     (both-format _ _ _ _ _ _ stamp-format
-    (both-format _ _ _ _ _ _ (u16-format 1 1024 BadField (lit< tt))
+    (both-format _ _ _ _ _ _ (u16-format 1 65535 BadField (lit< tt))
     (both-format _ _ _ _ _ _ (bytes-format 32) (u8_text-format 0 72 (lit< tt)))))))
 
 -- ---- tags along a chain
@@ -120,7 +121,7 @@ abbrev TagParts : Type 0
 TagParts = ℕ × (ℕ × (ℕ × List ℕ))
 
 abbrev AreTagParts : TagParts → Type 0
-AreTagParts t = IsWithin 0 15 t.0 × (IsStamp t.1.0 × (IsWithin 1 1024 t.1.1.0 × (length t.1.1.1 ≡ 32)))
+AreTagParts t = IsWithin 0 15 t.0 × (IsStamp t.1.0 × (IsWithin 1 65535 t.1.1.0 × (length t.1.1.1 ≡ 32)))
 
 chain_tag-back : (y : Content) → IsChainTag y → (t : Headed TagParts) × (y ≡ chain_tag_from t) × IsHeaded AreTagParts t
 chain_tag-back (ChainTag (Replica r) instance client stamp n d) g = ((r, (instance, (client, (stamp, (n, d))))), refl, g)
@@ -133,7 +134,7 @@ chain_tag-format = inject-format chain_tag_from _ _ _ spell_content IsChainTag (
     (headed-format 4 _ _ AreTagParts (lit< tt)
     (both-format _ _ _ _ _ _ (u16-format 0 15 BadField (lit< tt))
     (both-format _ _ _ _ _ _ stamp-format
-    (both-format _ _ _ _ _ _ (u16-format 1 1024 BadField (lit< tt)) (bytes-format 32)))))
+    (both-format _ _ _ _ _ _ (u16-format 1 65535 BadField (lit< tt)) (bytes-format 32)))))
 
 -- ---- panics
 
@@ -227,3 +228,73 @@ new_view-back y g = absurd g
 pub new_view-format : IsFormat new_view_at spell_content IsNewView
 unfolding new_view_at
 new_view-format = inject-format new_view_from _ _ _ spell_content IsNewView (λ t. refl) (λ t h. h) new_view-back (headed-format 11 _ _ IsView (lit< tt) view-format)
+
+-- ---- what logs begin with
+
+abbrev AreFrontParts : ℕ × List ℕ → Type 0
+AreFrontParts t = IsWithin 1 65535 t.0 × (length t.1 ≡ 32)
+
+checkpoint-back : (y : Content) → IsCheckpoint y → (t : Headed (ℕ × List ℕ)) × (y ≡ checkpoint_from t) × IsHeaded AreFrontParts t
+checkpoint-back (Checkpoint (Replica r) instance n d) g = ((r, (instance, (n, d))), refl, g)
+checkpoint-back (Checkpoint (Client c) instance n d) g = absurd g.0
+checkpoint-back y g = absurd g
+
+pub checkpoint-format : IsFormat checkpoint_at spell_content IsCheckpoint
+unfolding checkpoint_at
+checkpoint-format = inject-format checkpoint_from _ _ _ spell_content IsCheckpoint (λ t. refl) (λ t h. h) checkpoint-back
+    (headed-format 12 _ _ AreFrontParts (lit< tt) (both-format _ _ _ _ _ _ (u16-format 1 65535 BadField (lit< tt)) (bytes-format 32)))
+
+-- ---- signed answers, and what is kept of them
+
+spec-back : (y : Content) → IsSpec y → (t : Headed RespParts) × (y ≡ spec_from t) × IsHeaded AreRespParts t
+spec-back (Spec (Replica r) instance client stamp n d reply) g = ((r, (instance, (client, (stamp, (n, (d, reply.items)))))), refl, g)
+spec-back (Spec (Client c) instance client stamp n d reply) g = absurd g.0
+spec-back y g = absurd g
+
+pub spec-format : IsFormat spec_at spell_content IsSpec
+unfolding spec_at
+spec-format = inject-format spec_from _ _ _ spell_content IsSpec (λ t. refl) (λ t h. h) spec-back
+    (headed-format 13 _ _ AreRespParts (lit< tt)
+    (both-format _ _ _ _ _ _ (u16-format 0 15 BadField (lit< tt))
+    (both-format _ _ _ _ _ _ stamp-format
+    (both-format _ _ _ _ _ _ (u16-format 1 65535 BadField (lit< tt))
+    (both-format _ _ _ _ _ _ (bytes-format 32) (u8_text-format 0 72 (lit< tt)))))))
+
+local_commit-back : (y : Content) → IsLocalCommit y → (t : Headed TagParts) × (y ≡ local_commit_from t) × IsHeaded AreTagParts t
+local_commit-back (LocalCommit (Replica r) instance client stamp n d) g = ((r, (instance, (client, (stamp, (n, d))))), refl, g)
+local_commit-back (LocalCommit (Client c) instance client stamp n d) g = absurd g.0
+local_commit-back y g = absurd g
+
+pub local_commit-format : IsFormat local_commit_at spell_content IsLocalCommit
+unfolding local_commit_at
+local_commit-format = inject-format local_commit_from _ _ _ spell_content IsLocalCommit (λ t. refl) (λ t h. h) local_commit-back
+    (headed-format 14 _ _ AreTagParts (lit< tt)
+    (both-format _ _ _ _ _ _ (u16-format 0 15 BadField (lit< tt))
+    (both-format _ _ _ _ _ _ stamp-format
+    (both-format _ _ _ _ _ _ (u16-format 1 65535 BadField (lit< tt)) (bytes-format 32)))))
+
+abbrev AreZcertParts : ZcertParts → Type 0
+AreZcertParts t = IsWithin 0 15 t.0 × (IsStamp t.1.0 × (IsWithin 1 65535 t.1.1.0 × ((length t.1.1.1.0 ≡ 32) × (IsWithin 0 72 (length t.1.1.1.1.0) × AreCounted 1 7 IsSigner t.1.1.1.1.1))))
+
+zcert-back : (z : Zcert) → IsZcert z → (t : ZcertParts) × (z ≡ zcert_from t) × AreZcertParts t
+zcert-back z g = ((z.client, (z.stamp, (z.n, (z.d, (z.reply.items, z.sigs))))), refl, g)
+
+pub zcert-format : IsFormat zcert_at spell_zcert IsZcert
+unfolding zcert_at
+zcert-format = inject-format zcert_from _ _ AreZcertParts spell_zcert IsZcert (λ t. refl) (λ t h. h) zcert-back
+    (both-format _ _ _ _ _ _ (u16-format 0 15 BadField (lit< tt))
+    (both-format _ _ _ _ _ _ stamp-format
+    (both-format _ _ _ _ _ _ (u16-format 1 65535 BadField (lit< tt))
+    (both-format _ _ _ _ _ _ (bytes-format 32)
+    (both-format _ _ _ _ _ _ (u8_text-format 0 72 (lit< tt)) (u8_counted-format 1 7 signer_at spell_signer IsSigner (lit< tt) signer-format))))))
+
+abort_z-back : (y : Content) → IsAbortZ y → (t : Headed (List Request × Option Zcert)) × (y ≡ abort_z_from t) × IsHeaded (λ p. IsWritten p.0 × FitsInside IsZcert p.1) t
+abort_z-back (AbortZ (Replica r) instance h zcert) g = ((r, (instance, (h, zcert))), refl, g)
+abort_z-back (AbortZ (Client c) instance h zcert) g = absurd g.0
+abort_z-back y g = absurd g
+
+pub abort_z-format : IsFormat abort_z_at spell_content IsAbortZ
+unfolding abort_z_at
+abort_z-format = inject-format abort_z_from _ _ _ spell_content IsAbortZ (λ t. refl) (λ t h. h) abort_z-back
+    (headed-format 15 _ _ (λ p. IsWritten p.0 × FitsInside IsZcert p.1) (lit< tt)
+    (both-format _ _ _ _ _ _ history-format (optional-format zcert_at spell_zcert IsZcert zcert-format)))

@@ -4,9 +4,9 @@ use Rattle.ab_form.specs.Readers.{Reader}
 use Rattle.ab_form.specs.Formats.{IsFormat, u8_bytes}
 use Rattle.ab_form.proofs.StepLemmas.{done_is}
 use Rattle.ab_msg.specs.declared.content.Content.{Content}
-use Rattle.ab_msg.specs.declared.content.Content.TheVariants.{Req, Order, Resp, ChainTag, Panic, Abort, PrePrepare, Prepare, Commit, ViewChange, NewView}
-use Rattle.ab_msg.specs.Contents.{IsReq, IsOrder, IsResp, IsChainTag, IsPanic, IsAbort, IsPrePrepare, IsPrepare, IsCommit, IsChange, IsNewView, IsContent, spell_content}
-use Rattle.ab_content.proofs.ContentLemmas.{req-format, order-format, resp-format, chain_tag-format, panic-format, abort-format, pre_prepare-format, prepare-format, commit-format, change-format, new_view-format}
+use Rattle.ab_msg.specs.declared.content.Content.TheVariants.{Req, Order, Resp, ChainTag, Panic, Abort, PrePrepare, Prepare, Commit, ViewChange, NewView, Checkpoint, Spec, LocalCommit, AbortZ}
+use Rattle.ab_msg.specs.Contents.{IsReq, IsOrder, IsResp, IsChainTag, IsPanic, IsAbort, IsPrePrepare, IsPrepare, IsCommit, IsChange, IsNewView, IsCheckpoint, IsSpec, IsLocalCommit, IsAbortZ, IsContent, spell_content}
+use Rattle.ab_content.proofs.ContentLemmas.{req-format, order-format, resp-format, chain_tag-format, panic-format, abort-format, pre_prepare-format, prepare-format, commit-format, change-format, new_view-format, checkpoint-format, spec-format, local_commit-format, abort_z-format}
 
 -- what has one spelling is one value
 one : {A : Type 0} (r : Reader A) (s : A → List ℕ) (F : A → Type 0) → IsFormat r s F → (x y : A) → F x → F y → s x ≡ s y → x ≡ y
@@ -27,6 +27,10 @@ code (Prepare maker instance view slot x) = 8
 code (Commit maker instance view slot x) = 9
 code (ViewChange maker instance view entries) = 10
 code (NewView maker instance view) = 11
+code (Checkpoint maker instance n d) = 12
+code (Spec maker instance client stamp n d reply) = 13
+code (LocalCommit maker instance client stamp n d) = 14
+code (AbortZ maker instance history zcert) = 15
 
 -- the code is the first byte
 first-byte : (c : Content) → get_or (spell_content c) 0 0 ≡ code c
@@ -42,6 +46,10 @@ first-byte (Prepare maker instance view slot x) = refl
 first-byte (Commit maker instance view slot x) = refl
 first-byte (ViewChange maker instance view entries) = refl
 first-byte (NewView maker instance view) = refl
+first-byte (Checkpoint maker instance n d) = refl
+first-byte (Spec maker instance client stamp n d reply) = refl
+first-byte (LocalCommit maker instance client stamp n d) = refl
+first-byte (AbortZ maker instance history zcert) = refl
 
 -- the kind is that of the code
 is_req : (c : Content) → 1 ≡ code c → IsContent c → IsReq c
@@ -88,6 +96,22 @@ is_new_view : (c : Content) → 11 ≡ code c → IsContent c → IsNewView c
 is_new_view (NewView maker instance view) e h = h
 is_new_view c e h = absurd (omega (arith, e))
 
+is_checkpoint : (c : Content) → 12 ≡ code c → IsContent c → IsCheckpoint c
+is_checkpoint (Checkpoint maker instance n d) e h = h
+is_checkpoint c e h = absurd (omega (arith, e))
+
+is_spec : (c : Content) → 13 ≡ code c → IsContent c → IsSpec c
+is_spec (Spec maker instance client stamp n d reply) e h = h
+is_spec c e h = absurd (omega (arith, e))
+
+is_local_commit : (c : Content) → 14 ≡ code c → IsContent c → IsLocalCommit c
+is_local_commit (LocalCommit maker instance client stamp n d) e h = h
+is_local_commit c e h = absurd (omega (arith, e))
+
+is_abort_z : (c : Content) → 15 ≡ code c → IsContent c → IsAbortZ c
+is_abort_z (AbortZ maker instance history zcert) e h = h
+is_abort_z c e h = absurd (omega (arith, e))
+
 same_code : (x y : Content) → spell_content x ≡ spell_content y → code x ≡ code y
 same_code x y e = sym (first-byte x) ∙ ap (λ (t : List ℕ). get_or t 0 0) e ∙ first-byte y
 
@@ -103,3 +127,7 @@ own_bytes (Prepare maker instance view slot x) y a b e = one _ spell_content IsP
 own_bytes (Commit maker instance view slot x) y a b e = one _ spell_content IsCommit commit-format (Commit maker instance view slot x) y a (is_commit y (same_code (Commit maker instance view slot x) y e) b) e
 own_bytes (ViewChange maker instance view entries) y a b e = one _ spell_content IsChange change-format (ViewChange maker instance view entries) y a (is_change y (same_code (ViewChange maker instance view entries) y e) b) e
 own_bytes (NewView maker instance view) y a b e = one _ spell_content IsNewView new_view-format (NewView maker instance view) y a (is_new_view y (same_code (NewView maker instance view) y e) b) e
+own_bytes (Checkpoint maker instance n d) y a b e = one _ spell_content IsCheckpoint checkpoint-format (Checkpoint maker instance n d) y a (is_checkpoint y (same_code (Checkpoint maker instance n d) y e) b) e
+own_bytes (Spec maker instance client stamp n d reply) y a b e = one _ spell_content IsSpec spec-format (Spec maker instance client stamp n d reply) y a (is_spec y (same_code (Spec maker instance client stamp n d reply) y e) b) e
+own_bytes (LocalCommit maker instance client stamp n d) y a b e = one _ spell_content IsLocalCommit local_commit-format (LocalCommit maker instance client stamp n d) y a (is_local_commit y (same_code (LocalCommit maker instance client stamp n d) y e) b) e
+own_bytes (AbortZ maker instance history zcert) y a b e = one _ spell_content IsAbortZ abort_z-format (AbortZ maker instance history zcert) y a (is_abort_z y (same_code (AbortZ maker instance history zcert) y e) b) e

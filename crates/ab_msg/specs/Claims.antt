@@ -8,13 +8,14 @@ use Rattle.ab_num.specs.Places.{at_position_of, position_in}
 use Rattle.arrayvec.specs.ArrayVec.{ArrayVec}
 use Rattle.ab_hist.specs.declared.request.Request.{Request}
 use Rattle.ab_msg.specs.declared.content.Content.{Content}
-use Rattle.ab_msg.specs.declared.content.Content.TheVariants.{Req, Order, Resp, ChainTag, Panic, Abort, PrePrepare, Prepare, Commit, ViewChange, NewView}
+use Rattle.ab_msg.specs.declared.content.Content.TheVariants.{Req, Order, Resp, ChainTag, Panic, Abort, PrePrepare, Prepare, Commit, ViewChange, NewView, Checkpoint, Spec, LocalCommit, AbortZ}
 use Rattle.ab_msg.specs.declared.message.Msg.{Msg}
 use Rattle.ab_msg.specs.declared.message.Msg.TheVariants as msg
 use Rattle.ab_msg.specs.declared.message.Offer.{Offer}
 use Rattle.ab_msg.specs.declared.message.Offer.TheVariants as offer
 use Rattle.ab_msg.specs.declared.signed.Signed.{Signed}
 use Rattle.ab_msg.specs.declared.change.Proof.{Proof}
+use Rattle.ab_msg.specs.declared.zcert.Zcert.{Zcert}
 
 -- who states it
 abbrev pub maker_of : Content → Party
@@ -29,6 +30,10 @@ maker_of (Prepare maker instance view slot x) = maker
 maker_of (Commit maker instance view slot x) = maker
 maker_of (ViewChange maker instance view entries) = maker
 maker_of (NewView maker instance view) = maker
+maker_of (Checkpoint maker instance n d) = maker
+maker_of (Spec maker instance client stamp n d reply) = maker
+maker_of (LocalCommit maker instance client stamp n d) = maker
+maker_of (AbortZ maker instance history zcert) = maker
 
 -- the instance of which it speaks
 abbrev pub instance_of : Content → ℕ
@@ -43,6 +48,10 @@ instance_of (Prepare maker instance view slot x) = instance
 instance_of (Commit maker instance view slot x) = instance
 instance_of (ViewChange maker instance view entries) = instance
 instance_of (NewView maker instance view) = instance
+instance_of (Checkpoint maker instance n d) = instance
+instance_of (Spec maker instance client stamp n d reply) = instance
+instance_of (LocalCommit maker instance client stamp n d) = instance
+instance_of (AbortZ maker instance history zcert) = instance
 
 -- ---- parts of messages
 
@@ -79,8 +88,26 @@ abbrev pub ordered : Content → List Content
 ordered (Order maker i n m) = asked i m ∷ []
 ordered _ = []
 
+-- the answer of replica r that a certificate of answers in instance i has
+abbrev pub spec_of : ℕ → Zcert → ℕ → Content
+spec_of i z r = Spec (Replica r) i z.client z.stamp z.n z.d z.reply
+
+-- the answers that it has
+abbrev pub specs_of : ℕ → Zcert → List Content
+specs_of i z = map (λ s. spec_of i z s.0) z.sigs
+
+abbrev pub kept_specs : ℕ → Option Zcert → List Content
+kept_specs i None = []
+kept_specs i (Some z) = specs_of i z
+
+-- the answers in the certificate that an ABORT holds
+abbrev pub kept_claims : Content → List Content
+kept_claims (AbortZ maker i history zcert) = kept_specs i zcert
+kept_claims _ = []
+
+-- signed contents, each with the answers in the certificate that it holds
 abbrev pub signed_contents : List Signed → List Content
-signed_contents all = map (λ s. s.content) all
+signed_contents all = flat_map (λ s. s.content ∷ kept_claims s.content) all
 
 abbrev pub offer_claims : ℕ → Offer → List Content
 offer_claims i (offer.Base aborts) = signed_contents aborts
@@ -109,13 +136,17 @@ claims f p (msg.Order content client_tag tag) = ordered content ++ content ∷ [
 claims f p (msg.Resp content tag) = content ∷ []
 claims f p (msg.Chain i m n d reply tags) = chain_claims f p i m n d reply
 claims f p (msg.Panic content tag) = content ∷ []
-claims f p (msg.Abort abort) = abort.content ∷ []
+claims f p (msg.Abort abort) = abort.content ∷ kept_claims abort.content
 claims f p (msg.Init cert) = signed_contents cert
 claims f p (msg.PrePrepare content tag offer) = content ∷ offer_claims (instance_of content) offer
 claims f p (msg.Prepare prepare) = prepare.content ∷ []
 claims f p (msg.Commit content tag) = content ∷ []
 claims f p (msg.ViewChange change) = change_claims change
 claims f p (msg.NewView content tag changes) = content ∷ flat_map change_claims changes
+claims f p (msg.Checkpoint content tag) = content ∷ []
+claims f p (msg.LocalCommit content tag) = content ∷ []
+claims f p (msg.Spec spec) = spec.content ∷ []
+claims f p (msg.Cert i z) = specs_of i z
 
 -- what position p of a chain states as it passes a request on: for later positions, and for the client
 abbrev pub passed_at : ℕ → ℕ → Request → ℕ → List ℕ → Option (ArrayVec ℕ) → ℕ → ℕ → List Content
@@ -146,6 +177,10 @@ fresh f p (msg.Prepare prepare) = prepare.content ∷ []
 fresh f p (msg.Commit content tag) = content ∷ []
 fresh f p (msg.ViewChange change) = change.change.content ∷ []
 fresh f p (msg.NewView content tag changes) = content ∷ []
+fresh f p (msg.Checkpoint content tag) = content ∷ []
+fresh f p (msg.LocalCommit content tag) = content ∷ []
+fresh f p (msg.Spec spec) = spec.content ∷ []
+fresh f p (msg.Cert i z) = []
 
 -- what p states in a message that it sends
 abbrev pub stated : ℕ → Party → Msg → List Content
@@ -170,10 +205,15 @@ instance_in (msg.Prepare prepare) = Some (instance_of prepare.content)
 instance_in (msg.Commit content tag) = Some (instance_of content)
 instance_in (msg.ViewChange change) = Some (instance_of change.change.content)
 instance_in (msg.NewView content tag changes) = Some (instance_of content)
+instance_in (msg.Checkpoint content tag) = Some (instance_of content)
+instance_in (msg.LocalCommit content tag) = Some (instance_of content)
+instance_in (msg.Spec spec) = Some (instance_of spec.content)
+instance_in (msg.Cert i z) = Some i
 
 -- what a message has that its sender signed for it
 abbrev pub signed_in : Msg → List Signed
 signed_in (msg.Abort abort) = abort ∷ []
 signed_in (msg.Prepare prepare) = prepare ∷ []
 signed_in (msg.ViewChange change) = change.change ∷ []
+signed_in (msg.Spec spec) = spec ∷ []
 signed_in _ = []

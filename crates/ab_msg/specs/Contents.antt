@@ -3,10 +3,11 @@ use Rattle.std.specs.Prelude.{◌≡◌, ℕ, List, ◌++◌, length}
 use Rattle.ab_num.specs.declared.party.Party.{Party}
 use Rattle.ab_num.specs.declared.party.Party.TheVariants.{Client}
 use Rattle.ab_form.specs.Formats.{IsWithin, u8_bytes, u16_bytes, u32_bytes, u64_bytes}
-use Rattle.ab_form.specs.Lists.{u8_list, AreCounted}
+use Rattle.ab_form.specs.Lists.{u8_list, AreCounted, spell_optional, FitsInside}
+use Rattle.ab_msg.specs.declared.zcert.Zcert.{Zcert}
 use Rattle.ab_msg.specs.declared.content.Content.{Content}
-use Rattle.ab_msg.specs.declared.content.Content.TheVariants.{Req, Order, Resp, ChainTag, Panic, Abort, PrePrepare, Prepare, Commit, ViewChange, NewView}
-use Rattle.ab_msg.specs.Fields.{IsReplica, IsClient, spell_party, IsInstance, IsView, IsStamp, IsRequest, spell_request, IsWritten, spell_history, IsReply, spell_reply}
+use Rattle.ab_msg.specs.declared.content.Content.TheVariants.{Req, Order, Resp, ChainTag, Panic, Abort, PrePrepare, Prepare, Commit, ViewChange, NewView, Checkpoint, Spec, LocalCommit, AbortZ}
+use Rattle.ab_msg.specs.Fields.{IsReplica, IsClient, spell_party, IsInstance, IsView, IsStamp, IsRequest, spell_request, IsWritten, spell_history, IsReply, spell_reply, IsSigner, spell_signer}
 
 -- ---- what fits
 
@@ -16,17 +17,17 @@ IsReq (Req maker instance request) = (maker ≡ Client request.client) × (IsIns
 IsReq _ = ⊥
 
 abbrev pub IsOrder : Content → Type 0
-IsOrder (Order maker instance n request) = IsReplica maker × (IsInstance instance × (IsWithin 1 1024 n × IsRequest 0 15 request))
+IsOrder (Order maker instance n request) = IsReplica maker × (IsInstance instance × (IsWithin 1 65535 n × IsRequest 0 15 request))
 IsOrder _ = ⊥
 
 abbrev pub IsResp : Content → Type 0
 IsResp (Resp maker instance client stamp n d reply) =
-    IsReplica maker × (IsInstance instance × (IsWithin 0 15 client × (IsStamp stamp × (IsWithin 1 1024 n × ((length d ≡ 32) × IsReply reply)))))
+    IsReplica maker × (IsInstance instance × (IsWithin 0 15 client × (IsStamp stamp × (IsWithin 1 65535 n × ((length d ≡ 32) × IsReply reply)))))
 IsResp _ = ⊥
 
 abbrev pub IsChainTag : Content → Type 0
 IsChainTag (ChainTag maker instance client stamp n d) =
-    IsReplica maker × (IsInstance instance × (IsWithin 0 15 client × (IsStamp stamp × (IsWithin 1 1024 n × (length d ≡ 32)))))
+    IsReplica maker × (IsInstance instance × (IsWithin 0 15 client × (IsStamp stamp × (IsWithin 1 65535 n × (length d ≡ 32)))))
 IsChainTag _ = ⊥
 
 abbrev pub IsPanic : Content → Type 0
@@ -36,6 +37,35 @@ IsPanic _ = ⊥
 abbrev pub IsAbort : Content → Type 0
 IsAbort (Abort maker instance history) = IsReplica maker × (IsInstance instance × IsWritten history)
 IsAbort _ = ⊥
+
+-- as an answer
+abbrev pub IsSpec : Content → Type 0
+IsSpec (Spec maker instance client stamp n d reply) =
+    IsReplica maker × (IsInstance instance × (IsWithin 0 15 client × (IsStamp stamp × (IsWithin 1 65535 n × ((length d ≡ 32) × IsReply reply)))))
+IsSpec _ = ⊥
+
+abbrev pub IsLocalCommit : Content → Type 0
+IsLocalCommit (LocalCommit maker instance client stamp n d) =
+    IsReplica maker × (IsInstance instance × (IsWithin 0 15 client × (IsStamp stamp × (IsWithin 1 65535 n × (length d ≡ 32)))))
+IsLocalCommit _ = ⊥
+
+-- a certificate of answers has from 1 to 7 signatures
+abbrev pub IsZcert : Zcert → Type 0
+IsZcert z = IsWithin 0 15 z.client × (IsStamp z.stamp × (IsWithin 1 65535 z.n × ((length z.d ≡ 32) × (IsReply z.reply × AreCounted 1 7 IsSigner z.sigs))))
+
+abbrev pub IsAbortZ : Content → Type 0
+IsAbortZ (AbortZ maker instance history zcert) = IsReplica maker × (IsInstance instance × (IsWritten history × FitsInside IsZcert zcert))
+IsAbortZ _ = ⊥
+
+-- what a stopped replica states, with a certificate of answers or without
+abbrev pub IsStopContent : Content → Type 0
+IsStopContent (Abort maker instance history) = IsAbort (Abort maker instance history)
+IsStopContent (AbortZ maker instance history zcert) = IsAbortZ (AbortZ maker instance history zcert)
+IsStopContent _ = ⊥
+
+abbrev pub IsCheckpoint : Content → Type 0
+IsCheckpoint (Checkpoint maker instance n d) = IsReplica maker × (IsInstance instance × (IsWithin 1 65535 n × (length d ≡ 32)))
+IsCheckpoint _ = ⊥
 
 -- what a replica may state of a slot in a view
 abbrev pub IsOfSlot : Party → ℕ → ℕ → ℕ → List ℕ → Type 0
@@ -78,6 +108,10 @@ IsContent (Prepare maker instance view slot x) = IsOfSlot maker instance view sl
 IsContent (Commit maker instance view slot x) = IsOfSlot maker instance view slot x
 IsContent (ViewChange maker instance view entries) = IsChange (ViewChange maker instance view entries)
 IsContent (NewView maker instance view) = IsNewView (NewView maker instance view)
+IsContent (Checkpoint maker instance n d) = IsCheckpoint (Checkpoint maker instance n d)
+IsContent (Spec maker instance client stamp n d reply) = IsSpec (Spec maker instance client stamp n d reply)
+IsContent (LocalCommit maker instance client stamp n d) = IsLocalCommit (LocalCommit maker instance client stamp n d)
+IsContent (AbortZ maker instance history zcert) = IsAbortZ (AbortZ maker instance history zcert)
 
 -- ---- spellings
 
@@ -90,6 +124,9 @@ spell_slot view slot x = u32_bytes view ++ (u8_bytes slot ++ x)
 
 abbrev pub spell_entry : ℕ × List ℕ → List ℕ
 spell_entry e = u32_bytes e.0 ++ e.1
+
+abbrev pub spell_zcert : Zcert → List ℕ
+spell_zcert z = u16_bytes z.client ++ (u64_bytes z.stamp ++ (u16_bytes z.n ++ (z.d ++ (spell_reply z.reply ++ u8_list spell_signer z.sigs))))
 
 -- the bytes of a content, which its maker tags or signs
 abbrev pub spell_content : Content → List ℕ
@@ -105,3 +142,8 @@ spell_content (Prepare maker instance view slot x) = spell_head 8 maker instance
 spell_content (Commit maker instance view slot x) = spell_head 9 maker instance (spell_slot view slot x)
 spell_content (ViewChange maker instance view entries) = spell_head 10 maker instance (u32_bytes view ++ u8_list spell_entry entries)
 spell_content (NewView maker instance view) = spell_head 11 maker instance (u32_bytes view)
+spell_content (Checkpoint maker instance n d) = spell_head 12 maker instance (u16_bytes n ++ d)
+spell_content (Spec maker instance client stamp n d reply) =
+    spell_head 13 maker instance (u16_bytes client ++ (u64_bytes stamp ++ (u16_bytes n ++ (d ++ spell_reply reply))))
+spell_content (LocalCommit maker instance client stamp n d) = spell_head 14 maker instance (u16_bytes client ++ (u64_bytes stamp ++ (u16_bytes n ++ d)))
+spell_content (AbortZ maker instance history zcert) = spell_head 15 maker instance (spell_history history ++ spell_optional spell_zcert zcert)

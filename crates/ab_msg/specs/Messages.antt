@@ -1,5 +1,5 @@
 -- Messages: which are of the grammar, and how they are spelled.
-use Rattle.std.specs.Prelude.{◌≡◌, ℕ, ◌≤◌, List, ◌++◌, length}
+use Rattle.std.specs.Prelude.{◌≡◌, ℕ, ◌≤◌, Some, List, ◌++◌, length}
 use Rattle.ab_form.specs.Formats.{IsWithin, u8_bytes, u16_bytes, u32_bytes}
 use Rattle.ab_form.specs.Lists.{u8_list, AreCounted, spell_optional, FitsInside}
 use Rattle.ab_msg.specs.declared.content.Content.{Content}
@@ -9,7 +9,7 @@ use Rattle.ab_msg.specs.declared.message.Msg.TheVariants as msg
 use Rattle.ab_msg.specs.declared.message.Offer.{Offer}
 use Rattle.ab_msg.specs.declared.message.Offer.TheVariants as offer
 use Rattle.ab_msg.specs.Fields.{IsInstance, IsRequest, spell_request, IsReply, spell_reply, AreTags, spell_tags, IsBetween, spell_between}
-use Rattle.ab_msg.specs.Contents.{IsReq, IsOrder, IsResp, IsPanic, IsAbort, IsPrePrepare, IsPrepare, IsCommit, IsNewView, spell_content}
+use Rattle.ab_msg.specs.Contents.{IsReq, IsOrder, IsResp, IsPanic, IsStopContent, IsPrePrepare, IsPrepare, IsCommit, IsNewView, IsCheckpoint, IsSpec, IsLocalCommit, IsZcert, spell_zcert, spell_content}
 use Rattle.ab_msg.specs.Certs.{IsSigned, spell_signed, AreAborts, spell_aborts, IsProof, spell_proof}
 
 -- ---- what a PRE-PREPARE offers
@@ -35,15 +35,19 @@ IsMessage (msg.Req content tags) = IsReq content × AreTags tags.items
 IsMessage (msg.Order content client_tag tag) = IsOrder content × ((length client_tag ≡ 32) × (length tag ≡ 32))
 IsMessage (msg.Resp content tag) = IsResp content × (length tag ≡ 32)
 IsMessage (msg.Chain instance m n d reply tags) =
-    IsInstance instance × (IsRequest 0 15 m × (IsWithin 1 1024 n × ((length d ≡ 32) × (FitsInside IsReply reply × AreCounted 0 64 IsBetween tags))))
+    IsInstance instance × (IsRequest 0 15 m × (IsWithin 1 65535 n × ((length d ≡ 32) × (FitsInside IsReply reply × AreCounted 0 64 IsBetween tags))))
 IsMessage (msg.Panic content tag) = IsPanic content × (length tag ≡ 32)
-IsMessage (msg.Abort abort) = IsSigned IsAbort abort
+IsMessage (msg.Abort abort) = IsSigned IsStopContent abort
 IsMessage (msg.Init cert) = AreAborts 1 7 cert
 IsMessage (msg.PrePrepare content tag offer) = (IsPrePrepare content × (length tag ≡ 32)) × IsOffer (slot_in content) offer
 IsMessage (msg.Prepare prepare) = IsSigned IsPrepare prepare
 IsMessage (msg.Commit content tag) = IsCommit content × (length tag ≡ 32)
 IsMessage (msg.ViewChange change) = IsProof change
 IsMessage (msg.NewView content tag changes) = IsNewView content × ((length tag ≡ 32) × AreCounted 1 7 IsProof changes)
+IsMessage (msg.Checkpoint content tag) = IsCheckpoint content × (length tag ≡ 32)
+IsMessage (msg.LocalCommit content tag) = IsLocalCommit content × (length tag ≡ 32)
+IsMessage (msg.Spec spec) = IsSigned IsSpec spec
+IsMessage (msg.Cert instance zcert) = IsInstance instance × IsZcert zcert
 
 -- a message but for the tags of its maker, which it gets as it is sealed. In a CHAIN there is room for the three that a position makes, and a
 -- NEW-VIEW has the view changes of 2f + 1 replicas, so at most five
@@ -52,15 +56,19 @@ IsDraft (msg.Req content tags) = IsReq content
 IsDraft (msg.Order content client_tag tag) = IsOrder content × (length client_tag ≡ 32)
 IsDraft (msg.Resp content tag) = IsResp content
 IsDraft (msg.Chain instance m n d reply tags) =
-    IsInstance instance × (IsRequest 0 15 m × (IsWithin 1 1024 n × ((length d ≡ 32) × (FitsInside IsReply reply × AreCounted 0 61 IsBetween tags))))
+    IsInstance instance × (IsRequest 0 15 m × (IsWithin 1 65535 n × ((length d ≡ 32) × (FitsInside IsReply reply × AreCounted 0 61 IsBetween tags))))
 IsDraft (msg.Panic content tag) = IsPanic content
-IsDraft (msg.Abort abort) = IsSigned IsAbort abort
+IsDraft (msg.Abort abort) = IsSigned IsStopContent abort
 IsDraft (msg.Init cert) = AreAborts 1 7 cert
 IsDraft (msg.PrePrepare content tag offer) = IsPrePrepare content × IsOffer (slot_in content) offer
 IsDraft (msg.Prepare prepare) = IsSigned IsPrepare prepare
 IsDraft (msg.Commit content tag) = IsCommit content
 IsDraft (msg.ViewChange change) = IsProof change
 IsDraft (msg.NewView content tag changes) = IsNewView content × AreCounted 1 5 IsProof changes
+IsDraft (msg.Checkpoint content tag) = IsCheckpoint content
+IsDraft (msg.LocalCommit content tag) = IsLocalCommit content
+IsDraft (msg.Spec spec) = IsSigned IsSpec spec
+IsDraft (msg.Cert instance zcert) = IsInstance instance × IsZcert zcert
 
 -- with no more view changes than a draft may have
 abbrev pub HasFewChanges : Msg → Type 0
@@ -82,6 +90,10 @@ code_of (msg.Prepare prepare) = 9
 code_of (msg.Commit content tag) = 10
 code_of (msg.ViewChange change) = 11
 code_of (msg.NewView content tag changes) = 12
+code_of (msg.Checkpoint content tag) = 13
+code_of (msg.LocalCommit content tag) = 14
+code_of (msg.Spec spec) = 15
+code_of (msg.Cert instance zcert) = 16
 
 abbrev pub spell_body : Msg → List ℕ
 spell_body (msg.Req content tags) = spell_content content ++ spell_tags tags.items
@@ -97,6 +109,10 @@ spell_body (msg.Prepare prepare) = spell_signed prepare
 spell_body (msg.Commit content tag) = spell_content content ++ tag
 spell_body (msg.ViewChange change) = spell_proof change
 spell_body (msg.NewView content tag changes) = spell_content content ++ (tag ++ u8_list spell_proof changes)
+spell_body (msg.Checkpoint content tag) = spell_content content ++ tag
+spell_body (msg.LocalCommit content tag) = spell_content content ++ tag
+spell_body (msg.Spec spec) = spell_signed spec
+spell_body (msg.Cert instance zcert) = u32_bytes instance ++ spell_optional spell_zcert (Some zcert)
 
 -- the bytes of a message
 abbrev pub spell_message : Msg → List ℕ

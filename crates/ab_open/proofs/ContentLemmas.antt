@@ -13,20 +13,21 @@ use Rattle.ab_hist.specs.Histories.{IsHistory}
 use Rattle.ab_form.specs.Formats.{IsWithin}
 use Rattle.ab_form.specs.Lists.{FitsInside}
 use Rattle.ab_msg.specs.declared.content.Content.{Content}
-use Rattle.ab_msg.specs.declared.content.Content.TheVariants.{Order, Abort, PrePrepare, Prepare, ViewChange}
+use Rattle.ab_msg.specs.declared.content.Content.TheVariants.{Order, Abort, AbortZ, PrePrepare, Prepare, ViewChange}
 use Rattle.ab_msg.specs.declared.signed.Signed.{Signed}
 use Rattle.ab_msg.specs.declared.change.Proof.{Proof}
+use Rattle.ab_msg.specs.declared.zcert.Zcert.{Zcert}
 use Rattle.ab_msg.specs.declared.message.Msg.{Msg}
 use Rattle.ab_msg.specs.declared.message.Msg.TheVariants as msg
 use Rattle.ab_msg.specs.declared.message.Offer.{Offer}
 use Rattle.ab_msg.specs.declared.message.Offer.TheVariants as offer
-use Rattle.ab_msg.specs.Claims.{instance_of, asked, ordered, each_before, tag_of_position, chain_claims, signed_contents, offer_claims, slot_claims, prepared_claims, change_claims, claims}
+use Rattle.ab_msg.specs.Claims.{instance_of, asked, ordered, each_before, tag_of_position, chain_claims, spec_of, specs_of, kept_claims, signed_contents, offer_claims, slot_claims, prepared_claims, change_claims, claims}
 use Rattle.ab_msg.specs.Carried.{stated_history}
 use Rattle.ab_msg.specs.Fields.{IsInstance, IsReply, IsRequest, IsSigner}
-use Rattle.ab_msg.specs.Contents.{IsContent, IsOrder, IsAbort, IsPrePrepare, IsChange, IsEntry}
+use Rattle.ab_msg.specs.Contents.{IsContent, IsOrder, IsStopContent, IsZcert, IsPrePrepare, IsChange, IsEntry}
 use Rattle.ab_msg.specs.Certs.{ArePrepares, IsProof, IsSigned}
 use Rattle.ab_msg.specs.Messages.{IsMessage, IsOffer, slot_in}
-use Rattle.ab_wire.proofs.KindLemmas.{req_content, resp_content, panic_content, abort_content, pre_prepare_content, prepare_content, commit_content, change_content, new_view_content}
+use Rattle.ab_wire.proofs.KindLemmas.{req_content, resp_content, panic_content, abort_content, pre_prepare_content, prepare_content, commit_content, change_content, new_view_content, checkpoint_content, local_commit_content, spec_content}
 
 one : (c : Content) → IsContent c → All IsContent (c ∷ [])
 one c h = All-cons IsContent c [] h (All-nil IsContent)
@@ -38,8 +39,27 @@ order-claims : (c : Content) → IsOrder c → All IsContent (ordered c ++ c ∷
 order-claims (Order maker i n m) h = All-cons IsContent (asked i m) (Order maker i n m ∷ []) (request-content i m h.1.0 h.1.1.1) (one (Order maker i n m) h)
 order-claims c h = absurd h
 
-signed-claims : (ss : List Signed) → All (IsSigned IsAbort) ss → All IsContent (signed_contents ss)
-signed-claims ss h = All-map IsContent (λ (s : Signed). s.content) ss (All-weaker (IsSigned IsAbort) (λ (s : Signed). IsContent s.content) (λ s g. abort_content s.content g.1.0) ss h)
+-- ---- what replicas state as they stop
+
+specs-content : (i : ℕ) (z : Zcert) → IsInstance i → IsZcert z → All IsContent (specs_of i z)
+specs-content i z hi h =
+    All-map IsContent (λ (s : ℕ × List ℕ). spec_of i z s.0) z.sigs
+    (All-weaker IsSigner (λ (s : ℕ × List ℕ). IsContent (spec_of i z s.0)) (λ s g. (g.0, (hi, (h.0, (h.1.0, (h.1.1.0, (h.1.1.1.0, h.1.1.1.1.0))))))) z.sigs h.1.1.1.1.1.1)
+
+kept-content : (c : Content) → IsStopContent c → All IsContent (kept_claims c)
+kept-content (Abort maker i h) g = All-nil IsContent
+kept-content (AbortZ maker i h None) g = All-nil IsContent
+kept-content (AbortZ maker i h (Some z)) g = specs-content i z g.1.0 g.1.1.1
+kept-content c g = absurd g
+
+abort-claims : (c : Content) → IsStopContent c → All IsContent (c ∷ kept_claims c)
+abort-claims c h = All-cons IsContent c (kept_claims c) (abort_content c h) (kept-content c h)
+
+signed-claims : (ss : List Signed) → All (IsSigned IsStopContent) ss → All IsContent (signed_contents ss)
+signed-claims [] h = All-nil IsContent
+signed-claims (s ∷ ss) h =
+    All-append IsContent (s.content ∷ kept_claims s.content) (signed_contents ss)
+    (abort-claims s.content (All-head (IsSigned IsStopContent) s ss h).1.0) (signed-claims ss (All-tail (IsSigned IsStopContent) s ss h))
 
 -- ---- along a chain
 
@@ -62,7 +82,7 @@ position-few f i q few =
     let lt = mod-lt (i - 1 + q - 1) some in
     (omega arith, omega (arith, lt))
 
-chain-content : (f : ℕ) (me : Party) (i : ℕ) (m : Request) (n : ℕ) (d : List ℕ) (reply : Option (ArrayVec ℕ)) → f ≤ 2 → IsInstance i → IsRequest 0 15 m → IsWithin 1 1024 n → length d ≡ 32
+chain-content : (f : ℕ) (me : Party) (i : ℕ) (m : Request) (n : ℕ) (d : List ℕ) (reply : Option (ArrayVec ℕ)) → f ≤ 2 → IsInstance i → IsRequest 0 15 m → IsWithin 1 65535 n → length d ≡ 32
     → FitsInside IsReply reply → All IsContent (chain_claims f me i m n d reply)
 chain-content f (Replica r) i m n d reply few hi hm hn hd hr =
     front-content i m (leb (position_in f i r) (f + 1)) (each_before (f + 1) (tag_of_position f i m n d) (position_in f i r)) (request-content i m hi hm)
@@ -119,7 +139,7 @@ claims-content f clients me (msg.Order content client_tag tag) b h = order-claim
 claims-content f clients me (msg.Resp content tag) b h = one content (resp_content content h.0)
 claims-content f clients me (msg.Chain i m n d reply tags) b h = chain-content f me i m n d reply b.few_faulty h.0 h.1.0 h.1.1.0 h.1.1.1.0 h.1.1.1.1.0
 claims-content f clients me (msg.Panic content tag) b h = one content (panic_content content h.0)
-claims-content f clients me (msg.Abort abort) b h = one abort.content (abort_content abort.content h.1.0)
+claims-content f clients me (msg.Abort abort) b h = abort-claims abort.content h.1.0
 claims-content f clients me (msg.Init cert) b h = signed-claims cert h.1
 claims-content f clients me (msg.PrePrepare content tag offer) b h =
     All-cons IsContent content (offer_claims (instance_of content) offer) (pre_prepare_content content h.0.0) (offer-content (instance_of content) (slot_in content) offer (value-instance content h.0.0) h.1)
@@ -128,11 +148,16 @@ claims-content f clients me (msg.Commit content tag) b h = one content (commit_c
 claims-content f clients me (msg.ViewChange change) b h = change-content change h
 claims-content f clients me (msg.NewView content tag changes) b h =
     All-cons IsContent content (flat_map change_claims changes) (new_view_content content h.0) (changes-content changes h.1.1.1)
+claims-content f clients me (msg.Checkpoint content tag) b h = one content (checkpoint_content content h.0)
+claims-content f clients me (msg.LocalCommit content tag) b h = one content (local_commit_content content h.0)
+claims-content f clients me (msg.Spec spec) b h = one spec.content (spec_content spec.content h.1.0)
+claims-content f clients me (msg.Cert i z) b h = specs-content i z h.0 h.1
 
 -- ---- histories
 
 history-rises : (c : Content) → IsContent c → All IsHistory (stated_history c)
 history-rises (Abort maker i h) g = All-cons IsHistory h [] g.1.1.1.1 (All-nil IsHistory)
+history-rises (AbortZ maker i h zcert) g = All-cons IsHistory h [] g.1.1.0.1.1 (All-nil IsHistory)
 history-rises c g = All-nil IsHistory
 
 histories-rise : (cs : List Content) → All IsContent cs → All IsHistory (flat_map stated_history cs)

@@ -15,19 +15,20 @@ use Rattle.ab_num.specs.Places.{at_position_of, position_in}
 use Rattle.ab_hist.specs.declared.request.Request.{Request}
 use Rattle.ab_keys.specs.Keys.{is_party}
 use Rattle.ab_msg.specs.declared.content.Content.{Content}
-use Rattle.ab_msg.specs.declared.content.Content.TheVariants.{Req, Order, Abort, Prepare, ViewChange}
+use Rattle.ab_msg.specs.declared.content.Content.TheVariants.{Req, Order, Abort, AbortZ, Prepare, ViewChange}
 use Rattle.ab_msg.specs.declared.signed.Signed.{Signed}
 use Rattle.ab_msg.specs.declared.change.Proof.{Proof}
+use Rattle.ab_msg.specs.declared.zcert.Zcert.{Zcert}
 use Rattle.ab_msg.specs.declared.value.Value.TheVariants as value
 use Rattle.ab_msg.specs.declared.chain_tags.TagBetween.{TagBetween}
 use Rattle.ab_msg.specs.declared.message.Msg.TheVariants as msg
 use Rattle.ab_msg.specs.declared.message.Offer.{Offer}
 use Rattle.ab_msg.specs.declared.message.Offer.TheVariants as offer
-use Rattle.ab_msg.specs.Claims.{instance_of, asked, each_before, tag_of_position, chain_claims, signed_contents, slot_claims, prepared_claims, change_claims, offer_claims}
+use Rattle.ab_msg.specs.Claims.{instance_of, asked, each_before, tag_of_position, chain_claims, spec_of, specs_of, kept_claims, signed_contents, slot_claims, prepared_claims, change_claims, offer_claims}
 use Rattle.ab_msg.specs.Carried.{parties_of, parties_of_content, stated_history, cert_histories, value_histories, value_requests, offer_histories, offer_requests}
 use Rattle.ab_msg.specs.Contents.{IsReq, IsOrder, IsChange}
 use Rattle.ab_msg.specs.Certs.{IsProof, entries_of}
-use Rattle.ab_open.specs.Named.{clients_of, signers_of, values_name, aborts_name, offer_names, change_names}
+use Rattle.ab_open.specs.Named.{clients_of, signers_of, answers_name, kept_names, abort_names, values_name, aborts_name, offer_names, change_names}
 
 -- ---- tests
 
@@ -97,31 +98,67 @@ commit-names P f me c tag = one-content P (parties_of_content c)
 pub prepare-names : (P : Party → Bool) (f : ℕ) (me : Party) (s : Signed) → list_all P (parties_of f me (msg.Prepare s)) ≡ list_all P (parties_of_content s.content)
 prepare-names P f me s = one-content P (parties_of_content s.content)
 
+pub checkpoint-names : (P : Party → Bool) (f : ℕ) (me : Party) (c : Content) (tag : List ℕ) → list_all P (parties_of f me (msg.Checkpoint c tag)) ≡ list_all P (parties_of_content c)
+checkpoint-names P f me c tag = one-content P (parties_of_content c)
+
+pub local_commit-names : (P : Party → Bool) (f : ℕ) (me : Party) (c : Content) (tag : List ℕ) → list_all P (parties_of f me (msg.LocalCommit c tag)) ≡ list_all P (parties_of_content c)
+local_commit-names P f me c tag = one-content P (parties_of_content c)
+
+pub spec-names : (P : Party → Bool) (f : ℕ) (me : Party) (s : Signed) → list_all P (parties_of f me (msg.Spec s)) ≡ list_all P (parties_of_content s.content)
+spec-names P f me s = one-content P (parties_of_content s.content)
+
 -- ---- histories and certificates
 
 -- a history's clients are named by its content
 history-named : (P : Party → Bool) (c : Content) → (list_all P (parties_of_content c) && list_all P (flat_map clients_of (stated_history c))) ≡ list_all P (parties_of_content c)
 history-named P (Abort maker i h) =
     ap (λ (xs : List Party). (P maker && list_all P (clients_of h)) && list_all P xs) (append-nil (clients_of h)) ∙ again (P maker) (list_all P (clients_of h))
+history-named P (AbortZ maker i h zcert) =
+    ap (λ (xs : List Party). (P maker && list_all P (clients_of h)) && list_all P xs) (append-nil (clients_of h)) ∙ again (P maker) (list_all P (clients_of h))
 history-named P c = and-true (list_all P (parties_of_content c))
 
-abort-names-of : (P : Party → Bool) (f : ℕ) (me : Party) (s : Signed) (c : Content) → s.content ≡ c → list_all P (parties_of f me (msg.Abort s)) ≡ (list_all P (parties_of_content c) && list_all P (flat_map clients_of (stated_history c)))
-abort-names-of P f me s c e =
-    list_all-append P (parties_of_content s.content ++ []) (flat_map clients_of (stated_history s.content))
-    ∙ ap (λ (x : Content). list_all P (parties_of_content x ++ []) && list_all P (flat_map clients_of (stated_history x))) e
-    ∙ ap (λ (xs : List Party). list_all P xs && list_all P (flat_map clients_of (stated_history c))) (append-nil (parties_of_content c))
+answers-named : (i : ℕ) (z : Zcert) (by : List (ℕ × List ℕ)) → flat_map parties_of_content (map (λ (s : ℕ × List ℕ). spec_of i z s.0) by) ≡ answers_name z.client by
+answers-named i z [] = refl
+answers-named i z (s ∷ by) = ap (λ (xs : List Party). Replica s.0 ∷ Client z.client ∷ xs) (answers-named i z by)
 
-pub abort-names : (P : Party → Bool) (f : ℕ) (me : Party) (s : Signed) → list_all P (parties_of f me (msg.Abort s)) ≡ list_all P (parties_of_content s.content)
-abort-names P f me s = abort-names-of P f me s s.content refl ∙ history-named P s.content
+kept-named : (c : Content) → flat_map parties_of_content (kept_claims c) ≡ kept_names c
+kept-named (AbortZ maker i h None) = refl
+kept-named (AbortZ maker i h (Some z)) = answers-named i z z.sigs
+kept-named c = refl
+
+stopped-named : (c : Content) → flat_map parties_of_content (c ∷ kept_claims c) ≡ abort_names c
+stopped-named c = ap (λ (xs : List Party). parties_of_content c ++ xs) (kept-named c)
+
+-- what the first of three tests says already adds nothing behind the second
+behind : (a b c : Bool) → (a && c) ≡ a → ((a && b) && c) ≡ (a && b)
+behind true true c h = h
+behind true false c h = refl
+behind false b c h = refl
+
+abort-named : (P : Party → Bool) (c : Content) → (list_all P (abort_names c) && list_all P (flat_map clients_of (stated_history c))) ≡ list_all P (abort_names c)
+abort-named P c =
+    let here : list_all P (abort_names c) ≡ (list_all P (parties_of_content c) && list_all P (kept_names c)) = list_all-append P (parties_of_content c) (kept_names c) in
+    ap (λ (b : Bool). b && list_all P (flat_map clients_of (stated_history c))) here
+    ∙ behind (list_all P (parties_of_content c)) (list_all P (kept_names c)) (list_all P (flat_map clients_of (stated_history c))) (history-named P c)
+    ∙ sym here
+
+pub abort-names : (P : Party → Bool) (f : ℕ) (me : Party) (s : Signed) → list_all P (parties_of f me (msg.Abort s)) ≡ list_all P (abort_names s.content)
+abort-names P f me s =
+    list_all-append P (flat_map parties_of_content (s.content ∷ kept_claims s.content)) (flat_map clients_of (stated_history s.content))
+    ∙ ap (λ (xs : List Party). list_all P xs && list_all P (flat_map clients_of (stated_history s.content))) (stopped-named s.content)
+    ∙ abort-named P s.content
 
 aborts-contents : (ss : List Signed) → flat_map parties_of_content (signed_contents ss) ≡ aborts_name ss
 aborts-contents [] = refl
-aborts-contents (s ∷ ss) = ap (λ (xs : List Party). parties_of_content s.content ++ xs) (aborts-contents ss)
+aborts-contents (s ∷ ss) =
+    flat_map-append parties_of_content (s.content ∷ kept_claims s.content) (signed_contents ss)
+    ∙ ap (λ (xs : List Party). xs ++ flat_map parties_of_content (signed_contents ss)) (stopped-named s.content)
+    ∙ ap (λ (xs : List Party). abort_names s.content ++ xs) (aborts-contents ss)
 
 aborts-named : (P : Party → Bool) (ss : List Signed) → (list_all P (aborts_name ss) && list_all P (flat_map clients_of (cert_histories ss))) ≡ list_all P (aborts_name ss)
 aborts-named P [] = refl
 aborts-named P (s ∷ ss) =
-    let c : List Party = parties_of_content s.content in
+    let c : List Party = abort_names s.content in
     let h : List Party = flat_map clients_of (stated_history s.content) in
     let more : List Party = aborts_name ss in
     let hs : List Party = flat_map clients_of (cert_histories ss) in
@@ -131,7 +168,7 @@ aborts-named P (s ∷ ss) =
     ap (λ (b : Bool). b && list_all P (flat_map clients_of (stated_history s.content ++ cert_histories ss))) here
     ∙ ap (λ (b : Bool). (list_all P c && list_all P more) && b) split
     ∙ interchange (list_all P c) (list_all P more) (list_all P h) (list_all P hs)
-    ∙ ap (λ (b : Bool). b && (list_all P more && list_all P hs)) (history-named P s.content)
+    ∙ ap (λ (b : Bool). b && (list_all P more && list_all P hs)) (abort-named P s.content)
     ∙ ap (λ (b : Bool). list_all P c && b) (aborts-named P ss)
     ∙ sym here
 
@@ -140,6 +177,9 @@ init-names P f me ss =
     list_all-append P (flat_map parties_of_content (signed_contents ss)) (flat_map clients_of (cert_histories ss))
     ∙ ap (λ (xs : List Party). list_all P xs && list_all P (flat_map clients_of (cert_histories ss))) (aborts-contents ss)
     ∙ aborts-named P ss
+
+pub cert-names : (P : Party → Bool) (f : ℕ) (me : Party) (i : ℕ) (z : Zcert) → list_all P (parties_of f me (msg.Cert i z)) ≡ list_all P (answers_name z.client z.sigs)
+cert-names P f me i z = ap (list_all P) (append-nil (flat_map parties_of_content (specs_of i z)) ∙ answers-named i z z.sigs)
 
 -- ---- offers
 

@@ -5,19 +5,20 @@ use Rattle.arrayvec.specs.ArrayVec.{ArrayVec}
 use Rattle.ab_hist.specs.declared.request.Request.{Request}
 use Rattle.ab_form.specs.declared.bad.Bad.{Bad}
 use Rattle.ab_form.specs.declared.bad.Bad.TheVariants.{BadCode, BadField}
-use Rattle.ab_form.specs.Readers.{Reader, number_at, bytes_at, ranged_at, text_at, made, after, both, either, never, whole}
+use Rattle.ab_form.specs.Readers.{Reader, number_at, bytes_at, ranged_at, text_at, marked, made, after, both, either, never, whole}
 use Rattle.ab_form.specs.Lists.{along, counted, optional_at}
 use Rattle.ab_content.specs.Parts.{instance_at, any_request_at}
 use Rattle.ab_msg.specs.declared.content.Content.{Content}
 use Rattle.ab_msg.specs.declared.chain_tags.TagBetween.{TagBetween}
 use Rattle.ab_msg.specs.declared.change.Proof.{Proof}
+use Rattle.ab_msg.specs.declared.zcert.Zcert.{Zcert}
 use Rattle.ab_msg.specs.declared.message.Msg.{Msg}
 use Rattle.ab_msg.specs.declared.message.Msg.TheVariants as msg
 use Rattle.ab_msg.specs.declared.message.Offer.{Offer}
 use Rattle.ab_msg.specs.declared.message.Offer.TheVariants as offer
-use Rattle.ab_content.specs.Rows.{req_at, order_at, resp_at, panic_at, pre_prepare_at, commit_at, new_view_at}
+use Rattle.ab_content.specs.Rows.{req_at, order_at, resp_at, panic_at, pre_prepare_at, commit_at, new_view_at, checkpoint_at, local_commit_at, zcert_at}
 use Rattle.ab_wire.specs.Tags.{tags_at, between_at}
-use Rattle.ab_wire.specs.Signed.{signed_abort_at, signed_prepare_at, aborts_at}
+use Rattle.ab_wire.specs.Signed.{signed_abort_at, signed_prepare_at, signed_spec_at, aborts_at}
 use Rattle.ab_wire.specs.Changes.{proof_at}
 use Rattle.ab_msg.specs.Messages.{slot_in}
 
@@ -61,7 +62,7 @@ chain_message_from t = msg.Chain t.0 t.1.0 t.1.1.0 t.1.1.1.0 t.1.1.1.1.0 t.1.1.1
 
 unfoldable pub chain_message_at : Reader Msg
 chain_message_at bytes =
-    made chain_message_from (both instance_at (both any_request_at (both (ranged_at w16 1 1024 BadField) (both (bytes_at 32)
+    made chain_message_from (both instance_at (both any_request_at (both (ranged_at w16 1 65535 BadField) (both (bytes_at 32)
     (both (optional_at reply_at) (counted w8 0 64 between_at)))))) bytes
 
 -- ---- PANIC
@@ -123,6 +124,36 @@ new_view_message_from t = msg.NewView t.0 t.1.0 t.1.1
 unfoldable pub new_view_message_at : Reader Msg
 new_view_message_at bytes = made new_view_message_from (both new_view_at (both (bytes_at 32) (counted w8 1 7 proof_at))) bytes
 
+-- ---- CHECKPOINT
+
+abbrev pub checkpoint_message_from : Content × List ℕ → Msg
+checkpoint_message_from t = msg.Checkpoint t.0 t.1
+
+unfoldable pub checkpoint_message_at : Reader Msg
+checkpoint_message_at bytes = made checkpoint_message_from (both checkpoint_at (bytes_at 32)) bytes
+
+-- ---- LOCAL-COMMIT
+
+abbrev pub local_commit_message_from : Content × List ℕ → Msg
+local_commit_message_from t = msg.LocalCommit t.0 t.1
+
+unfoldable pub local_commit_message_at : Reader Msg
+local_commit_message_at bytes = made local_commit_message_from (both local_commit_at (bytes_at 32)) bytes
+
+-- ---- SPEC
+
+unfoldable pub spec_message_at : Reader Msg
+spec_message_at bytes = made msg.Spec signed_spec_at bytes
+
+-- ---- CERT
+
+abbrev pub cert_message_from : ℕ × Zcert → Msg
+cert_message_from t = msg.Cert t.0 t.1
+
+-- a certificate of answers behind the byte 1, since it is never left out
+unfoldable pub cert_message_at : Reader Msg
+cert_message_at bytes = made cert_message_from (both instance_at (marked 1 BadField zcert_at)) bytes
+
 -- ---- all
 
 -- the body behind a code
@@ -132,7 +163,8 @@ body_at code =
     (either (code == 4) chain_message_at (either (code == 5) panic_message_at (either (code == 6) abort_message_at
     (either (code == 7) init_message_at (either (code == 8) pre_prepare_message_at (either (code == 9) prepare_message_at
     (either (code == 10) commit_message_at (either (code == 11) change_message_at (either (code == 12) new_view_message_at
-    (never BadCode))))))))))))
+    (either (code == 13) checkpoint_message_at (either (code == 14) local_commit_message_at (either (code == 15) spec_message_at
+    (either (code == 16) cert_message_at (never BadCode))))))))))))))))
 
 unfoldable pub message_at : Reader Msg
 message_at bytes = after (number_at w8) body_at bytes

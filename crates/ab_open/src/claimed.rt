@@ -31,6 +31,7 @@ impl Model for Claims {
 fn last_history(claims: &[(Party, Content)]) -> Option<&History> {
     match &claims.last()?.1 {
         Content::Abort { history, .. } => Some(history),
+        Content::AbortZ { history, .. } => Some(history),
         _ => None,
     }
 }

@@ -7,13 +7,13 @@ ghost use Rattle.ab_form.specs.Readers.{listed};
 ghost use Rattle.ab_keys.specs.Keys.{is_party};
 ghost use Rattle.ab_msg.specs.Carried.{parties_of_content};
 ghost use Rattle.ab_content.specs.Parts.{any_request_at, signer_at};
-ghost use Rattle.ab_content.specs.Views.{content as shown, history};
+ghost use Rattle.ab_content.specs.Views.{content as shown, history, zcert as shown_zcert};
 ghost use Rattle.ab_wire.specs.Changes.{prepares_at, proof_at};
 ghost use Rattle.ab_wire.specs.Views.{aborts as shown_aborts, offered, proof, values as shown_values};
-ghost use Rattle.ab_open.specs.Named.{aborts_name, change_names, clients_of, offer_names, signers_of, values_name};
+ghost use Rattle.ab_open.specs.Named.{abort_names, aborts_name, answers_name, change_names, clients_of, kept_names, offer_names, signers_of, values_name};
 
 use ab_check::copy_of;
-use ab_content::{ContentRef, HistoryRef, RequestRef, SignerRef};
+use ab_content::{ContentRef, HistoryRef, RequestRef, SignerRef, ZcertRef};
 use ab_form::ListRef;
 use ab_keys::is_party;
 use ab_num::{Cluster, Party};
@@ -63,14 +63,59 @@ pub(crate) fn has_parties(k: &Cluster, content: &ContentRef<'_>) -> bool
         ContentRef::Commit { maker, .. } => is_party(k, *maker),
         ContentRef::ViewChange { maker, .. } => is_party(k, *maker),
         ContentRef::NewView { maker, .. } => is_party(k, *maker),
+        ContentRef::Checkpoint { maker, .. } => is_party(k, *maker),
+        ContentRef::Spec { maker, client, .. } => is_party(k, *maker) && has_client(k, *client),
+        ContentRef::LocalCommit { maker, client, .. } => {
+            is_party(k, *maker) && has_client(k, *client)
+        }
+        ContentRef::AbortZ { maker, history, .. } => {
+            is_party(k, *maker) && has_history(k, history)
+        }
     }
+}
+
+/// The makers of equal answers to a client, and the client.
+fn has_answers<'a>(k: &Cluster, client: u16, by: ListRef<'a, SignerRef<'a>>) -> bool
+    ensures { result ≡ list_all (is_party k.now.f k.now.clients) (answers_name client (listed signer_at by.entry.count by.entry.bytes.now)) }
+{
+    let is_known = has_client(k, client);
+    'by: for s in by {
+        if !(is_party(k, Party::Replica(s.replica)) && is_known) {
+            return false;
+        }
+    }
+    true
+}
+
+/// The parties of a certificate of answers.
+pub(crate) fn has_zcert<'a>(k: &Cluster, z: &ZcertRef<'a>) -> bool
+    ensures { result ≡ list_all (is_party k.now.f k.now.clients) (answers_name (shown_zcert z.now).client (shown_zcert z.now).sigs) }
+{
+    has_answers(k, z.client, copy_of(&z.sigs))
+}
+
+/// The parties of the answers that a content keeps.
+fn has_kept(k: &Cluster, content: &ContentRef<'_>) -> bool
+    ensures { result ≡ list_all (is_party k.now.f k.now.clients) (kept_names (shown content.now)) }
+{
+    match content {
+        ContentRef::AbortZ { zcert: Some(z), .. } => has_zcert(k, z),
+        _ => true,
+    }
+}
+
+/// The parties of what a replica states as it stops.
+pub(crate) fn has_abort(k: &Cluster, content: &ContentRef<'_>) -> bool
+    ensures { result ≡ list_all (is_party k.now.f k.now.clients) (abort_names (shown content.now)) }
+{
+    has_parties(k, content) && has_kept(k, content)
 }
 
 pub(crate) fn has_aborts<'a>(k: &Cluster, aborts: ListRef<'a, SignedRef<'a>>) -> bool
     ensures { result ≡ list_all (is_party k.now.f k.now.clients) (aborts_name (shown_aborts aborts.entry)) }
 {
     'aborts: for abort in aborts {
-        if !has_parties(k, &abort.content) {
+        if !has_abort(k, &abort.content) {
             return false;
         }
     }

@@ -6,17 +6,18 @@ ghost use Rattle.ab_form.specs.Lists.{optional_at};
 ghost use Rattle.ab_msg.specs.declared.message.Msg.{Msg as Message};
 ghost use Rattle.ab_wire.specs.Signed.{aborts_at, signed_abort_at};
 ghost use Rattle.ab_msg.specs.Messages.{IsMessage, slot_in, spell_message};
-ghost use Rattle.ab_open.specs.Messages.{abort_message_at, body_at, chain_message_at, change_message_at, commit_message_at, init_message_at, message_of, new_view_message_at, offer_at, order_message_at, panic_message_at, pre_prepare_message_at, prepare_message_at, reply_at, req_message_at, resp_message_at};
+ghost use Rattle.ab_open.specs.Messages.{abort_message_at, body_at, cert_message_at, chain_message_at, change_message_at, checkpoint_message_at, commit_message_at, init_message_at, local_commit_message_at, message_of, new_view_message_at, offer_at, order_message_at, panic_message_at, pre_prepare_message_at, prepare_message_at, reply_at, req_message_at, resp_message_at, spec_message_at};
 ghost use Rattle.ab_wire.specs.Views.{IsKept, IsReceived, aborts, message, offered, reply_of};
 ghost use Rattle.ab_content.specs.Views.{content as shown};
 
 use ab_content::{
-    commit_at, instance_at, new_view_at, order_at, panic_at, pre_prepare_at, req_at, resp_at,
+    checkpoint_at, commit_at, instance_at, local_commit_at, new_view_at, order_at, panic_at,
+    pre_prepare_at, req_at, resp_at, zcert_at,
 };
 use ab_form::{Bad, ListRef, Part, array_at, list_at, ranged_u8, ranged_u16, text_u8, u8_at};
 use ab_wire::{
     BetweenRef, ContentRef, MsgRef, OfferRef, ProofRef, RequestRef, SignedRef, signed_abort_at,
-    signed_prepare_at, spelled, tags_at,
+    signed_prepare_at, signed_spec_at, spelled, tags_at,
 };
 
 #[tactic(auto, unfolding(crate::specs::Messages::req_message_at))]
@@ -131,7 +132,7 @@ fn chain_message_at(bytes: &[u8]) -> Result<(MsgRef<'_>, &[u8]), Bad>
 {
     let (instance, rest) = instance_at(bytes)?;
     let (request, rest) = RequestRef::read_part(rest)?;
-    let (n, rest) = ranged_u16(1, 1024, Bad::BadField, rest)?;
+    let (n, rest) = ranged_u16(1, 65535, Bad::BadField, rest)?;
     let (d, rest) = array_at(rest)?;
     let (reply, rest) = optional_reply_at(rest)?;
     let (count, rest) = ranged_u8(0, 64, Bad::BadLength, rest)?;
@@ -261,6 +262,62 @@ fn new_view_message_at(bytes: &[u8]) -> Result<(MsgRef<'_>, &[u8]), Bad>
     ))
 }
 
+#[tactic(auto, unfolding(crate::specs::Messages::checkpoint_message_at))]
+fn checkpoint_message_at(bytes: &[u8]) -> Result<(MsgRef<'_>, &[u8]), Bad>
+    ensures exact { Gives (λ x. (message x.0, x.1.now)) result (checkpoint_message_at bytes.now) }
+    ensures kept { IfOk result (λ x. IsKept x.0) }
+{
+    let (content, rest) = checkpoint_at(bytes)?;
+    let stated = spelled(bytes, &content, rest);
+    let (tag, rest) = array_at(rest)?;
+    Ok((
+        MsgRef::Checkpoint {
+            content,
+            bytes: stated,
+            tag,
+        },
+        rest,
+    ))
+}
+
+#[tactic(auto, unfolding(crate::specs::Messages::local_commit_message_at))]
+fn local_commit_message_at(bytes: &[u8]) -> Result<(MsgRef<'_>, &[u8]), Bad>
+    ensures exact { Gives (λ x. (message x.0, x.1.now)) result (local_commit_message_at bytes.now) }
+    ensures kept { IfOk result (λ x. IsKept x.0) }
+{
+    let (content, rest) = local_commit_at(bytes)?;
+    let stated = spelled(bytes, &content, rest);
+    let (tag, rest) = array_at(rest)?;
+    Ok((
+        MsgRef::LocalCommit {
+            content,
+            bytes: stated,
+            tag,
+        },
+        rest,
+    ))
+}
+
+#[tactic(auto, unfolding(crate::specs::Messages::spec_message_at))]
+fn spec_message_at(bytes: &[u8]) -> Result<(MsgRef<'_>, &[u8]), Bad>
+    ensures exact { Gives (λ x. (message x.0, x.1.now)) result (spec_message_at bytes.now) }
+    ensures kept { IfOk result (λ x. IsKept x.0) }
+{
+    let (spec, rest) = signed_spec_at(bytes)?;
+    Ok((MsgRef::Spec { spec }, rest))
+}
+
+#[tactic(auto, unfolding(crate::specs::Messages::cert_message_at))]
+fn cert_message_at(bytes: &[u8]) -> Result<(MsgRef<'_>, &[u8]), Bad>
+    ensures exact { Gives (λ x. (message x.0, x.1.now)) result (cert_message_at bytes.now) }
+    ensures kept { IfOk result (λ x. IsKept x.0) }
+{
+    let (instance, rest) = instance_at(bytes)?;
+    let (_, rest) = ranged_u8(1, 1, Bad::BadField, rest)?;
+    let (zcert, rest) = zcert_at(rest)?;
+    Ok((MsgRef::Cert { instance, zcert }, rest))
+}
+
 fn body_at(code: u8, bytes: &[u8]) -> Result<(MsgRef<'_>, &[u8]), Bad>
     ensures exact { Gives (λ x. (message x.0, x.1.now)) result (body_at code bytes.now) }
     ensures kept { IfOk result (λ x. IsKept x.0) }
@@ -278,6 +335,10 @@ fn body_at(code: u8, bytes: &[u8]) -> Result<(MsgRef<'_>, &[u8]), Bad>
         10 => commit_message_at(bytes),
         11 => change_message_at(bytes),
         12 => new_view_message_at(bytes),
+        13 => checkpoint_message_at(bytes),
+        14 => local_commit_message_at(bytes),
+        15 => spec_message_at(bytes),
+        16 => cert_message_at(bytes),
         _ => Err(Bad::BadCode),
     }
 }

@@ -9,7 +9,9 @@ ghost use Rattle.ab_wire.specs.Views.{IsReceived, aborts, message, offered, proo
 ghost use Rattle.ab_open.specs.Named.{aborts_name, change_names, offer_names};
 ghost use Rattle.ab_open.specs.Opening.{takes};
 
-use crate::naming::{has_aborts, has_change, has_changes, has_client, has_offer, has_parties};
+use crate::naming::{
+    has_abort, has_aborts, has_change, has_changes, has_client, has_offer, has_parties, has_zcert,
+};
 use ab_check::copy_of;
 use ab_content::{ContentRef, RequestRef};
 use ab_form::ListRef;
@@ -22,6 +24,8 @@ fn is_answer_to(me: Party, given: &ContentRef<'_>) -> bool
 {
     match (me, given) {
         (Party::Client(c), ContentRef::Resp { client, .. }) => *client == c,
+        (Party::Client(c), ContentRef::Spec { client, .. }) => *client == c,
+        (Party::Client(c), ContentRef::LocalCommit { client, .. }) => *client == c,
         _ => false,
     }
 }
@@ -71,6 +75,10 @@ fn goes_to(me: Party, m: &MsgRef<'_>) -> bool
         MsgRef::Commit { .. } => is_replica(me),
         MsgRef::ViewChange { .. } => is_replica(me),
         MsgRef::NewView { .. } => is_replica(me),
+        MsgRef::Checkpoint { .. } => is_replica(me),
+        MsgRef::LocalCommit { content, .. } => is_answer_to(me, content),
+        MsgRef::Spec { spec } => is_answer_to(me, &spec.content),
+        MsgRef::Cert { .. } => is_replica(me),
     }
 }
 
@@ -110,7 +118,7 @@ fn has_named<'a>(k: &Cluster, me: Party, m: &MsgRef<'a>) -> bool
         MsgRef::Resp { content, .. } => has_parties(k, content),
         MsgRef::Chain { request, .. } => has_client(k, request.client),
         MsgRef::Panic { content, .. } => has_parties(k, content),
-        MsgRef::Abort { abort } => has_parties(k, &abort.content),
+        MsgRef::Abort { abort } => has_abort(k, &abort.content),
         MsgRef::Init { cert } => has_cert(k, cert),
         MsgRef::PrePrepare { content, offer, .. } => has_value(k, content, offer),
         MsgRef::Prepare { prepare } => has_parties(k, &prepare.content),
@@ -121,6 +129,10 @@ fn has_named<'a>(k: &Cluster, me: Party, m: &MsgRef<'a>) -> bool
             changes,
             ..
         } => has_new_view(k, content, changes),
+        MsgRef::Checkpoint { content, .. } => has_parties(k, content),
+        MsgRef::LocalCommit { content, .. } => has_parties(k, content),
+        MsgRef::Spec { spec } => has_parties(k, &spec.content),
+        MsgRef::Cert { zcert, .. } => has_zcert(k, zcert),
     }
 }
 

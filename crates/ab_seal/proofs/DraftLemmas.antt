@@ -15,7 +15,7 @@ use Rattle.std.proofs.lemmas.Bool.Decides.{Decides-eqb}
 use Rattle.ab_num.specs.declared.party.Party.{Party}
 use Rattle.ab_num.specs.declared.party.Party.TheVariants.{Replica, Client}
 use Rattle.ab_num.specs.declared.plan.Kind.{Kind}
-use Rattle.ab_num.specs.declared.plan.Kind.TheVariants.{Quorum, ZLight, Chain, Backup}
+use Rattle.ab_num.specs.declared.plan.Kind.TheVariants.{Quorum, ZLight, Chain, Backup, ZCert}
 use Rattle.ab_num.specs.Bounds.{IsInBounds}
 use Rattle.ab_num.specs.Places.{kind_of, replicas_of, at_position_of, position_in}
 use Rattle.ab_mac.specs.Tags.{hmac}
@@ -88,6 +88,7 @@ first-receives Quorum f instance = refl
 first-receives ZLight f instance = refl
 first-receives Chain f instance = first-in_front f instance
 first-receives Backup f instance = refl
+first-receives ZCert f instance = refl
 
 abbrev pair_for : Ring → List ℕ → ℕ → ℕ × List ℕ
 pair_for ring text r = (r, tag_made ring (Replica r) text)
@@ -191,6 +192,10 @@ tagged-message ring to (msg.Prepare prepare) bounds me h = h
 tagged-message ring to (msg.Commit content tag) bounds me h = (h, length-tag_made ring to (spell_content content))
 tagged-message ring to (msg.ViewChange change) bounds me h = h
 tagged-message ring to (msg.NewView content tag changes) bounds me h = (h.0, (length-tag_made ring to (spell_content content), ((h.1.0.0, omega (arith, h.1.0.1)), h.1.1)))
+tagged-message ring to (msg.Checkpoint content tag) bounds me h = (h, length-tag_made ring to (spell_content content))
+tagged-message ring to (msg.LocalCommit content tag) bounds me h = (h, length-tag_made ring to (spell_content content))
+tagged-message ring to (msg.Spec spec) bounds me h = h
+tagged-message ring to (msg.Cert i zcert) bounds me h = h
 
 tagged-few : (ring : Ring) (to : Party) (m : Msg) → IsDraft m → HasFewChanges (tagged ring to m)
 tagged-few ring to (msg.Req content tags) h = tt
@@ -205,6 +210,10 @@ tagged-few ring to (msg.Prepare prepare) h = tt
 tagged-few ring to (msg.Commit content tag) h = tt
 tagged-few ring to (msg.ViewChange change) h = tt
 tagged-few ring to (msg.NewView content tag changes) h = h.1.0.1
+tagged-few ring to (msg.Checkpoint content tag) h = tt
+tagged-few ring to (msg.LocalCommit content tag) h = tt
+tagged-few ring to (msg.Spec spec) h = tt
+tagged-few ring to (msg.Cert i zcert) h = tt
 
 pub length-sealed : (ring : Ring) (o : Out) → IsInBounds ring.f ring.clients → IsTrue (is_party ring.f ring.clients ring.me) → IsDraft o.msg → length (sealed ring o) ≤ 4194304
 length-sealed ring o bounds me draft = short-message (tagged ring o.to o.msg) (tagged-message ring o.to o.msg bounds me draft) (tagged-few ring o.to o.msg draft)

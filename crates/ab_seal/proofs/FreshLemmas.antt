@@ -19,7 +19,7 @@ use Rattle.ab_msg.specs.Fields.{IsInstance, IsReply, IsRequest}
 use Rattle.ab_msg.specs.Contents.{IsContent}
 use Rattle.ab_msg.specs.Messages.{IsDraft}
 use Rattle.ab_seal.proofs.DraftLemmas.{party-fits}
-use Rattle.ab_wire.proofs.KindLemmas.{req_content, order_content, resp_content, panic_content, abort_content, pre_prepare_content, prepare_content, commit_content, change_content, new_view_content}
+use Rattle.ab_wire.proofs.KindLemmas.{req_content, order_content, resp_content, panic_content, abort_content, pre_prepare_content, prepare_content, commit_content, change_content, new_view_content, checkpoint_content, spec_content, local_commit_content}
 
 nothing : All IsContent []
 nothing = λ k d lt. absurd (omega (arith, lt))
@@ -34,7 +34,7 @@ one-of-three true last tag answer h g = alone tag h
 one-of-three false true tag answer h g = All-cons IsContent tag (answer ∷ []) h (alone answer g)
 one-of-three false false tag answer h g = alone answer g
 
-passed-fits : (f i : ℕ) (m : Request) (n : ℕ) (d : List ℕ) (reply : Option (ArrayVec ℕ)) (r p : ℕ) → IsWithin 0 6 r → IsInstance i → IsRequest 0 15 m → IsWithin 1 1024 n → length d ≡ 32
+passed-fits : (f i : ℕ) (m : Request) (n : ℕ) (d : List ℕ) (reply : Option (ArrayVec ℕ)) (r p : ℕ) → IsWithin 0 6 r → IsInstance i → IsRequest 0 15 m → IsWithin 1 65535 n → length d ≡ 32
     → FitsInside IsReply reply → All IsContent (passed_at f i m n d reply r p)
 passed-fits f i m n d None r p by at asks within long short = alone (ChainTag (Replica r) i m.client m.stamp n d) (by, (at, (asks.0, (asks.1.0, (within, long)))))
 passed-fits f i m n d (Some reply) r p by at asks within long short =
@@ -56,3 +56,7 @@ fresh-fits f clients p (msg.Prepare prepare) bounds party h = alone prepare.cont
 fresh-fits f clients p (msg.Commit content tag) bounds party h = alone content (commit_content content h)
 fresh-fits f clients p (msg.ViewChange change) bounds party h = alone change.change.content (change_content change.change.content h.0.1.0)
 fresh-fits f clients p (msg.NewView content tag changes) bounds party h = alone content (new_view_content content h.0)
+fresh-fits f clients p (msg.Checkpoint content tag) bounds party h = alone content (checkpoint_content content h)
+fresh-fits f clients p (msg.LocalCommit content tag) bounds party h = alone content (local_commit_content content h)
+fresh-fits f clients p (msg.Spec spec) bounds party h = alone spec.content (spec_content spec.content h.1.0)
+fresh-fits f clients p (msg.Cert i zcert) bounds party h = nothing

@@ -241,3 +241,7 @@ sealed-right f clients plan seed a b judge met (msg.Commit content tag) own goes
 sealed-right f clients plan seed a b judge met (msg.ViewChange change) own goes is carried = carried
 sealed-right f clients plan seed a b judge met (msg.NewView content tag changes) own goes is carried =
     first judge content (content_tag (ring_of f clients plan seed a) b content) (all_checks changes) (made-right f clients plan seed a b judge met content _ (own content (only content)) refl) carried
+sealed-right f clients plan seed a b judge met (msg.Checkpoint content tag) own goes is carried = alone judge content (Some (content_tag (ring_of f clients plan seed a) b content)) (made-right f clients plan seed a b judge met content _ (own content (only content)) refl)
+sealed-right f clients plan seed a b judge met (msg.LocalCommit content tag) own goes is carried = alone judge content (Some (content_tag (ring_of f clients plan seed a) b content)) (made-right f clients plan seed a b judge met content _ (own content (only content)) refl)
+sealed-right f clients plan seed a b judge met (msg.Spec spec) own goes is carried = carried
+sealed-right f clients plan seed a b judge met (msg.Cert i zcert) own goes is carried = carried

@@ -15,7 +15,7 @@ use Rattle.ab_msg.specs.Fields.{IsReply}
 use Rattle.ab_msg.specs.Claims.{passed_at, fresh}
 use Rattle.ab_msg.specs.Contents.{IsContent}
 use Rattle.ab_msg.specs.Messages.{IsDraft}
-use Rattle.ab_wire.proofs.KindLemmas.{req_content, order_content, resp_content, panic_content, abort_content, pre_prepare_content, prepare_content, commit_content, change_content, new_view_content}
+use Rattle.ab_wire.proofs.KindLemmas.{req_content, order_content, resp_content, panic_content, abort_content, pre_prepare_content, prepare_content, commit_content, change_content, new_view_content, checkpoint_content, spec_content, local_commit_content}
 
 -- one content, of a kind of which all are of the grammar
 one : (c : Content) → IsContent c → All IsContent (c ∷ [])
@@ -56,3 +56,7 @@ fresh-fits f r (msg.Prepare prepare) le h = one prepare.content (prepare_content
 fresh-fits f r (msg.Commit c tag) le h = one c (commit_content c h)
 fresh-fits f r (msg.ViewChange change) le h = one change.change.content (change_content change.change.content h.0.1.0)
 fresh-fits f r (msg.NewView c tag changes) le h = one c (new_view_content c h.0)
+fresh-fits f r (msg.Checkpoint c tag) le h = one c (checkpoint_content c h)
+fresh-fits f r (msg.LocalCommit c tag) le h = one c (local_commit_content c h)
+fresh-fits f r (msg.Spec spec) le h = one spec.content (spec_content spec.content h.1.0)
+fresh-fits f r (msg.Cert i zcert) le h = All-nil IsContent

@@ -9,7 +9,7 @@ use Rattle.ab_msg.specs.declared.chain_tags.TagBetween.{TagBetween}
 use Rattle.ab_msg.specs.declared.message.Msg.{Msg}
 use Rattle.ab_msg.specs.declared.message.Msg.TheVariants as msg
 use Rattle.ab_msg.specs.Claims.{instance_of, maker_of, ordered}
-use Rattle.ab_check.specs.Checks.{Check, tagged, signed_check, aborts_checks, offer_checks, proof_checks, all_checks, checks_of, tag_between}
+use Rattle.ab_check.specs.Checks.{Check, tagged, signed_check, answers_checks, abort_checks, aborts_checks, offer_checks, proof_checks, all_checks, checks_of, tag_between}
 use Rattle.ab_seal.specs.Receivers.{receivers}
 
 -- the checks of what others than a stated
@@ -23,13 +23,17 @@ carried_checks f a b (msg.Order content client_tag tag) = map (λ c. tagged c (S
 carried_checks f a b (msg.Resp content tag) = []
 carried_checks f a b (msg.Chain i m n d reply tags) = of_others a (checks_of f b (msg.Chain i m n d reply tags))
 carried_checks f a b (msg.Panic content tag) = []
-carried_checks f a b (msg.Abort abort) = signed_check abort ∷ []
+carried_checks f a b (msg.Abort abort) = abort_checks abort
 carried_checks f a b (msg.Init cert) = aborts_checks cert
 carried_checks f a b (msg.PrePrepare content tag offer) = offer_checks (instance_of content) offer
 carried_checks f a b (msg.Prepare prepare) = signed_check prepare ∷ []
 carried_checks f a b (msg.Commit content tag) = []
 carried_checks f a b (msg.ViewChange change) = proof_checks change
 carried_checks f a b (msg.NewView content tag changes) = all_checks changes
+carried_checks f a b (msg.Checkpoint content tag) = []
+carried_checks f a b (msg.LocalCommit content tag) = []
+carried_checks f a b (msg.Spec spec) = signed_check spec ∷ []
+carried_checks f a b (msg.Cert i zcert) = answers_checks i zcert
 
 -- a request of the instance has a tag for the party
 abbrev pub Receives : Plan → ℕ → ℕ → Party → Type 0

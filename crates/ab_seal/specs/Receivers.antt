@@ -3,7 +3,7 @@ use Rattle.std.specs.Prelude.{ℕ, ◌+◌, List, Bool, true, ◌==◌}
 use Rattle.std.specs.List.{filter, list_any, range_with_len}
 use Rattle.ab_num.specs.declared.plan.Plan.{Plan}
 use Rattle.ab_num.specs.declared.plan.Kind.{Kind}
-use Rattle.ab_num.specs.declared.plan.Kind.TheVariants.{Quorum, ZLight, Chain, Backup}
+use Rattle.ab_num.specs.declared.plan.Kind.TheVariants.{Quorum, ZLight, Chain, Backup, ZCert}
 use Rattle.ab_num.specs.Places.{kind_of, replicas_of, at_position_of}
 
 -- whether a replica is at one of the first f + 1 positions of the chain of an instance
@@ -16,6 +16,7 @@ is_receiver Quorum f instance r = true
 is_receiver ZLight f instance r = true
 is_receiver Chain f instance r = is_in_front f instance r
 is_receiver Backup f instance r = true
+is_receiver ZCert f instance r = true
 
 -- the replicas for which a request of an instance has tags, ascending
 abbrev pub receivers : Plan → ℕ → ℕ → List ℕ

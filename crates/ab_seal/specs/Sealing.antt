@@ -70,10 +70,14 @@ tagged ring to (msg.Panic content tag) = msg.Panic content (content_tag ring to 
 tagged ring to (msg.PrePrepare content tag offer) = msg.PrePrepare content (content_tag ring to content) offer
 tagged ring to (msg.Commit content tag) = msg.Commit content (content_tag ring to content)
 tagged ring to (msg.NewView content tag changes) = msg.NewView content (content_tag ring to content) changes
+tagged ring to (msg.Checkpoint content tag) = msg.Checkpoint content (content_tag ring to content)
+tagged ring to (msg.LocalCommit content tag) = msg.LocalCommit content (content_tag ring to content)
 tagged ring to (msg.Abort abort) = msg.Abort abort
 tagged ring to (msg.Init cert) = msg.Init cert
 tagged ring to (msg.Prepare prepare) = msg.Prepare prepare
 tagged ring to (msg.ViewChange change) = msg.ViewChange change
+tagged ring to (msg.Spec spec) = msg.Spec spec
+tagged ring to (msg.Cert i zcert) = msg.Cert i zcert
 
 -- whether a text asks for a command
 abbrev pub asks : Content → Bool

@@ -48,5 +48,9 @@ pub fn stated(alloc: Global, k: &Cluster, p: Party, m: &Msg) -> Result<Texts, Ou
         Msg::Commit { content, .. } => Texts::one(alloc, content),
         Msg::ViewChange { change } => Texts::one(alloc, &change.change.content),
         Msg::NewView { content, .. } => Texts::one(alloc, content),
+        Msg::Checkpoint { content, .. } => Texts::one(alloc, content),
+        Msg::LocalCommit { content, .. } => Texts::one(alloc, content),
+        Msg::Spec { spec } => Texts::one(alloc, &spec.content),
+        Msg::Cert { .. } => Ok(Texts::none(alloc)),
     }
 }

@@ -21,6 +21,6 @@ pub(crate) fn is_receiver(c: &Cluster, instance: u32, r: u8) -> bool
 {
     match c.kind(instance) {
         Kind::Chain => is_in_front(c, instance, r),
-        Kind::Quorum | Kind::ZLight | Kind::Backup => true,
+        Kind::Quorum | Kind::ZLight | Kind::Backup | Kind::ZCert => true,
     }
 }

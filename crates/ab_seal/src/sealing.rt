@@ -1,6 +1,6 @@
 //! Sealing messages.
 
-ghost use Rattle.std.specs.Prelude.{◌≡◌, ◌+◌, ◌≤◌, ◌++◌, length, IfOk, All};
+ghost use Rattle.std.specs.Prelude.{◌≡◌, ◌+◌, ◌≤◌, ◌++◌, length, IfOk};
 ghost use Rattle.ab_form.specs.Formats.{u8_bytes};
 ghost use Rattle.ab_form.specs.Lists.{u8_list};
 ghost use Rattle.ab_msg.specs.declared.message.Msg.TheVariants as msg;
@@ -8,7 +8,6 @@ ghost use Rattle.ab_msg.specs.Claims.{instance_of};
 ghost use Rattle.ab_msg.specs.Contents.{IsReq, spell_content};
 ghost use Rattle.ab_msg.specs.Fields.{spell_tags};
 ghost use Rattle.ab_msg.specs.Messages.{IsDraft, spell_message, spell_offer};
-ghost use Rattle.ab_write.specs.Writable.{AreSigned, IsProofFit};
 ghost use Rattle.ab_msg.specs.Certs.{spell_proof};
 ghost use Rattle.ab_seal.specs.Sealing.{IsOwn, content_tag, own_tags as tags_of_party, sealed, tags_made as made_tags};
 
@@ -95,7 +94,6 @@ fn seal_pre_prepare(
     content: &Content,
     offer: &Offer,
 ) -> Result<Vec<u8>, OutOfMemory>
-    requires { AreSigned offer.now }
     ensures { IfOk result (λ v. v.items ≡ u8_bytes 8 ++ ((spell_content content.now ++ content_tag k.now to content.now) ++ spell_offer offer.now)) }
 {
     let text = spelled(alloc, content)?;
@@ -113,8 +111,6 @@ fn seal_new_view(
     content: &Content,
     changes: &Proofs,
 ) -> Result<Vec<u8>, OutOfMemory>
-    requires few { length changes.now ≤ 255 }
-    requires fits { All IsProofFit changes.now }
     ensures { IfOk result (λ v. v.items ≡ u8_bytes 12 ++ (spell_content content.now ++ (content_tag k.now to content.now ++ u8_list spell_proof changes.now))) }
 {
     let text = spelled(alloc, content)?;
@@ -186,9 +182,13 @@ pub fn seal(alloc: Global, k: &KeyRing, o: &Out) -> Result<Vec<u8>, OutOfMemory>
             changes,
             ..
         } => seal_new_view(alloc, k, o.to, content, changes),
+        Msg::Checkpoint { content, .. } => seal_tagged(alloc, k, o.to, 13, content),
+        Msg::LocalCommit { content, .. } => seal_tagged(alloc, k, o.to, 14, content),
         Msg::Abort { .. } => write(alloc, &o.msg),
         Msg::Init { .. } => write(alloc, &o.msg),
         Msg::Prepare { .. } => write(alloc, &o.msg),
         Msg::ViewChange { .. } => write(alloc, &o.msg),
+        Msg::Spec { .. } => write(alloc, &o.msg),
+        Msg::Cert { .. } => write(alloc, &o.msg),
     }
 }

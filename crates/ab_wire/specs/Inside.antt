@@ -4,7 +4,7 @@ use Rattle.ab_msg.specs.declared.content.Content.{Content}
 use Rattle.ab_msg.specs.declared.message.Msg.{Msg}
 use Rattle.ab_msg.specs.declared.message.Msg.TheVariants as msg
 
--- the content that a message states by itself. A CHAIN and an INIT have none
+-- the content that a message states by itself. A CHAIN, an INIT and a CERT have none
 abbrev pub content_in : Msg → Option Content
 content_in (msg.Req content tags) = Some content
 content_in (msg.Order content client_tag tag) = Some content
@@ -18,6 +18,10 @@ content_in (msg.Prepare prepare) = Some prepare.content
 content_in (msg.Commit content tag) = Some content
 content_in (msg.ViewChange change) = Some change.change.content
 content_in (msg.NewView content tag changes) = Some content
+content_in (msg.Checkpoint content tag) = Some content
+content_in (msg.LocalCommit content tag) = Some content
+content_in (msg.Spec spec) = Some spec.content
+content_in (msg.Cert i zcert) = None
 
 -- the first tag for a replica
 abbrev pub tag_in : ℕ → List (ℕ × List ℕ) → Option (List ℕ)

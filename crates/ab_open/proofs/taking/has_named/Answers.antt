@@ -1,9 +1,9 @@
 use Rattle.std.proofs.Common.{sym, ◌∙◌}
 use Rattle.std.specs.Option.{option_map}
 use Rattle.ab_keys.specs.Keys.{is_party}
-use Rattle.ab_content.specs.Views.{content, request}
+use Rattle.ab_content.specs.Views.{content, request, zcert}
 use Rattle.ab_wire.specs.Views.{aborts, chain_tags, offered, proof, proofs, reply_of, signed, tags}
-use Rattle.ab_open.proofs.NamedLemmas.{req-names, order-names, resp-names, chain-names, panic-names, abort-names, init-names, pre_prepare-names, prepare-names, commit-names, change-names, new_view-names}
+use Rattle.ab_open.proofs.NamedLemmas.{req-names, order-names, resp-names, chain-names, panic-names, abort-names, init-names, pre_prepare-names, prepare-names, commit-names, change-names, new_view-names, checkpoint-names, local_commit-names, spec-names, cert-names}
 use Rattle.ab_open.proofs.taking.has_named.Goals as goal
 
 pub returns-in-Req : goal.returns-in-Req
@@ -25,7 +25,7 @@ pub returns-in-Chain : goal.returns-in-Chain
 returns-in-Chain c = rw c.in-Chain.is (c.has_client.ensures ∙ sym (chain-names c.args.k.now.f c.args.k.now.clients c.args.me c.in-Chain.instance (request c.in-Chain.request) c.in-Chain.n c.in-Chain.d.now (option_map reply_of c.in-Chain.reply) (chain_tags c.in-Chain.tags)))
 
 pub returns-in-Abort : goal.returns-in-Abort
-returns-in-Abort c = rw c.in-Abort.is (c.has_parties-in-Abort.ensures ∙ sym (abort-names (is_party c.args.k.now.f c.args.k.now.clients) c.args.k.now.f c.args.me (signed c.in-Abort.abort)))
+returns-in-Abort c = rw c.in-Abort.is (c.has_abort.ensures ∙ sym (abort-names (is_party c.args.k.now.f c.args.k.now.clients) c.args.k.now.f c.args.me (signed c.in-Abort.abort)))
 
 pub returns-in-Prepare : goal.returns-in-Prepare
 returns-in-Prepare c = rw c.in-Prepare.is (c.has_parties-in-Prepare.ensures ∙ sym (prepare-names (is_party c.args.k.now.f c.args.k.now.clients) c.args.k.now.f c.args.me (signed c.in-Prepare.prepare)))
@@ -41,3 +41,15 @@ returns-in-ViewChange c = (let h = rw c.in-ViewChange.is at c.requires.of_gramma
 
 pub returns-in-NewView : goal.returns-in-NewView
 returns-in-NewView c = (let h = rw c.in-NewView.is at c.requires.of_grammar in rw c.in-NewView.is (c.has_new_view.ensures ∙ sym (new_view-names (is_party c.args.k.now.f c.args.k.now.clients) c.args.k.now.f c.args.me (content c.in-NewView.content) c.in-NewView.tag.now (proofs c.in-NewView.changes) h.1.1.1)))
+
+pub returns-in-Checkpoint : goal.returns-in-Checkpoint
+returns-in-Checkpoint c = rw c.in-Checkpoint.is (c.has_parties-in-Checkpoint.ensures ∙ sym (checkpoint-names (is_party c.args.k.now.f c.args.k.now.clients) c.args.k.now.f c.args.me (content c.in-Checkpoint.content) c.in-Checkpoint.tag.now))
+
+pub returns-in-LocalCommit : goal.returns-in-LocalCommit
+returns-in-LocalCommit c = rw c.in-LocalCommit.is (c.has_parties-in-LocalCommit.ensures ∙ sym (local_commit-names (is_party c.args.k.now.f c.args.k.now.clients) c.args.k.now.f c.args.me (content c.in-LocalCommit.content) c.in-LocalCommit.tag.now))
+
+pub returns-in-Spec : goal.returns-in-Spec
+returns-in-Spec c = rw c.in-Spec.is (c.has_parties-in-Spec.ensures ∙ sym (spec-names (is_party c.args.k.now.f c.args.k.now.clients) c.args.k.now.f c.args.me (signed c.in-Spec.spec)))
+
+pub returns-in-Cert : goal.returns-in-Cert
+returns-in-Cert c = rw c.in-Cert.is (c.has_zcert.ensures ∙ sym (cert-names (is_party c.args.k.now.f c.args.k.now.clients) c.args.k.now.f c.args.me c.in-Cert.instance (zcert c.in-Cert.zcert)))
