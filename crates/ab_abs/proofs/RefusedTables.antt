@@ -1,6 +1,6 @@
 -- A rule table that keeps to what it has to, and tables that don't.
-use Rattle.std.proofs.Common.{◌≡◌, ℕ, ◌≤◌, Bool, true, false, Option, None, Some, List, [], ◌∷◌, length, refl, sym, ap, ◌∙◌, subst, inl, inr, arith, if◌then◌else◌}
-use Rattle.std.specs.Prelude.{Contains, IsTrue, not}
+use Rattle.std.proofs.Common.{◌≡◌, ℕ, ◌≤◌, Bool, true, false, Option, None, Some, List, [], ◌∷◌, length, refl, sym, ap, subst, inl, inr, arith, if◌then◌else◌}
+use Rattle.std.specs.Prelude.{Contains, IsTrue}
 use mathlib.Core.List.{IsPrefix}
 use base.Growing.{prefix_refl, prefix_trans}
 use Rattle.ab_num.specs.declared.cluster.Cluster.{Cluster}
@@ -18,8 +18,6 @@ use Rattle.ab_msg.specs.declared.message.Msg.TheVariants as msg
 use Rattle.ab_msg.specs.declared.message.Out.{Out}
 use Rattle.ab_msg.specs.Claims.{fresh}
 use Rattle.ab_msg.specs.Pens.{no_pen}
-use Rattle.ab_abs.specs.declared.entry.Entry.{Entry}
-use Rattle.ab_abs.specs.declared.vote.Vote.{Vote}
 use Rattle.ab_abs.specs.Answers.{answer_to, logged, logged_at}
 use Rattle.ab_abs.specs.Kinds.{is_backup}
 use Rattle.ab_abs.specs.Members.{Member, member_state, respond}
@@ -52,6 +50,7 @@ by_itself kind.Quorum is = refl
 by_itself kind.ZLight is = refl
 by_itself kind.Chain is = refl
 by_itself kind.Backup is = absurd (cc (is))
+by_itself kind.ZCert is = refl
 
 -- ---- requests and replicas to try
 
@@ -97,6 +96,7 @@ module _ {S : Type 0} (machine : Machine S) where
     begins = λ c i r e is. begins_there (kind_of c.plan i) e.base (by_itself (kind_of c.plan i) is);
     stops = λ c i r q was not_backup. refl;
     rests = λ c i r q was backup. not_both (kind_of c.plan i) (by_itself (kind_of c.plan i) (served (answering machine) is_by_itself c i r q was)) backup;
+    keeps_none = λ c i r q was other. refl;
   }
 
   -- ---- those that don't

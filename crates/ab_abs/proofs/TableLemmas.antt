@@ -10,19 +10,17 @@ use Rattle.ab_num.specs.declared.party.Party.TheVariants.{Replica, Client}
 use Rattle.ab_num.specs.Places.{kind_of}
 use Rattle.ab_num.proofs.Lists.{Contains-head, Contains-tail, Contains-one, Contains-none}
 use Rattle.ab_hist.specs.declared.request.Request.{Request}
-use Rattle.ab_hist.specs.Digests.{digest_of}
-use Rattle.ab_svc.specs.Machines.{Machine, Reply, IsReply}
+use Rattle.ab_svc.specs.Machines.{Machine}
 use Rattle.ab_msg.specs.declared.content.Content.{Content}
-use Rattle.ab_msg.specs.declared.content.Content.TheVariants.{Resp, ChainTag}
+use Rattle.ab_msg.specs.declared.content.Content.TheVariants.{Resp}
 use Rattle.ab_msg.specs.declared.message.Msg.TheVariants as msg
 use Rattle.ab_msg.specs.declared.message.Out.{Out}
 use Rattle.ab_msg.specs.Claims.{fresh}
-use Rattle.ab_msg.specs.Pens.{Pen}
 use Rattle.ab_abs.specs.declared.vote.Vote.{Vote}
 use Rattle.ab_abs.specs.Acts.{State}
 use Rattle.ab_abs.specs.Answers.{answer_to, logged}
 use Rattle.ab_abs.specs.Kinds.{is_backup}
-use Rattle.ab_abs.specs.Messages.{Call, took, timed, request_in}
+use Rattle.ab_abs.specs.Messages.{Call, took, request_in}
 use Rattle.ab_abs.specs.Ensembles.{Proto}
 use Rattle.ab_abs.specs.FormLaws.{Belongs, begun, called, halted}
 use Rattle.ab_abs.specs.Members.{respond}
@@ -46,6 +44,7 @@ unasked kind.Quorum (took (msg.Req content tags)) is = absurd (cc (is))
 unasked kind.ZLight (took (msg.Req content tags)) is = absurd (cc (is))
 unasked kind.Chain (took (msg.Req content tags)) is = absurd (cc (is))
 unasked kind.Backup (took (msg.Req content tags)) is = absurd (cc (is))
+unasked kind.ZCert (took (msg.Req content tags)) is = absurd (cc (is))
 unasked k _ is = refl
 
 -- a kind other than Backup begins with its base, and is no Backup
@@ -54,6 +53,7 @@ begins_there kind.Quorum base is = refl
 begins_there kind.ZLight base is = refl
 begins_there kind.Chain base is = refl
 begins_there kind.Backup base is = absurd (cc (is))
+begins_there kind.ZCert base is = refl
 
 pub not_both : {A : Type 0} (k : Kind) → is_backup k ≡ false → is_backup k ≡ true → A
 not_both k other backup = absurd (let e : true ≡ false = sym backup ∙ other in cc (e))

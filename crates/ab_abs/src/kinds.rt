@@ -12,7 +12,7 @@ pub fn need(kind: Kind, f: u8) -> u8
     ensures { result ≡ need_of kind f }
 {
     match kind {
-        Kind::Quorum | Kind::ZLight | Kind::Chain => 2 * f + 1,
+        Kind::Quorum | Kind::ZLight | Kind::Chain | Kind::ZCert => 2 * f + 1,
         Kind::Backup => f + 1,
     }
 }
@@ -22,7 +22,7 @@ pub fn needs_equal(kind: Kind) -> bool
     ensures { result ≡ needs_equal kind }
 {
     match kind {
-        Kind::Quorum | Kind::ZLight | Kind::Chain => false,
+        Kind::Quorum | Kind::ZLight | Kind::Chain | Kind::ZCert => false,
         Kind::Backup => true,
     }
 }
@@ -36,15 +36,16 @@ pub fn reply_rule(kind: Kind, f: u8) -> ReplyRule
         Kind::Quorum | Kind::ZLight => ReplyRule::All,
         Kind::Chain => ReplyRule::Tail,
         Kind::Backup => ReplyRule::Equal(f + 1),
+        Kind::ZCert => ReplyRule::Certified,
     }
 }
 
-/// Whether a client commits by responses. If not, it commits by a CHAIN.
+/// Whether a client commits by responses. If not, it commits by a CHAIN, or on signed answers.
 pub fn counts_responses(kind: Kind) -> bool
     ensures { result ≡ counts_responses kind }
 {
     match kind {
         Kind::Quorum | Kind::ZLight | Kind::Backup => true,
-        Kind::Chain => false,
+        Kind::Chain | Kind::ZCert => false,
     }
 }

@@ -44,6 +44,7 @@ use Rattle.ab_fixtures.specs.NullRules.{Idle, is_of_most, member_of, null, IsSou
 abbrev pub is_most : ReplyRule → Bool
 is_most rules.All = true
 is_most (rules.Equal q) = false
+is_most rules.Certified = false
 is_most rules.Tail = true
 
 most_of : (k : Kind) (f : ℕ) → IsTrue (is_of_most k) → IsTrue (is_most (rule_of k f))
@@ -51,6 +52,7 @@ most_of kind.Quorum f served = served
 most_of kind.ZLight f served = served
 most_of kind.Chain f served = served
 most_of kind.Backup f served = absurd (cc (served))
+most_of kind.ZCert f served = absurd (cc (served))
 
 written_of : (c : Cluster) (i r : ℕ) (q : Idle) → Arises null is_of_most c i r q → IsWritten q.log
 written_of c i r q (from_entry e served placed lt entry) = entry.base
@@ -67,12 +69,16 @@ form_law = record {
   enters = λ c i r e. refl;
   entered_stays = λ pen q call. refl;
   entered_rests = λ q. refl;
+  zcert_stays = λ c i r pen q call was stopped. refl;
+  zcert_rests = λ q. refl;
+  zcert_beside = λ c i r q was. refl;
   own = λ c i r pen q call o s was sent has. absurd (Contains-none o sent);
   silent = λ c i r pen q call o s was stopped sent has. absurd (Contains-none o sent);
   signed = λ pen q call o v sent has. absurd (Contains-none o sent);
   sent = λ pen q call s has. absurd (Contains-none s has);
   settles = λ c i r pen q call cert was is formed. inl refl;
   written = λ c i r q was. written_of c i r q was;
+  zcert_written = λ c i r q was. tt;
   drafts = λ c i r pen q call lawful was formed o sent. absurd (Contains-none o sent);
 }
 
@@ -83,6 +89,7 @@ no_backup kind.Quorum served = refl
 no_backup kind.ZLight served = refl
 no_backup kind.Chain served = refl
 no_backup kind.Backup served = absurd (cc (served))
+no_backup kind.ZCert served = refl
 
 pub rule_law : {S : Type 0} (machine : Machine S) → KeepsRules machine null is_of_most
 rule_law machine = record {
@@ -91,12 +98,14 @@ rule_law machine = record {
   begins = λ c i r e is. begins_there (kind_of c.plan i) e.base (no_backup (kind_of c.plan i) is);
   stops = λ c i r q was other. refl;
   rests = λ c i r q was backup. refl;
+  keeps_none = λ c i r q was other. refl;
 }
 
 module _ {S : Type 0} (machine : Machine S) (x : Setting) where
   nil_by : (rule : ReplyRule) → IsTrue (is_most rule) → 1 ≤ x.i → Premises x [] → IsSoundBy machine rule x []
   nil_by rules.All most one premises = nil_sound machine x one premises
   nil_by (rules.Equal q) most one premises = absurd (cc (most))
+  nil_by rules.Certified most one premises = absurd (cc (most))
   nil_by rules.Tail most one premises = tail_nil machine x one premises
 
   pub nil_law : IsTrue (is_of_most (kind_in x)) → 1 ≤ x.i → Premises x [] → IsNullSound machine x []
@@ -109,6 +118,7 @@ module _ {S : Type 0} (machine : Machine S) (x : Setting) where
     start_by : (rule : ReplyRule) → IsTrue (is_most rule) → (me : ℕ) (e : Entry) → MayStart x acts me e.base → GoesBy rule me (null.begin x.cluster x.i me e) (begin_of null x me e)
     start_by rules.All most me e may = begins_at machine x acts me e.base (member_of (null.begin x.cluster x.i me e)) refl refl refl refl may
     start_by (rules.Equal q) most me e may = absurd (cc (most))
+    start_by rules.Certified most me e may = absurd (cc (most))
     start_by rules.Tail most me e may =
         let next = tail_starts machine x acts me e.base (member_state (member_of (null.begin x.cluster x.i me e))) (record { based = refl; logged = refl }) may in
         (record { placed = refl; owned = refl; stands = next.0 }, next.1)
@@ -120,6 +130,7 @@ module _ {S : Type 0} (machine : Machine S) (x : Setting) where
         → GoesBy rule me q (call_of me claims values [] seen (member_state (member_of q)))
     rest_by rules.All most me q claims values seen noted was = rests_at machine x acts me (member_of q) claims values seen noted was
     rest_by (rules.Equal n) most me q claims values seen noted was = absurd (cc (most))
+    rest_by rules.Certified most me q claims values seen noted was = absurd (cc (most))
     rest_by rules.Tail most me q claims values seen noted was =
         let p = position_there x.cluster.f x.i me was.stands.within in
         let s = member_state (member_of q) in
@@ -136,6 +147,7 @@ module _ {S : Type 0} (machine : Machine S) (x : Setting) where
     others_by : (rule : ReplyRule) → IsTrue (is_most rule) → (a : Act) → is_faulty x.faulty a.party ≡ false → IsOtherBy rule x acts a → IsSoundBy machine rule x acts → Premises x (a ∷ acts) → IsSoundBy machine rule x (a ∷ acts)
     others_by rules.All most a correct is was premises = others_sound machine x acts a correct is was premises
     others_by (rules.Equal q) most a correct is was premises = absurd (cc (most))
+    others_by rules.Certified most a correct is was premises = absurd (cc (most))
     others_by rules.Tail most a correct is was premises = tail_others machine x acts a correct is was premises
 
     pub others_law : (a : Act) → IsTrue (is_of_most (kind_in x)) → is_faulty x.faulty a.party ≡ false → IsOther x acts a → IsNullSound machine x acts → Premises x (a ∷ acts) → IsNullSound machine x (a ∷ acts)
@@ -144,6 +156,7 @@ module _ {S : Type 0} (machine : Machine S) (x : Setting) where
     abstract_by : (rule : ReplyRule) → IsTrue (is_most rule) → IsSoundBy machine rule x acts → IsAbstract machine (observations acts) (named_in x acts) x.faulty x.i
     abstract_by rules.All most sound = promises machine x acts sound
     abstract_by (rules.Equal q) most sound = absurd (cc (most))
+    abstract_by rules.Certified most sound = absurd (cc (most))
     abstract_by rules.Tail most sound = tail_promises machine x acts sound
 
     pub abstract_law : IsTrue (is_of_most (kind_in x)) → IsNullSound machine x acts → IsAbstract machine (observations acts) (named_in x acts) x.faulty x.i
@@ -152,6 +165,7 @@ module _ {S : Type 0} (machine : Machine S) (x : Setting) where
     names_by : (rule : ReplyRule) → IsTrue (is_most rule) → IsSoundBy machine rule x acts → (a : Act) → Contains acts a → (s : Seen) → Contains a.observations s → observed_in s ≡ x.i
     names_by rules.All most sound a is s has = names_own machine x.cluster x.faulty x.i acts sound.lawful a is s has
     names_by (rules.Equal q) most sound a is s has = absurd (cc (most))
+    names_by rules.Certified most sound a is s has = absurd (cc (most))
     names_by rules.Tail most sound a is s has = named_here rules.Tail x BeginsThere (TailCalls machine x) IsLater (tail_keeping machine x) acts sound.lawful a is s has
 
     pub names_law : IsTrue (is_of_most (kind_in x)) → IsNullSound machine x acts → (a : Act) → Contains acts a → (s : Seen) → Contains a.observations s → observed_in s ≡ x.i

@@ -1,8 +1,8 @@
 //! A replica that takes no request.
 
-use ab_abs::{Entry, Protocol, StepFault, needs_equal};
+use ab_abs::{Entry, Protocol, StepFault};
 use ab_hist::History;
-use ab_msg::{Notary, Outs};
+use ab_msg::{Notary, Outs, Zcert};
 use ab_num::{Cluster, Kind, OutOfMemory};
 use ab_svc::Service;
 use ab_wire::MsgRef;
@@ -43,7 +43,10 @@ impl<S: Service> Protocol<S> for Null<S> {
     ghost counted = { λ q. None };
 
     fn runs(kind: Kind) -> bool {
-        !needs_equal(kind)
+        match kind {
+            Kind::Quorum | Kind::ZLight | Kind::Chain => true,
+            Kind::Backup | Kind::ZCert => false,
+        }
     }
 
     fn start(alloc: Global, _c: &Cluster, i: u32, me: u8, e: &Entry) -> Result<Self, OutOfMemory> {
@@ -92,6 +95,10 @@ impl<S: Service> Protocol<S> for Null<S> {
     }
 
     fn first(&self) -> Option<&History> {
+        None
+    }
+
+    fn zcert(&self) -> Option<&Zcert> {
         None
     }
 

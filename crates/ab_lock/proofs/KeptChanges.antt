@@ -9,7 +9,7 @@ use Rattle.ab_lock.specs.Quorums.{IsOlder}
 use Rattle.ab_lock.specs.Steps.{Cert, entry_of}
 use Rattle.ab_lock.specs.Acts.{Prepare, ViewChange, LockAct, Knows, KnowsQuorum}
 use Rattle.ab_lock.specs.ViewChanges.{Kept, put, IsRising}
-use Rattle.ab_lock.proofs.QuorumLemmas.{out_apart}
+use Rattle.ab_abs.proofs.Quorums.{out_apart}
 use Rattle.ab_lock.proofs.ActLemmas.{Knows-more, quorum_more}
 use Rattle.ab_lock.specs.Standing.{AreKeptChanges}
 

@@ -13,7 +13,7 @@ use Rattle.std.proofs.Math.Seq.{take-length}
 use Rattle.ab_num.proofs.Lists.{slice_get_there, Contains-map_cases}
 use Rattle.ab_lock.proofs.Consistent.{Fit}
 use Rattle.ab_lock.proofs.Traces.{was_allowed, signs_once, prepared_fit, change_names, entered, prepared_good}
-use Rattle.ab_lock.proofs.QuorumLemmas.{quorums_meet, third_meets, correct_part}
+use Rattle.ab_lock.proofs.QuorumLemmas.{replicas_meet, third_meets, correct_part}
 
 module _ {V X : Type 0} (digest : V → X) (f : ℕ) (faulty : List Party) (traces : ℕ → List (Step V X)) (Source : ℕ → V → Type 0) (goes : List V → V → Bool) (k : ℕ) (p : TracePremises digest f faulty traces Source goes k) where
   abbrev Correct : ℕ → Type 0
@@ -25,7 +25,7 @@ module _ {V X : Type 0} (digest : V → X) (f : ℕ) (faulty : List Party) (trac
   -- two certificates of one view and slot have one digest
   pub one_digest : (v n : ℕ) (x y : X) → Certified v n x → Certified v n y → x ≡ y
   one_digest v n x y a b =
-      let m = quorums_meet faulty f a.by b.by p.few a.replicas b.replicas (omega (arith, a.enough)) (omega (arith, b.enough)) in
+      let m = replicas_meet faulty f a.by b.by p.few a.replicas b.replicas (omega (arith, a.enough)) (omega (arith, b.enough)) in
       let ok : Correct m.at = (m.within, m.correct) in
       signs_once digest goes k (traces m.at) v n x y (p.follows m.at ok) (a.signed m.at m.in_one ok) (b.signed m.at m.in_other ok)
 
@@ -72,7 +72,7 @@ module _ {V X : Type 0} (digest : V → X) (f : ℕ) (faulty : List Party) (trac
 
       has_high : (t : ℕ) → t < length h → HasHigh t
       has_high t lt =
-          let m = third_meets faulty f locked.by (map (λ c. c.by) vcs) locked.replicas all_fit.replicas locked.enough (omega (arith, all_fit.enough, length-map vcs (λ (c : Change V). c.by))) in
+          let m = third_meets f locked.by (map (λ c. c.by) vcs) locked.replicas all_fit.replicas locked.enough (omega (arith, all_fit.enough, length-map vcs (λ (c : Change V). c.by))) in
           let c = Contains-map_cases (λ c. c.by) vcs m.0 m.2 in
           let held = locked.each m.0 m.1 in
           let good : Correct c.0.by = subst (λ (q : ℕ). Correct q) (sym c.2) held.0 in

@@ -15,7 +15,7 @@ use Rattle.ab_num.proofs.Lists.{Contains-head, Contains-tail, Contains-cons_case
 use Rattle.ab_lock.proofs.CertLemmas.{with_cert-last, with_cert-other}
 use Rattle.ab_lock.proofs.Lists.{nth_map, map_take, Contains-take}
 use Rattle.ab_lock.proofs.Traces.{views_below, prepared_fit}
-use Rattle.ab_lock.proofs.QuorumLemmas.{out_apart, apart_out}
+use Rattle.ab_abs.proofs.Quorums.{out_apart, apart_out}
 use Rattle.ab_lock.proofs.VoteLemmas.{take_distinct}
 use Rattle.ab_lock.proofs.ChoosingLemmas.{chosen_of-IsChosen}
 

@@ -16,7 +16,7 @@ use Rattle.ab_lock.specs.Votes.{SlotVote, is_for, voters, IsOnce, or_else, is_en
 use Rattle.ab_lock.specs.Standing.{AreKeptVotes, ArePrepares, AreCommits}
 use Rattle.ab_lock.proofs.Lists.{Contains-take}
 use Rattle.ab_lock.proofs.Consistent.{IsConsistent, consistent}
-use Rattle.ab_lock.proofs.QuorumLemmas.{out_apart, apart_out}
+use Rattle.ab_abs.proofs.Quorums.{out_apart, apart_out}
 
 module _ {X : Type 0} (same : X → X → Bool) (decides : (x y : X) → Decides (same x y) (x ≡ y)) where
   record IsVote (votes : List (SlotVote X)) (n : ℕ) (x : X) (q : ℕ) : Type 0 where

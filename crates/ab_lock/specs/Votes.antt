@@ -1,5 +1,5 @@
 -- What a replica goes on to do by itself, from the votes that it keeps.
-use Rattle.std.specs.Prelude.{◌≡◌, ℕ, zero, suc, ◌+◌, Bool, ◌==◌, ◌&&◌, nat_lt, nat_le, if◌then◌else◌, Option, Some, None, List, [], ◌∷◌, ◌++◌, length, take, slice_get, Contains, pred}
+use Rattle.std.specs.Prelude.{◌≡◌, ℕ, zero, suc, Bool, ◌==◌, ◌&&◌, nat_lt, nat_le, if◌then◌else◌, Option, Some, None, List, [], ◌∷◌, ◌++◌, length, take, slice_get, Contains, pred}
 use Rattle.std.specs.List.{list_any}
 use Rattle.ab_lock.specs.Quorums.{quorum}
 use Rattle.ab_lock.specs.Steps.{Step, accepts, signs, prepares, changes, enters, executes, State, after}

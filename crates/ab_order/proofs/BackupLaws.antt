@@ -10,7 +10,7 @@ use Rattle.ab_hist.specs.declared.request.Request.{Request}
 use Rattle.ab_hist.specs.Histories.{IsHistory, place_in}
 use Rattle.ab_svc.specs.Machines.{Machine}
 use Rattle.ab_msg.specs.declared.content.Content.{Content}
-use Rattle.ab_msg.specs.declared.content.Content.TheVariants.{Req, Order, Resp, ChainTag, Panic, Abort, PrePrepare, Prepare, Commit, ViewChange, NewView}
+use Rattle.ab_msg.specs.declared.content.Content.TheVariants.{Req, Order, Resp, ChainTag, Panic, Abort, PrePrepare, Prepare, Commit, ViewChange, NewView, Checkpoint, Spec, LocalCommit, AbortZ}
 use Rattle.ab_abs.specs.declared.seen.Seen.{Seen}
 use Rattle.ab_abs.specs.declared.rule.ReplyRule.TheVariants as rules
 use Rattle.ab_num.specs.Places.{limit_of}
@@ -83,6 +83,10 @@ inner_orders (Resp maker i c stamp n d reply) is = refl
 inner_orders (ChainTag maker i c stamp n d) is = refl
 inner_orders (Panic maker i) is = refl
 inner_orders (Abort maker i h) is = refl
+inner_orders (Checkpoint maker i n d) is = refl
+inner_orders (Spec maker i c stamp n d reply) is = refl
+inner_orders (LocalCommit maker i c stamp n d) is = refl
+inner_orders (AbortZ maker i h zcert) is = refl
 inner_orders (PrePrepare maker i view slot d) is = absurd (cc (is))
 inner_orders (Prepare maker i view slot d) is = absurd (cc (is))
 inner_orders (Commit maker i view slot d) is = absurd (cc (is))

@@ -13,7 +13,7 @@ use Rattle.ab_hist.specs.declared.request.Request.{Request}
 use Rattle.ab_hist.specs.Digests.{digest_of}
 use Rattle.ab_svc.specs.Machines.{Machine}
 use Rattle.ab_msg.specs.declared.content.Content.{Content}
-use Rattle.ab_msg.specs.declared.content.Content.TheVariants.{Req, Order, Resp, ChainTag, Panic, Abort, PrePrepare, Prepare, Commit, ViewChange, NewView}
+use Rattle.ab_msg.specs.declared.content.Content.TheVariants.{Req, Order, Resp, ChainTag, Panic, Abort, PrePrepare, Prepare, Commit, ViewChange, NewView, Spec, LocalCommit}
 use Rattle.ab_msg.specs.declared.message.Msg.{Msg}
 use Rattle.ab_msg.specs.declared.message.Msg.TheVariants as msg
 use Rattle.ab_msg.specs.declared.message.Out.{Out}
@@ -45,6 +45,8 @@ ordering_backed machine at (Req maker i m) is = absurd (cc (is))
 ordering_backed machine at (Order maker i n m) is = absurd (cc (is))
 ordering_backed machine at (Resp maker i c stamp n d reply) is = absurd (cc (is))
 ordering_backed machine at (ChainTag maker i c stamp n d) is = absurd (cc (is))
+ordering_backed machine at (Spec maker i c stamp n d reply) is = absurd (cc (is))
+ordering_backed machine at (LocalCommit maker i c stamp n d) is = absurd (cc (is))
 ordering_backed machine at _ is = tt
 
 -- what is an answer stands in the log
@@ -78,6 +80,7 @@ untaken_backup : (k : Kind) (stopped : Bool) (call : Call) → is_backup k ≡ t
 untaken_backup kind.Quorum stopped call is shut = absurd (cc (is))
 untaken_backup kind.ZLight stopped call is shut = absurd (cc (is))
 untaken_backup kind.Chain stopped call is shut = absurd (cc (is))
+untaken_backup kind.ZCert stopped call is shut = absurd (cc (is))
 untaken_backup kind.Backup true call is shut = shut
 untaken_backup kind.Backup false call is shut = shut
 
@@ -85,6 +88,7 @@ begins_empty : (k : Kind) (base : List Request) → is_backup k ≡ true → [] 
 begins_empty kind.Quorum base is = absurd (cc (is))
 begins_empty kind.ZLight base is = absurd (cc (is))
 begins_empty kind.Chain base is = absurd (cc (is))
+begins_empty kind.ZCert base is = absurd (cc (is))
 begins_empty kind.Backup base is = refl
 
 module _ {S P Q : Type 0} (machine : Machine S) (orders : OrderProto P Q) (proto : Ordering Q Reading) (obeys : Obeys orders proto) (orderly : IsOrderly handed proto)
@@ -206,4 +210,5 @@ module _ {S P Q : Type 0} (machine : Machine S) (orders : OrderProto P Q) (proto
         (laws.begins_blank machine orders proto obeys orderly order_sound order_stands law c i r e).0 ∙ begins_empty (kind_of c.plan i) e.base is;
     stops = λ c i r v was other_kind. not_both (kind_of c.plan i) other_kind (kind_law c i r v was);
     rests = λ c i r v was is. refl;
+    keeps_none = λ c i r v was other_kind. refl;
   }

@@ -5,7 +5,7 @@ use Rattle.ab_num.specs.declared.party.Party.TheVariants.{Replica, Client}
 use Rattle.ab_hist.specs.declared.request.Request.{Request}
 use Rattle.ab_hist.specs.Histories.{IsHistory, Comparable}
 use Rattle.ab_msg.specs.declared.content.Content.{Content}
-use Rattle.ab_msg.specs.declared.content.Content.TheVariants.{Req, Order, Resp, ChainTag, Panic, Abort, PrePrepare, Prepare, Commit, ViewChange, NewView}
+use Rattle.ab_msg.specs.declared.content.Content.TheVariants.{Req, Order, Resp, ChainTag, Panic, Abort, PrePrepare, Prepare, Commit, ViewChange, NewView, Checkpoint, Spec, LocalCommit, AbortZ}
 use Rattle.ab_msg.specs.declared.value.Value.{Value}
 use Rattle.ab_msg.specs.declared.value.Value.TheVariants as value
 use Rattle.ab_msg.specs.Slots.{slot_digest}
@@ -28,6 +28,10 @@ is_ordering (Prepare maker i view slot d) = true
 is_ordering (Commit maker i view slot d) = true
 is_ordering (ViewChange maker i view entries) = true
 is_ordering (NewView maker i view) = true
+is_ordering (Checkpoint maker i n d) = false
+is_ordering (Spec maker i c stamp n d reply) = false
+is_ordering (LocalCommit maker i c stamp n d) = false
+is_ordering (AbortZ maker i h zcert) = false
 
 -- the values of some VIEW-CHANGEs
 abbrev pub values_shown : List (List Value) → List Value

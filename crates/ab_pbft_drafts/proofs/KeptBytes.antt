@@ -13,7 +13,7 @@ use Rattle.ab_msg.specs.declared.signed.Signed.{Signed}
 use Rattle.ab_msg.specs.declared.change.Proof.{Proof}
 use Rattle.ab_msg.specs.Fields.{IsInstance, IsWritten, IsSig}
 use Rattle.ab_msg.specs.Certs.{AreAborts, IsSigned, IsProof}
-use Rattle.ab_msg.specs.Contents.{IsAbort}
+use Rattle.ab_msg.specs.Contents.{IsStopContent}
 use Rattle.ab_msg.specs.Pens.{Pen}
 use Rattle.ab_abs.specs.declared.entry.Entry.{Entry}
 use Rattle.ab_abs.specs.Messages.{Call, IsFormed}
@@ -138,7 +138,7 @@ module _ (c : Cluster) (i me : ℕ) (placed : IsInstance i) (owned : me < 3 * c.
 -- ---- all that arises
 
 entry_formed : (o : Option (List Signed)) → ((cert : List Signed) → o ≡ Some cert → AreAborts 1 7 cert) → AreAborts 0 7 (unwrap_or o [])
-entry_formed None each = ((omega arith, omega arith), All-nil (IsSigned IsAbort))
+entry_formed None each = ((omega arith, omega arith), All-nil (IsSigned IsStopContent))
 entry_formed (Some cert) each = let is = each cert refl in ((omega arith, is.0.1), is.1)
 
 begun_in_form : (c : Cluster) (i r : ℕ) (e : Entry) → IsWrittenEntry e → IsInForm c i r (signing.begin c i r e)

@@ -7,7 +7,7 @@ ghost use Rattle.ab_lock.specs.Quorums.{quorum};
 ghost use Rattle.ab_pbft_shelf.specs.Shelves.{is_of, is_for, has_ballot, put_ballot, signer_in, signers_below, certified_by};
 
 use crate::kept::{Certified, SignedVote};
-use ab_msg::{Copied, Sig, SlotPrepares, Value};
+use ab_msg::{Copied, Sig, Signatures, Value};
 use ab_num::{Cluster, OutOfMemory};
 use ab_slots::slot_digest;
 use std::alloc::Global;
@@ -108,6 +108,6 @@ pub(crate) fn certified_by(
     Ok(Certified {
         at: view,
         value,
-        prepares: SlotPrepares::of(by),
+        prepares: Signatures::of(by),
     })
 }

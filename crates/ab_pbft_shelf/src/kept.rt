@@ -2,7 +2,7 @@
 
 ghost use Rattle.std.specs.Prelude.{◌≡◌, ◌≤◌, IfOk, length};
 
-use ab_msg::{Copied, Sig, SlotPrepares, Tag, Tags, Value};
+use ab_msg::{Copied, Sig, Signatures, Tag, Tags, Value};
 use ab_num::OutOfMemory;
 use arrayvec::ArrayVec;
 use std::alloc::Global;
@@ -31,7 +31,7 @@ impl Drop for SignedVote {
 pub struct Certified {
     pub at: u32,
     pub value: Value,
-    pub prepares: SlotPrepares,
+    pub prepares: Signatures,
 }
 
 impl Drop for Certified {

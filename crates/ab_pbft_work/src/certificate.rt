@@ -2,7 +2,7 @@
 
 ghost use Rattle.std.specs.Prelude.{◌≡◌, All, IfOk};
 ghost use Rattle.ab_msg.specs.Certs.{IsSigned};
-ghost use Rattle.ab_msg.specs.Contents.{IsAbort};
+ghost use Rattle.ab_msg.specs.Contents.{IsStopContent};
 ghost use Rattle.ab_wire.specs.Views.{aborts};
 ghost use Rattle.ab_order.specs.Readings.{base_offered};
 
@@ -21,7 +21,7 @@ pub(crate) fn base_offered<'a>(
     i: u32,
     cert: &ListRef<'a, SignedRef<'a>>,
 ) -> Result<Option<History>, OutOfMemory>
-    requires { All (IsSigned IsAbort) (aborts cert.now) }
+    requires { All (IsSigned IsStopContent) (aborts cert.now) }
     ensures { IfOk result (λ o. o ≡ base_offered c.now i (aborts cert.now)) }
 {
     if i > 1 {

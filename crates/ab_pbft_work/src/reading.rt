@@ -3,7 +3,7 @@
 ghost use Rattle.std.specs.Prelude.{◌≡◌, ℕ, All, IfOk};
 ghost use Rattle.ab_msg.specs.declared.message.Offer.TheVariants as offers;
 ghost use Rattle.ab_msg.specs.Certs.{IsProof, IsSigned};
-ghost use Rattle.ab_msg.specs.Contents.{IsAbort, IsReq};
+ghost use Rattle.ab_msg.specs.Contents.{IsStopContent, IsReq};
 ghost use Rattle.ab_msg.specs.Messages.{IsOffer};
 ghost use Rattle.ab_content.specs.Views.{content as shown};
 ghost use Rattle.ab_wire.specs.Views.{IsReceived, aborts, message, offered, proof as shown_proof, proofs as shown_proofs};
@@ -57,7 +57,7 @@ fn read_base<'a>(
     place: SlotPlace,
     cert: &ListRef<'a, SignedRef<'a>>,
 ) -> Result<Reading, OutOfMemory>
-    requires { All (IsSigned IsAbort) (aborts cert.now) }
+    requires { All (IsSigned IsStopContent) (aborts cert.now) }
     ensures { IfOk result (λ e. input_of e ≡ read_offer c.now i place.by place.view place.slot place.x (offers.Base (aborts cert.now))) }
 {
     let SlotPlace { by, view, slot, x } = place;

@@ -29,6 +29,7 @@ no_backup kind.Quorum is = refl
 no_backup kind.ZLight is = refl
 no_backup kind.Chain is = refl
 no_backup kind.Backup is = absurd (cc (is))
+no_backup kind.ZCert is = refl
 
 module _ {S : Type 0} (machine : Machine S) where
   based : (c : Cluster) (i r : ℕ) (q : Member) → Belongs (quorum machine) is_quorum c i r q → IsPrefix q.base q.log
@@ -63,4 +64,5 @@ module _ {S : Type 0} (machine : Machine S) where
     begins = λ c i r e is. begins_there (kind_of c.plan i) e.base (no_backup (kind_of c.plan i) is);
     stops = λ c i r q was other. refl;
     rests = λ c i r q was backup. not_both (kind_of c.plan i) (no_backup (kind_of c.plan i) (served (quorum machine) is_quorum c i r q was)) backup;
+    keeps_none = λ c i r q was other. refl;
   }

@@ -31,7 +31,7 @@ named_nothing faulty logs replicas d =
 pub nothing_forgotten : (faulty : List Party) (logs : ℕ → List Request) (replicas : ℕ) (h : List Request) → whole_of (history_at faulty replicas logs) (untrimmed h) ≡ h
 nothing_forgotten faulty logs replicas h = ap (λ (x : List Request). x ++ h) (named_nothing faulty logs replicas (untrimmed h).digest)
 
-pub same_place : (old : State) (p : Place) → p.log.start ≡ 0 → p.first ≡ None → next_state old p ≡ record { entered = old.entered; base = take p.base p.log.rest; log = p.log.rest; stopped = p.stopped; first = None }
+pub same_place : (old : State) (p : Place) → p.log.start ≡ 0 → p.first ≡ None → next_state old p ≡ record { entered = old.entered; base = take p.base p.log.rest; log = p.log.rest; stopped = p.stopped; first = None; zcert = p.zcert }
 same_place old p none no_first =
     let log_is : take p.log.start (own_list old) ++ p.log.rest ≡ p.log.rest = ap (λ n. take n (own_list old) ++ p.log.rest) none in
-    λ i. record { entered = old.entered; base = take p.base (log_is i); log = log_is i; stopped = p.stopped; first = whole_first (own_list old) (no_first i) }
+    λ i. record { entered = old.entered; base = take p.base (log_is i); log = log_is i; stopped = p.stopped; first = whole_first (own_list old) (no_first i); zcert = p.zcert }

@@ -13,19 +13,19 @@ use Rattle.ab_stable.specs.Stable.{HasFront}
 use Rattle.ab_stable.specs.Leaving.{Leaves, nothing, kept, marks, forgets}
 use Rattle.ab_abs.specs.Rules.{IsSound}
 use Rattle.ab_stable.specs.MarkedActs.{AreMarked, AreActsWithMarks, AreAllThere, IsStable}
-use Rattle.ab_stable.specs.SmallMarks.{tag_of, is_tag, marks_small, marked_once, marked_twice, marked_thrice, marked_early, marked_aborted, marked_acts}
+use Rattle.ab_stable.specs.SmallMarks.{checkpoint_of, is_checkpoint, marks_small, marked_once, marked_twice, marked_thrice, marked_early, marked_aborted, marked_acts}
 
 module _ {S : Type 0} (machine : Machine S) (m : Request) where
-  committed_left : Leaves is_tag (committed_acts machine m) (committed_acts machine m)
+  committed_left : Leaves is_checkpoint (committed_acts machine m) (committed_acts machine m)
   committed_left =
       kept _ _ _ (kept _ _ _ (kept _ _ _ (kept _ _ _ (kept _ _ _ (kept _ _ _ (kept _ _ _ (kept _ _ _ (kept _ _ _ (kept _ _ _ nothing)))))))))
 
-  early_left : Leaves is_tag (marked_early machine m) (committed_acts machine m)
+  early_left : Leaves is_checkpoint (marked_early machine m) (committed_acts machine m)
   early_left =
-      forgets 0 _ _ (marks 3 (tag_of 3 1 (digest_of (m ∷ []))) _ _ refl (marks 2 (tag_of 2 1 (digest_of (m ∷ []))) _ _ refl
-      (marks 1 (tag_of 1 1 (digest_of (m ∷ []))) _ _ refl (marks 0 (tag_of 0 1 (digest_of (m ∷ []))) _ _ refl committed_left))))
+      forgets 0 _ _ (marks 3 (checkpoint_of 3 1 (digest_of (m ∷ []))) _ _ refl (marks 2 (checkpoint_of 2 1 (digest_of (m ∷ []))) _ _ refl
+      (marks 1 (checkpoint_of 1 1 (digest_of (m ∷ []))) _ _ refl (marks 0 (checkpoint_of 0 1 (digest_of (m ∷ []))) _ _ refl committed_left))))
 
-  leaves : Leaves is_tag (marked_acts machine m) (small_acts machine m)
+  leaves : Leaves is_checkpoint (marked_acts machine m) (small_acts machine m)
   leaves = kept _ _ _ (kept _ _ _ (kept _ _ _ (kept _ _ _ (kept _ _ _ (kept _ _ _ (kept _ _ _ early_left))))))
 
   honest : NoCollision (histories (small_acts machine m)) → SlotsApart (histories (small_acts machine m)) (requests (small_acts machine m)) → IsHonest small (marked_acts machine m)
@@ -56,17 +56,17 @@ module _ {S : Type 0} (machine : Machine S) (m : Request) where
         ),
       )
 
-  -- what is no tag is no CHECKPOINT
-  no_mark : (c : Content) (r n : ℕ) (d : List ℕ) → is_tag c ≡ false → Contains (c ∷ []) (tag_of r n d) → ⊥
-  no_mark c r n d is has = let both : true ≡ false = sym (ap is_tag (Contains-one c (tag_of r n d) has)) ∙ is in cc (both)
+  -- another content is no CHECKPOINT
+  no_mark : (c : Content) (r n : ℕ) (d : List ℕ) → is_checkpoint c ≡ false → Contains (c ∷ []) (checkpoint_of r n d) → ⊥
+  no_mark c r n d is has = let both : true ≡ false = sym (ap is_checkpoint (Contains-one c (checkpoint_of r n d) has)) ∙ is in cc (both)
 
   abbrev IsRight : List Act → ℕ → ℕ → List ℕ → Type 0
   IsRight acts r n d = (s : State) × (state_of acts r ≡ Some s) × HasFront s.log n d
 
   -- a CHECKPOINT of the one request that a replica has logged
-  own_mark : (acts : List Act) (q : ℕ) → state_of acts q ≡ Some (holding m false) → (r n : ℕ) (d : List ℕ) → Contains (tag_of q 1 (digest_of (m ∷ [])) ∷ []) (tag_of r n d) → IsRight acts r n d
+  own_mark : (acts : List Act) (q : ℕ) → state_of acts q ≡ Some (holding m false) → (r n : ℕ) (d : List ℕ) → Contains (checkpoint_of q 1 (digest_of (m ∷ [])) ∷ []) (checkpoint_of r n d) → IsRight acts r n d
   own_mark acts q at r n d has =
-      let e : tag_of q 1 (digest_of (m ∷ [])) ≡ tag_of r n d = Contains-one (tag_of q 1 (digest_of (m ∷ []))) (tag_of r n d) has in
+      let e : checkpoint_of q 1 (digest_of (m ∷ [])) ≡ checkpoint_of r n d = Contains-one (checkpoint_of q 1 (digest_of (m ∷ []))) (checkpoint_of r n d) has in
       let by : q ≡ r = cc (e) in
       let number : 1 ≡ n = cc (e) in
       let digest : digest_of (m ∷ []) ≡ d = cc (e) in (
@@ -75,12 +75,12 @@ module _ {S : Type 0} (machine : Machine S) (m : Request) where
         subst (λ (k : ℕ). HasFront (m ∷ []) k d) number (record { reaches = omega arith; digest = digest }),
       )
 
-  begun_marked : AreMarked tag_of (begun_acts machine m)
-  begun_marked = (λ r n d has. absurd (Contains-none (tag_of r n d) has), (λ r n d has. absurd (Contains-none (tag_of r n d) has), (λ r n d has. absurd (Contains-none (tag_of r n d) has), (λ r n d has. absurd (Contains-none (tag_of r n d) has), tt))))
+  begun_marked : AreMarked checkpoint_of (begun_acts machine m)
+  begun_marked = (λ r n d has. absurd (Contains-none (checkpoint_of r n d) has), (λ r n d has. absurd (Contains-none (checkpoint_of r n d) has), (λ r n d has. absurd (Contains-none (checkpoint_of r n d) has), (λ r n d has. absurd (Contains-none (checkpoint_of r n d) has), tt))))
 
-  committed_marked : AreMarked tag_of (committed_acts machine m)
+  committed_marked : AreMarked checkpoint_of (committed_acts machine m)
   committed_marked = (
-    λ r n d has. absurd (Contains-none (tag_of r n d) has),
+    λ r n d has. absurd (Contains-none (checkpoint_of r n d) has),
     (
       λ r n d has. absurd (no_mark (votes_for machine m 3) r n d refl has),
       (
@@ -93,41 +93,41 @@ module _ {S : Type 0} (machine : Machine S) (m : Request) where
     ),
   )
 
-  early_marked : AreMarked tag_of (marked_early machine m)
+  early_marked : AreMarked checkpoint_of (marked_early machine m)
   early_marked = (
-    λ r n d has. absurd (Contains-none (tag_of r n d) has),
+    λ r n d has. absurd (Contains-none (checkpoint_of r n d) has),
     (
       λ r n d has. own_mark (marks_small machine m 3 ∷ marked_thrice machine m) 3 refl r n d has,
       (λ r n d has. own_mark (marked_thrice machine m) 2 refl r n d has, (λ r n d has. own_mark (marked_twice machine m) 1 refl r n d has, (λ r n d has. own_mark (marked_once machine m) 0 refl r n d has, committed_marked))),
     ),
   )
 
-  marked : AreMarked tag_of (marked_acts machine m)
+  marked : AreMarked checkpoint_of (marked_acts machine m)
   marked = (
-    λ r n d has. absurd (Contains-none (tag_of r n d) has),
+    λ r n d has. absurd (Contains-none (checkpoint_of r n d) has),
     (
       λ r n d has. absurd (no_mark (aborts_small machine m 2) r n d refl has),
       (
         λ r n d has. absurd (no_mark (aborts_small machine m 1) r n d refl has),
         (
           λ r n d has. absurd (no_mark (aborts_small machine m 0) r n d refl has),
-          (λ r n d has. absurd (Contains-none (tag_of r n d) has), (λ r n d has. absurd (Contains-none (tag_of r n d) has), (λ r n d has. absurd (Contains-none (tag_of r n d) has), early_marked))),
+          (λ r n d has. absurd (Contains-none (checkpoint_of r n d) has), (λ r n d has. absurd (Contains-none (checkpoint_of r n d) has), (λ r n d has. absurd (Contains-none (checkpoint_of r n d) has), early_marked))),
         ),
       ),
     ),
   )
 
-  made_by : (r : ℕ) → Contains (marked_acts machine m) (marks_small machine m r) → WasMade (marked_acts machine m) (tag_of r 1 (digest_of (m ∷ [])))
-  made_by r has = (marks_small machine m r, has, Contains-head (tag_of r 1 (digest_of (m ∷ []))) [])
+  made_by : (r : ℕ) → Contains (marked_acts machine m) (marks_small machine m r) → WasMade (marked_acts machine m) (checkpoint_of r 1 (digest_of (m ∷ [])))
+  made_by r has = (marks_small machine m r, has, Contains-head (checkpoint_of r 1 (digest_of (m ∷ []))) [])
 
-  all : AreAllThere small tag_of (marked_acts machine m) 1 (digest_of (m ∷ []))
+  all : AreAllThere small checkpoint_of (marked_acts machine m) 1 (digest_of (m ∷ []))
   all zero lt = inr (made_by 0 (11, omega arith, refl))
   all (suc zero) lt = inr (made_by 1 (10, omega arith, refl))
   all (suc (suc zero)) lt = inr (made_by 2 (9, omega arith, refl))
   all (suc (suc (suc zero))) lt = inr (made_by 3 (8, omega arith, refl))
   all (suc (suc (suc (suc r)))) lt = absurd (omega (arith, lt))
 
-  pub with_marks : NoCollision (histories (small_acts machine m)) → SlotsApart (histories (small_acts machine m)) (requests (small_acts machine m)) → AreActsWithMarks (IsSound machine small) small is_tag tag_of (marked_acts machine m)
+  pub with_marks : NoCollision (histories (small_acts machine m)) → SlotsApart (histories (small_acts machine m)) (requests (small_acts machine m)) → AreActsWithMarks (IsSound machine small) small is_checkpoint checkpoint_of (marked_acts machine m)
   with_marks apart slots = record {
     bare = small_acts machine m;
     left = leaves;
@@ -137,5 +137,5 @@ module _ {S : Type 0} (machine : Machine S) (m : Request) where
     marked = marked;
   }
 
-  pub stable : IsStable small tag_of (marked_acts machine m) (m ∷ [])
+  pub stable : IsStable small checkpoint_of (marked_acts machine m) (m ∷ [])
   stable = record { number = 1; digest = digest_of (m ∷ []); all = all; holder = 0; within = omega arith; correct = refl; reaches = omega arith; is_front = refl }

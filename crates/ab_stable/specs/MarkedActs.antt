@@ -1,5 +1,5 @@
--- CHECKPOINTs among the acts of an instance. No content is one yet, so a function tells which contents are: mark r n d is the content by which
--- replica r says that the first n entries of its log have the digest d.
+-- CHECKPOINTs among the acts of an instance. A function tells which contents count as such: mark r n d is the content by which replica r says
+-- that the first n entries of its log have the digest d.
 use Rattle.std.specs.Prelude.{◌≡◌, ◌⊎◌, ℕ, ◌+◌, ◌*◌, ◌<◌, ◌≤◌, Bool, false, Some, List, [], ◌∷◌, Contains, length, take}
 use mathlib.Core.List.{IsPrefix}
 use Rattle.ab_num.specs.declared.party.Party.TheVariants.{Replica}

@@ -1,27 +1,26 @@
--- The small run of an instance, in which each replica makes a CHECKPOINT of its log before it stops, and one then forgets it. Contents
--- have no CHECKPOINT yet: a chain's tag, which no replica makes in that run, stands in its place.
+-- The small run of an instance, in which each replica makes a CHECKPOINT of its log before it stops, and one then forgets it.
 use Rattle.std.specs.Prelude.{ℕ, Bool, true, false, List, [], ◌∷◌}
 use Rattle.ab_num.specs.declared.party.Party.TheVariants.{Replica, Client}
 use Rattle.ab_hist.specs.declared.request.Request.{Request}
 use Rattle.ab_hist.specs.Digests.{digest_of}
 use Rattle.ab_svc.specs.Machines.{Machine}
 use Rattle.ab_msg.specs.declared.content.Content.{Content}
-use Rattle.ab_msg.specs.declared.content.Content.TheVariants.{ChainTag}
+use Rattle.ab_msg.specs.declared.content.Content.TheVariants.{Checkpoint}
 use Rattle.ab_abs.specs.declared.seen.Seen.TheVariants.{Cert}
 use Rattle.ab_abs.specs.Acts.{Act, abort_of}
 use Rattle.ab_abs.specs.SmallActs.{small, of_client, halts_small, aborts_small, committed_acts}
 use Rattle.ab_stable.specs.Leaving.{mark_of, forget_of}
 
-abbrev pub tag_of : ℕ → ℕ → List ℕ → Content
-tag_of r n d = ChainTag (Replica r) 1 0 0 n d
+abbrev pub checkpoint_of : ℕ → ℕ → List ℕ → Content
+checkpoint_of r n d = Checkpoint (Replica r) 1 n d
 
-abbrev pub is_tag : Content → Bool
-is_tag (ChainTag maker i c stamp n d) = true
-is_tag other = false
+abbrev pub is_checkpoint : Content → Bool
+is_checkpoint (Checkpoint maker i n d) = true
+is_checkpoint other = false
 
 module _ {S : Type 0} (machine : Machine S) (m : Request) where
   abbrev pub marks_small : ℕ → Act
-  marks_small r = mark_of r (tag_of r 1 (digest_of (m ∷ [])))
+  marks_small r = mark_of r (checkpoint_of r 1 (digest_of (m ∷ [])))
 
   abbrev pub marked_once : List Act
   marked_once = marks_small 0 ∷ committed_acts machine m

@@ -18,7 +18,7 @@ ghost use Rattle.ab_stable.specs.Certs.{AreKnown, AreTold, lists_of};
 ghost use Rattle.ab_stable.specs.MarkedActs.{AreActsWithMarks, IsStable};
 ghost use Rattle.ab_stable.specs.Forgotten.{IsForgotten};
 ghost use Rattle.ab_stable.specs.SmallVotes.{small_bad, small_logs, small_votes, small_links};
-ghost use Rattle.ab_stable.specs.SmallMarks.{tag_of, is_tag, marked_acts};
+ghost use Rattle.ab_stable.specs.SmallMarks.{checkpoint_of, is_checkpoint, marked_acts};
 
 use ab_svc::Service;
 
@@ -57,8 +57,8 @@ pub fn small_certificates_are_known()
 /// forgets it: the entry is stable.
 pub fn small_checkpoints_are_there<S: Service>()
     ensures acts { (m : Request) → NoCollision (histories (small_acts S.machine m)) → SlotsApart (histories (small_acts S.machine m)) (requests (small_acts S.machine m))
-        → AreActsWithMarks (IsSound S.machine small) small is_tag tag_of (marked_acts S.machine m) }
-    ensures stable { (m : Request) → IsStable small tag_of (marked_acts S.machine m) (m ∷ []) }
+        → AreActsWithMarks (IsSound S.machine small) small is_checkpoint checkpoint_of (marked_acts S.machine m) }
+    ensures stable { (m : Request) → IsStable small checkpoint_of (marked_acts S.machine m) (m ∷ []) }
 {}
 
 /// In a run of two instances whose certificates of instance 1 have three requests, two of these may be

@@ -23,5 +23,5 @@ pub fn named_lists_are_whole()
 
 /// If a replica has forgotten nothing, the list that it keeps is the log that acts tell.
 pub fn whole_places_are_states()
-    ensures { (old : State) (p : Place) → p.log.start ≡ 0 → p.first ≡ None → next_state old p ≡ record { entered = old.entered; base = take p.base p.log.rest; log = p.log.rest; stopped = p.stopped; first = None } }
+    ensures { (old : State) (p : Place) → p.log.start ≡ 0 → p.first ≡ None → next_state old p ≡ record { entered = old.entered; base = take p.base p.log.rest; log = p.log.rest; stopped = p.stopped; first = None; zcert = p.zcert } }
 {}
