@@ -61,6 +61,7 @@ rule_of_chain kind.Quorum f served = absurd (cc (served))
 rule_of_chain kind.ZLight f served = absurd (cc (served))
 rule_of_chain kind.Chain f served = refl
 rule_of_chain kind.Backup f served = absurd (cc (served))
+rule_of_chain kind.ZCert f served = absurd (cc (served))
 
 -- ---- when a position passes on
 
@@ -304,12 +305,16 @@ module _ {S : Type 0} (machine : Machine S) where
       enters = λ c i r e. refl;
       entered_stays = λ pen q call. refl;
       entered_rests = λ q. refl;
+      zcert_stays = λ c i r pen q call was stopped. refl;
+      zcert_rests = λ q. refl;
+      zcert_beside = λ c i r q was. refl;
       own = own_law;
       silent = λ c i r pen q call o s was stopped sent has. absurd (Contains-none o (subst (λ (t : Task). Contains (sent_by q t) o) (no_pass q call stopped) sent));
       signed = λ pen q call o v sent has. absurd (sends_unsigned q.f q.at.instance (position_at q) (task machine q call) o v sent has);
       sent = λ pen q call s has. absurd (Contains-none s has);
       settles = λ c i r pen q call cert was is formed. inl refl;
       written = λ c i r q was. (bounded c i r q was).at.written;
+      zcert_written = λ c i r q was. tt;
       drafts = λ c i r pen q call signs was formed o sent. drafts_law c i r q call (bounded c i r q was) formed o sent;
     }
 

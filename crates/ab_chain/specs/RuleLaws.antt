@@ -37,6 +37,7 @@ no_backup kind.Quorum is = refl
 no_backup kind.ZLight is = refl
 no_backup kind.Chain is = refl
 no_backup kind.Backup is = absurd (cc (is))
+no_backup kind.ZCert is = refl
 
 over : (a b : ℕ) → nat_le a b ≡ false → b < a
 over a b no' = grind (arith, no')
@@ -50,6 +51,7 @@ module _ {S : Type 0} (machine : Machine S) where
   unspoken kind.Chain q (took (msg.Chain i m n d reply tags)) served is = absurd (cc (is))
   unspoken kind.Chain q _ served is = refl
   unspoken kind.Backup q call served is = absurd (cc (served))
+  unspoken kind.ZCert q call served is = absurd (cc (served))
 
   -- what is passed on is the own answer, and behind the first 2f positions with the own reply
   record IsOwnAnswer (q : ChainState) (m : Request) (vote : Vote) (reply : Option Reply) : Type 0 where
@@ -143,4 +145,5 @@ module _ {S : Type 0} (machine : Machine S) where
     begins = λ c i r e is. begins_there (kind_of c.plan i) e.base (no_backup (kind_of c.plan i) is);
     stops = λ c i r q was other. refl;
     rests = λ c i r q was backup. not_both (kind_of c.plan i) (no_backup (kind_of c.plan i) (served (chain machine) is_chain c i r q was)) backup;
+    keeps_none = λ c i r q was other. refl;
   }

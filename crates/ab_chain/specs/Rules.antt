@@ -25,6 +25,7 @@ is_chain kind.Quorum = false
 is_chain kind.ZLight = false
 is_chain kind.Chain = true
 is_chain kind.Backup = false
+is_chain kind.ZCert = false
 
 -- a replica, and how many may be faulty
 pub record ChainState : Type 0 where

@@ -13,14 +13,14 @@ ghost use Rattle.ab_chain.specs.Tags.{by_client};
 ghost use Rattle.ab_chain.specs.Rules.{position_at, answer_of, agreed, goes, idle, is_answered, kept_of, logging, next_of, passing, replied_so, reply_from as passed_reply, same_reply as test_reply, sent_by};
 
 use crate::route::Route;
-use crate::trial::Trial;
 use ab_abs::{Book, Entry, Protocol, StepFault, Vote};
 use ab_content::ContentRef;
 use ab_form::ListRef;
 use ab_hist::{History, Request, array_of, copy_reply};
-use ab_msg::{ChainTags, Msg, Notary, Out, Outs, Reply};
+use ab_msg::{ChainTags, Msg, Notary, Out, Outs, Reply, Zcert};
 use ab_num::{Cluster, Kind, OutOfMemory, Party};
 use ab_svc::Service;
+use ab_trial::{Trial, digest_with};
 use ab_wire::{BetweenRef, MsgRef, TagRef};
 use std::alloc::Global;
 use std::marker::Model;
@@ -58,7 +58,7 @@ impl<S: Service> Drop for Chain<S> {
 impl<S: Service> Model for Chain<S> {
     ghost use Rattle.std.specs.Prelude.{◌+◌, ◌*◌, ◌<◌, ◌≤◌, length, take};
     ghost use Rattle.ab_chain.specs.Rules.{ChainState};
-    ghost use Rattle.ab_chain.specs.Trials.{HasServed};
+    ghost use Rattle.ab_trial.specs.Trials.{HasServed};
 
     ghost Value = { ChainState };
 
@@ -73,13 +73,6 @@ fn has_digest(log: &History, k: usize, n: u16, d: &[u8; 32]) -> bool
     ensures { result ≡ (k == n) && bytes_eq (digest_of (take k log.now)) d.now }
 {
     k == usize::from(n) && log.digest_at(k) == *d
-}
-
-/// The digest of a log with one more request.
-fn digest_with(log: &History, m: &Request) -> [u8; 32]
-    ensures { result ≡ digest_of (log.now ++ m.now ∷ []) }
-{
-    ab_mac::link(&log.digest_at(log.len()), m.bytes().as_slice())
 }
 
 /// Whether a log with one more request has the number `n` and the digest `d`.
@@ -355,7 +348,7 @@ impl<S: Service> Protocol<S> for Chain<S> {
     fn runs(kind: Kind) -> bool {
         match kind {
             Kind::Chain => true,
-            Kind::Quorum | Kind::ZLight | Kind::Backup => false,
+            Kind::Quorum | Kind::ZLight | Kind::Backup | Kind::ZCert => false,
         }
     }
 
@@ -432,6 +425,10 @@ impl<S: Service> Protocol<S> for Chain<S> {
     }
 
     fn first(&self) -> Option<&History> {
+        None
+    }
+
+    fn zcert(&self) -> Option<&Zcert> {
         None
     }
 

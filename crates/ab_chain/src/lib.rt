@@ -3,6 +3,5 @@
 
 mod chain;
 mod route;
-mod trial;
 
 pub use chain::Chain;

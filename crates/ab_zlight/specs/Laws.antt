@@ -54,17 +54,18 @@ rule_of_zlight kind.Quorum f served = absurd (cc (served))
 rule_of_zlight kind.ZLight f served = refl
 rule_of_zlight kind.Chain f served = absurd (cc (served))
 rule_of_zlight kind.Backup f served = absurd (cc (served))
+rule_of_zlight kind.ZCert f served = absurd (cc (served))
 
 -- ---- tasks
 
 -- the request of a task
-abbrev request_in : Task → Option Request
+abbrev pub request_in : Task → Option Request
 request_in idle = None
 request_in (ordered m) = Some m
 request_in (asked m tags) = Some m
 
 -- the tags of a task
-abbrev tags_of : Task → Option (List (ℕ × List ℕ))
+abbrev pub tags_of : Task → Option (List (ℕ × List ℕ))
 tags_of idle = None
 tags_of (ordered m) = None
 tags_of (asked m tags) = Some tags
@@ -87,7 +88,7 @@ req_first i j m more e =
     subst (λ (n : ℕ). Contains (claims_in i (Req (Client m.client) n m ∷ more)) (Req (Client m.client) i m)) (sym e)
     (rw ((Decides-eqb i i).1 refl) (Contains-head (Req (Client m.client) i m) (claims_in i more)))
 
-claimed_in : (f r i : ℕ) (q : Light) (t : Msg) (m : Request) → IsFormed (took t) → IsFor i (took t) → request_in (task_of q t) ≡ Some m → Contains (claims_in i (call_claims f r (took t))) (Req (Client m.client) i m)
+pub claimed_in : (f r i : ℕ) (q : Light) (t : Msg) (m : Request) → IsFormed (took t) → IsFor i (took t) → request_in (task_of q t) ≡ Some m → Contains (claims_in i (call_claims f r (took t))) (Req (Client m.client) i m)
 claimed_in f r i q (msg.Req (Req maker j n) tags) m formed for is =
     let own : maker ≡ Client n.client = formed.0.0 in
     let here : j ≡ i = cc (for) in
@@ -100,12 +101,12 @@ claimed_in f r i q (msg.Order (Order maker j x n) client_tag tag) m formed for i
     subst (λ (z : Request). Contains (claims_in i (Req (Client n.client) j n ∷ Order maker j x n ∷ [])) (Req (Client z.client) i z)) same (req_first i j n (Order maker j x n ∷ []) here)
 claimed_in f r i q _ m formed for is = absurd (cc (is))
 
-claimed_by : (f r i : ℕ) (q : Light) (call : Call) (m : Request) → IsFormed call → IsFor i call → request_in (task q call) ≡ Some m → Contains (claims_in i (call_claims f r call)) (Req (Client m.client) i m)
+pub claimed_by : (f r i : ℕ) (q : Light) (call : Call) (m : Request) → IsFormed call → IsFor i call → request_in (task q call) ≡ Some m → Contains (claims_in i (call_claims f r call)) (Req (Client m.client) i m)
 claimed_by f r i q (took t) m formed for is = claimed_in f r i q t m formed for is
 claimed_by f r i q timed m formed for is = absurd (cc (is))
 
 -- a request and tags of the grammar
-request_formed : (q : Light) (call : Call) → IsFormed call → (m : Request) → request_in (task q call) ≡ Some m → IsRequest 0 15 m
+pub request_formed : (q : Light) (call : Call) → IsFormed call → (m : Request) → request_in (task q call) ≡ Some m → IsRequest 0 15 m
 request_formed q (took (msg.Req (Req maker j n) tags)) formed m is =
     let e = task_if (is_primary q) (asked n tags.items) m is in
     subst (λ (z : Request). IsRequest 0 15 z) (cc (e)) formed.0.1.1
@@ -114,7 +115,7 @@ request_formed q (took (msg.Order (Order maker j x n) client_tag tag)) formed m 
     subst (λ (z : Request). IsRequest 0 15 z) (cc (e)) formed.0.1.1.1
 request_formed q _ formed m is = absurd (cc (is))
 
-tags_formed : (q : Light) (call : Call) → IsFormed call → (given : List (ℕ × List ℕ)) → tags_of (task q call) ≡ Some given → AreTags given
+pub tags_formed : (q : Light) (call : Call) → IsFormed call → (given : List (ℕ × List ℕ)) → tags_of (task q call) ≡ Some given → AreTags given
 tags_formed q (took (msg.Req (Req maker j n) tags)) formed given is =
     let e = tags_if (is_primary q) (asked n tags.items) given is in
     let same : tags.items ≡ given = cc (e) in
@@ -130,7 +131,7 @@ grows_at log m (Some x) next = prefix_refl log
 grows_at log m None true = (m ∷ [], refl)
 grows_at log m None false = prefix_refl log
 
-grows_unless : (stopped : Bool) (log : List Request) (m : Request) → IsPrefix log (if stopped then log else logged log m)
+pub grows_unless : (stopped : Bool) (log : List Request) (m : Request) → IsPrefix log (if stopped then log else logged log m)
 grows_unless true log m = prefix_refl log
 grows_unless false log m = grows_at log m (place_in log m) (can_push log m)
 
@@ -181,7 +182,7 @@ order_out f q m tags None o has = absurd (Contains-none o has)
 order_out f q m tags (Some vote) o has = placed_out f q m tags (place_in (log_with q m) m) o refl has
 
 -- each is the primary's own
-order_own : (f : ℕ) (q : Member) (m : Request) (tags : List (ℕ × List ℕ)) (o : Out) (s : Content) → IsOrderOut q m tags o → Contains (fresh f (Replica q.me) o.msg) s
+pub order_own : (f : ℕ) (q : Member) (m : Request) (tags : List (ℕ × List ℕ)) (o : Out) (s : Content) → IsOrderOut q m tags o → Contains (fresh f (Replica q.me) o.msg) s
     → IsTrue (is_inner s) × ((maker_of s ≡ Replica q.me) × (instance_of s ≡ q.instance))
 order_own f q m tags o s is has =
     let in_order : Contains (Order (Replica q.me) q.instance is.x m ∷ []) s = subst (λ (z : Msg). Contains (fresh f (Replica q.me) z) s) is.says has in
@@ -197,7 +198,7 @@ tag_length r low (t ∷ tags) fit =
       | inr other ↦ rw other (tag_length r (above low t) tags fit.1)
     ]
 
-order_draft : (q : Member) (m : Request) (tags : List (ℕ × List ℕ)) (o : Out) → IsBounded q → IsRequest 0 15 m → AreTags tags → IsOrderOut q m tags o → IsDraft o.msg
+pub order_draft : (q : Member) (m : Request) (tags : List (ℕ × List ℕ)) (o : Out) → IsBounded q → IsRequest 0 15 m → AreTags tags → IsOrderOut q m tags o → IsDraft o.msg
 order_draft q m tags o b fits formed is =
     let found = found_at (log_with q m) m is.x is.placed in
     let within = slice_get_within (log_with q m) found.before m found.stands in
@@ -217,7 +218,7 @@ response_out f i me m (Some vote) o s sent has =
     let has' = subst (λ (p : Out). Contains (fresh f (Replica me) p.msg) s) (sym is) has in
     (vote, refl, sym (Contains-one (Resp (Replica me) i m.client m.stamp vote.n vote.d vote.reply) s has'))
 
-fresh_of : (f r : ℕ) (outs : List Out) (s : Content) → Contains (statements_of f r outs) s → (o : Out) × Contains outs o × Contains (fresh f (Replica r) o.msg) s
+pub fresh_of : (f r : ℕ) (outs : List Out) (s : Content) → Contains (statements_of f r outs) s → (o : Out) × Contains outs o × Contains (fresh f (Replica r) o.msg) s
 fresh_of f r outs s has =
     let found = flat_map_cases (λ (o : Out). stated f (Replica r) o.msg) outs s has in
     (found.0, found.1, (Contains-filter_cases (λ t. party_eq (maker_of t) (Replica r)) (fresh f (Replica r) found.0.msg) s found.2).0)
@@ -291,12 +292,16 @@ module _ {S : Type 0} (machine : Machine S) where
       enters = λ c i r e. refl;
       entered_stays = λ pen q call. refl;
       entered_rests = λ q. refl;
+      zcert_stays = λ c i r pen q call was stopped. refl;
+      zcert_rests = λ q. refl;
+      zcert_beside = λ c i r q was. refl;
       own = own_law;
       silent = λ c i r pen q call o s was stopped sent has. absurd (Contains-none o (subst (λ (outs : List Out). Contains outs o) (silent_with q.f q.at (task q call) stopped) sent));
       signed = λ pen q call o v sent has. absurd (unsigned_with q.f q.at (task q call) o v sent has);
       sent = λ pen q call s has. absurd (Contains-none s has);
       settles = λ c i r pen q call cert was is formed. inl refl;
       written = λ c i r q was. (bounded c i r q was).written;
+      zcert_written = λ c i r q was. tt;
       drafts = λ c i r pen q call signs was formed o sent. drafts_with q.f q.at (task q call) (bounded c i r q was) (request_formed q call formed) (tags_formed q call formed) o sent;
     }
 

@@ -33,6 +33,7 @@ no_backup kind.Quorum is = refl
 no_backup kind.ZLight is = refl
 no_backup kind.Chain is = refl
 no_backup kind.Backup is = absurd (cc (is))
+no_backup kind.ZCert is = refl
 
 -- a call of which no rule speaks asks for nothing
 unspoken : (k : Kind) (q : Light) (call : Call) → IsTrue (is_zlight k) → speaks_of_call k call ≡ false → task q call ≡ idle
@@ -42,6 +43,7 @@ unspoken kind.ZLight q (took (msg.Order content client_tag tag)) served is = abs
 unspoken kind.ZLight q _ served is = refl
 unspoken kind.Chain q call served is = absurd (cc (served))
 unspoken kind.Backup q call served is = absurd (cc (served))
+unspoken kind.ZCert q call served is = absurd (cc (served))
 
 module _ {S : Type 0} (machine : Machine S) where
   based : (c : Cluster) (i r : ℕ) (q : Light) → Belongs (zlight machine) is_zlight c i r q → IsPrefix q.at.base q.at.log
@@ -90,4 +92,5 @@ module _ {S : Type 0} (machine : Machine S) where
     begins = λ c i r e is. begins_there (kind_of c.plan i) e.base (no_backup (kind_of c.plan i) is);
     stops = λ c i r q was other. refl;
     rests = λ c i r q was backup. not_both (kind_of c.plan i) (no_backup (kind_of c.plan i) (served (zlight machine) is_zlight c i r q was)) backup;
+    keeps_none = λ c i r q was other. refl;
   }

@@ -1,18 +1,28 @@
-//! What the service would answer to a request that may yet not be logged.
+//! A service that goes ahead of a log.
 
 ghost use Rattle.std.specs.Prelude.{◌≡◌, ◌+◌, [], ◌∷◌, ◌++◌, ◌≤◌, length, IfOk, OnOk, OnErr};
+ghost use Rattle.ab_hist.specs.Digests.{digest_of};
 ghost use Rattle.ab_svc.specs.Machines.{serve};
-ghost use Rattle.ab_chain.specs.Trials.{HasServed};
+ghost use Rattle.ab_abs.specs.Answers.{vote_at};
+ghost use Rattle.ab_trial.specs.Trials.{HasServed};
 
+use ab_abs::Vote;
 use ab_hist::{History, Request};
 use ab_num::OutOfMemory;
 use ab_svc::{Reply, Service};
 use std::alloc::Global;
 
+/// The digest of a log with one more request.
+pub fn digest_with(log: &History, m: &Request) -> [u8; 32]
+    ensures { result ≡ digest_of (log.now ++ m.now ∷ []) }
+{
+    ab_mac::link(&log.digest_at(log.len()), m.bytes().as_slice())
+}
+
 /// The service, as it is after the first so many requests of a log.
-pub(crate) struct Trial<S: Service> {
-    pub(crate) state: S,
-    pub(crate) served: usize,
+pub struct Trial<S: Service> {
+    pub state: S,
+    pub served: usize,
 }
 
 impl<S: Service> Drop for Trial<S> {
@@ -26,7 +36,7 @@ impl<S: Service> Drop for Trial<S> {
 
 impl<S: Service> Trial<S> {
     /// The service before its first request.
-    pub(crate) fn new(alloc: Global) -> Result<Trial<S>, OutOfMemory>
+    pub fn new(alloc: Global) -> Result<Trial<S>, OutOfMemory>
         ensures { IfOk result (λ t. (t.served ≡ 0) × (t.state ≡ S.machine.begin)) }
     {
         let state = S::start(alloc)?;
@@ -61,7 +71,7 @@ impl<S: Service> Trial<S> {
 
     /// The reply to a request behind a log, which it then has executed too. After an `Err` it has
     /// executed requests of the log alone.
-    pub(crate) fn reply_to(
+    pub fn reply_to(
         &mut self,
         alloc: Global,
         log: &History,
@@ -75,5 +85,27 @@ impl<S: Service> Trial<S> {
         let reply = self.state.apply(alloc, m)?;
         self.served = log.len() + 1;
         Ok(reply)
+    }
+
+    /// The answer to a request that is logged next, which it then has executed too. After an `Err` it has
+    /// executed requests of the log alone.
+    pub fn next_vote(
+        &mut self,
+        alloc: Global,
+        log: &History,
+        m: &Request,
+    ) -> Result<Vote, OutOfMemory>
+        requires { HasServed S.machine log.now self.old.served self.old.state }
+        ensures ok { IfOk result (λ vote. (vote ≡ vote_at S.machine (log.now ++ m.now ∷ []) m.now (length log.now + 1) (length log.now + 1)) × HasServed S.machine (log.now ++ m.now ∷ []) self.new.served self.new.state) }
+        ensures err { OnErr result (HasServed S.machine log.now self.new.served self.new.state) }
+    {
+        let reply = self.reply_to(alloc, log, m)?;
+        let within = log.len() < usize::from(u16::MAX);
+        prove!(within);
+        Ok(Vote {
+            n: log.len() as u16 + 1,
+            d: digest_with(log, m),
+            reply,
+        })
     }
 }

@@ -1,3 +1,3 @@
 -- Lemmas of this crate.
-pub mod ChainLemmas
+pub mod DigestLemmas
 pub mod TrialLemmas

@@ -4,7 +4,7 @@ use Rattle.std.proofs.lemmas.List.Sums.{fold_push}
 use Rattle.ab_hist.specs.declared.request.Request.{Request}
 use Rattle.ab_svc.specs.Machines.{Machine, serve}
 use Rattle.ab_abs.proofs.BookLemmas.{take_more}
-use Rattle.ab_chain.specs.Trials.{HasServed}
+use Rattle.ab_trial.specs.Trials.{HasServed}
 
 module _ {S : Type 0} (machine : Machine S) where
   -- one request more of the log

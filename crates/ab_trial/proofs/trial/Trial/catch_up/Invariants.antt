@@ -1,6 +1,6 @@
 use Rattle.std.proofs.Common.{◌-◌, length}
-use Rattle.ab_chain.specs.Trials.{HasServed}
-use Rattle.ab_chain.proofs.trial.Trial.catch_up.Given as goal
+use Rattle.ab_trial.specs.Trials.{HasServed}
+use Rattle.ab_trial.proofs.trial.Trial.catch_up.Given as goal
 
 abbrev pub invariant-serving : goal.invariant-serving
 invariant-serving g l = HasServed g.S.Service.machine l.log l.self.served l.self.state

@@ -1,0 +1,6 @@
+//! What the service would answer to a request that may yet not be logged.
+#![tactic(auto)]
+
+mod trial;
+
+pub use trial::{Trial, digest_with};
