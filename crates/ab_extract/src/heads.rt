@@ -1,21 +1,34 @@
-//! Who signed the ABORTs of a certificate in received bytes, and of which instances they are.
+//! Who signed the ABORTs of a certificate, of which instances they are, and which certificates of answers they hold.
 
-ghost use Rattle.std.specs.Prelude.{◌≡◌, ◌<◌, length, map, IfSome, IsNone};
+ghost use Rattle.std.specs.Prelude.{◌≡◌, ◌<◌, ◌≤◌, length, map, IfSome, IsNone, Some};
+ghost use Rattle.std.specs.Option.{option_map};
+ghost use Rattle.ab_content.specs.Views.{content as shown};
 ghost use Rattle.ab_wire.specs.Views.{aborts};
-ghost use Rattle.ab_extract.specs.Heads.{foreign_in, head_of, is_among, repeat_in};
+ghost use Rattle.ab_extract.specs.Certs.{zcert_in};
+ghost use Rattle.ab_extract.specs.Heads.{before_of, foreign_in, head_of, is_among, is_before, lead_in, repeat_in};
 
 use ab_form::{ListRef, Part};
-use ab_wire::SignedRef;
+use ab_msg::{Content, Signed};
+use ab_wire::{ContentRef, SignedRef};
 use arrayvec::ArrayVec;
 
 /// How many ABORTs are looked at. No certificate needs more.
 const MOST: usize = 7;
 
-/// Who signed an ABORT, and of which instance it is.
+/// Who signed an ABORT, of which instance it is, and the number of the certificate of answers in it.
 #[derive(Clone, Copy, Debug, Default)]
 pub(crate) struct Head {
     pub signer: u8,
     pub instance: u32,
+    pub kept: Option<u16>,
+}
+
+/// The number of a certificate of answers, with who signed its ABORT and the place of that.
+#[derive(Clone, Copy, Debug)]
+pub(crate) struct Lead {
+    pub by: u8,
+    pub at: usize,
+    pub n: u16,
 }
 
 /// The list once more. It is gone over from its front again.
@@ -24,6 +37,19 @@ pub(crate) fn again<'a, P: Part<'a>>(list: &ListRef<'a, P>) -> ListRef<'a, P>
     ensures bytes { result.bytes ≡ list.now.bytes }
 {
     *list
+}
+
+/// The number of the certificate of answers in an ABORT.
+fn kept_in(content: &ContentRef<'_>) -> Option<u16>
+    ensures { result ≡ option_map (λ z. z.n) (zcert_in (shown content.now)) }
+{
+    match content {
+        ContentRef::AbortZ {
+            zcert: Some(zcert),
+            ..
+        } => Some(zcert.n),
+        _ => None,
+    }
 }
 
 /// The heads of these ABORTs. None if there are over seven.
@@ -39,9 +65,39 @@ pub(crate) fn heads_of<'a>(cert: &ListRef<'a, SignedRef<'a>>) -> Option<ArrayVec
         heads.push(Head {
             signer: abort.maker,
             instance: abort.content.instance(),
+            kept: kept_in(&abort.content),
         });
     }
     Some(heads)
+}
+
+/// The number of the certificate of answers that stands in a content.
+fn kept_by(content: &Content) -> Option<u16>
+    ensures { result ≡ option_map (λ z. z.n) (zcert_in content.now) }
+{
+    match content {
+        Content::AbortZ {
+            zcert: Some(zcert),
+            ..
+        } => Some(zcert.n),
+        _ => None,
+    }
+}
+
+/// The same of ABORTs with parts of their own.
+pub(crate) fn heads_by(cert: &[Signed]) -> ArrayVec<Head, 7>
+    requires { length cert.now ≤ 7 }
+    ensures { result.items ≡ map head_of cert.now }
+{
+    let mut heads = ArrayVec::new();
+    for abort in cert {
+        heads.push(Head {
+            signer: abort.maker,
+            instance: abort.content.instance(),
+            kept: kept_by(&abort.content),
+        });
+    }
+    heads
 }
 
 /// Whether `r` signed one of these.
@@ -74,4 +130,36 @@ pub(crate) fn foreign(heads: &[Head], i: u32) -> Option<u32>
         }
     }
     None
+}
+
+/// Whether the first has the higher number, or the same and the lower replica.
+fn is_before(a: &Lead, b: &Lead) -> bool
+    ensures { result ≡ is_before a.now b.now }
+{
+    a.n > b.n || (a.n == b.n && a.by < b.by)
+}
+
+/// The one of the two that goes before the other.
+fn first_of(a: Lead, b: Option<Lead>) -> Lead
+    ensures { Some result ≡ before_of a b }
+{
+    match b {
+        Some(b) => { if is_before(&a, &b) { a } else { b } }
+        None => a,
+    }
+}
+
+/// Of the certificates of answers in these ABORTs the one of the highest number, the lowest replica's at a tie.
+pub(crate) fn leading(heads: &[Head]) -> Option<Lead>
+    ensures { result ≡ lead_in 0 heads.now }
+{
+    let mut best = None;
+    'heads: for at in (0..heads.len()).rev() {
+        let head = heads[at];
+        if let Some(n) = head.kept {
+            let by = head.signer;
+            best = Some(first_of(Lead { by, at, n }, best));
+        }
+    }
+    best
 }

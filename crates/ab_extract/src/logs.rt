@@ -4,7 +4,7 @@ ghost use Rattle.std.specs.Prelude.{◌≡◌, ◌≤◌, length, map, IfOk, IfS
 ghost use Rattle.std.specs.Cmp.Lexicographic.{pointwise};
 ghost use Rattle.std.specs.Option.{option_map};
 ghost use Rattle.ab_hist.specs.Requests.{request_eq};
-ghost use Rattle.ab_msg.specs.Contents.{IsAbort};
+ghost use Rattle.ab_msg.specs.Contents.{IsStopContent};
 ghost use Rattle.ab_msg.specs.Fields.{IsWritten};
 ghost use Rattle.ab_content.specs.Views.{content as shown, history, request};
 ghost use Rattle.ab_wire.specs.Views.{aborts};
@@ -52,12 +52,13 @@ fn is_same<'a, 'b>(a: &HistoryRef<'a>, b: &HistoryRef<'b>) -> bool
 
 /// The log that an ABORT states.
 fn log_of<'a>(s: &SignedRef<'a>) -> HistoryRef<'a>
-    requires { IsAbort (shown s.now.content) }
+    requires { IsStopContent (shown s.now.content) }
     ensures log { history result ≡ log_in (shown s.now.content) }
     ensures written { IsWritten (history result) }
 {
     match s.content {
         ContentRef::Abort { history, .. } => history,
+        ContentRef::AbortZ { history, .. } => history,
         _ => unreachable!(),
     }
 }

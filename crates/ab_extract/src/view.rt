@@ -3,17 +3,19 @@
 ghost use Rattle.std.specs.Prelude.{◌≡◌, ◌+◌, ◌*◌, ◌<◌, ◌≤◌, ◌↔◌, ℕ, All, length, map, nat_lt, None, Some, IsSome, IsOk, IfOk, IfErr, IfSome, OnErr, IsErrOf};
 ghost use Rattle.std.specs.List.{list_all};
 ghost use Rattle.std.specs.Option.{option_map};
+ghost use Rattle.ab_num.specs.Places.{kind_of};
 ghost use Rattle.ab_msg.specs.Certs.{IsSigned};
-ghost use Rattle.ab_msg.specs.Contents.{IsAbort, IsContent};
+ghost use Rattle.ab_msg.specs.Contents.{IsContent, IsStopContent};
 ghost use Rattle.ab_content.specs.Views.{content as shown};
 ghost use Rattle.ab_wire.specs.Views.{aborts, signed};
 ghost use Rattle.ab_abs.specs.Certificates.{history_of};
-ghost use Rattle.ab_abs.specs.Extraction.{IsExtract};
 ghost use Rattle.ab_extract.specs.Causes.{CauseOf, one_log};
-ghost use Rattle.ab_extract.specs.Certs.{AreAborts, IsFull, IsApart, IsSound, first_foreign, first_repeat, log_in};
+ghost use Rattle.ab_extract.specs.Certs.{AreAborts, AreHeld, IsApart, IsFitting, IsFull, IsSound, agreed_history, first_bad, first_foreign, first_repeat};
+ghost use Rattle.ab_extract.specs.Heads.{head_of};
 
 use crate::cert::CertFault;
-use crate::heads::{again, foreign, heads_of, repeated};
+use crate::fitting::bad_view;
+use crate::heads::{Head, again, foreign, heads_of, leading, repeated};
 use crate::logs::{one_log, tree_of};
 use ab_abs::{need, needs_equal};
 use ab_form::ListRef;
@@ -21,15 +23,22 @@ use ab_hist::History;
 use ab_msg::{AbortCert, Sig, Signed};
 use ab_num::{Cluster, OutOfMemory};
 use ab_wire::SignedRef;
+use arrayvec::ArrayVec;
 use std::alloc::Global;
 
-/// Whether these are as many ABORTs as a certificate of instance `i` needs, all of `i` and by different replicas.
-fn are_sound<'a>(c: &Cluster, i: u32, cert: &ListRef<'a, SignedRef<'a>>) -> Result<(), CertFault>
+/// The heads of as many ABORTs as a certificate of instance `i` needs, all of `i`, by different replicas, and as its kind has them.
+fn fitting_heads<'a>(
+    c: &Cluster,
+    i: u32,
+    cert: &ListRef<'a, SignedRef<'a>>,
+) -> Result<ArrayVec<Head, 7>, CertFault>
     requires { 1 ≤ i }
-    ensures ok { IsOk result → IsSound c.now i (aborts cert.now) }
+    ensures ok { IfOk result (λ heads. IsFitting c.now i (aborts cert.now)) }
+    ensures heads { IfOk result (λ heads. heads.items ≡ map head_of (aborts cert.now)) }
     ensures fault { IfErr result (λ e. CauseOf c.now i (aborts cert.now) e) }
 {
-    let needed = usize::from(need(c.kind(i), c.f));
+    let kind = c.kind(i);
+    let needed = usize::from(need(kind, c.f));
     let Some(heads) = heads_of(cert) else {
         return Err(CertFault::Count);
     };
@@ -42,7 +51,10 @@ fn are_sound<'a>(c: &Cluster, i: u32, cert: &ListRef<'a, SignedRef<'a>>) -> Resu
     if let Some(j) = foreign(heads.as_slice(), i) {
         return Err(CertFault::WrongInstance(j));
     }
-    Ok(())
+    if let Some(r) = bad_view(cert, kind, c.f) {
+        return Err(CertFault::BadCert(r));
+    }
+    Ok(heads)
 }
 
 /// The history of ABORTs that have to state one log. What it has in common with `like` it shares with it.
@@ -63,20 +75,27 @@ fn equal_history<'a>(
     }
 }
 
-/// The history on which `q` of the logs that ABORTs state agree. What the first log has in common with `like` it shares with it.
-fn agreed_history<'a>(
+/// The history on which `q` of the logs that ABORTs state agree: where certificates of answers are held, from the front on that the
+/// leading one has. What the first log has in common with `like` it shares with it.
+fn agreed<'a>(
     alloc: Global,
     cert: &ListRef<'a, SignedRef<'a>>,
+    heads: &[Head],
     q: usize,
     like: Option<&History>,
 ) -> Result<History, OutOfMemory>
+    requires heads { heads.now ≡ map head_of (aborts cert.now) }
     requires few { length (aborts cert.now) ≤ 7 }
     requires half { length (aborts cert.now) < q + q }
-    requires enough { q ≤ length (aborts cert.now) }
-    ensures { IfOk result (λ h. IsExtract q (map (λ s. log_in s.content) (aborts cert.now)) h) }
+    requires enough { (1 ≤ q) × (q ≤ length (aborts cert.now)) }
+    requires held { AreHeld (aborts cert.now) }
+    ensures { IfOk result (λ h. h ≡ agreed_history q (aborts cert.now)) }
 {
     let tree = tree_of(alloc, cert, like)?;
-    tree.deepest(alloc, q)
+    match leading(heads) {
+        Some(lead) => tree.extension(alloc, q, lead.at, usize::from(lead.n)),
+        None => tree.deepest(alloc, q),
+    }
 }
 
 /// The history of a certificate of instance `i`.
@@ -92,11 +111,12 @@ fn history_in<'a>(
     ensures ok { IfOk result (λ h. history_of c.now i (aborts cert.now) ≡ Some h) }
     ensures fault { IfErr result (λ e. CauseOf c.now i (aborts cert.now) e) }
 {
-    if let Err(fault) = are_sound(c, i, cert) {
-        return Err(fault);
-    }
+    let heads = match fitting_heads(c, i, cert) {
+        Ok(heads) => heads,
+        Err(fault) => return Err(fault),
+    };
     if !needs_equal(c.kind(i)) {
-        let h = agreed_history(alloc, cert, usize::from(c.f) + 1, like)?;
+        let h = agreed(alloc, cert, heads.as_slice(), usize::from(c.f) + 1, like)?;
         return Ok(h);
     }
     match equal_history(alloc, cert, like)? {
@@ -119,7 +139,8 @@ pub fn check_view<'a>(
     ensures count { IsErrOf result CertFault.Count ↔ (IsFull c.now i (aborts cert.now) → ⊥) }
     ensures signer { (r : ℕ) → IsErrOf result (CertFault.SameSigner r) ↔ (IsFull c.now i (aborts cert.now) × (first_repeat (aborts cert.now) ≡ Some r)) }
     ensures foreign { (j : ℕ) → IsErrOf result (CertFault.WrongInstance j) ↔ (IsApart c.now i (aborts cert.now) × (first_foreign i (aborts cert.now) ≡ Some j)) }
-    ensures unequal { IsErrOf result CertFault.Unequal ↔ (IsSound c.now i (aborts cert.now) × (history_of c.now i (aborts cert.now) ≡ None)) }
+    ensures bad { (r : ℕ) → IsErrOf result (CertFault.BadCert r) ↔ (IsSound c.now i (aborts cert.now) × (first_bad (kind_of c.now.plan i) c.now.f (aborts cert.now) ≡ Some r)) }
+    ensures unequal { IsErrOf result CertFault.Unequal ↔ (IsFitting c.now i (aborts cert.now) × (history_of c.now i (aborts cert.now) ≡ None)) }
     ensures memory { IsErrOf result CertFault.OutOfMemory → IsSome (history_of c.now i (aborts cert.now)) }
 {
     history_in(alloc, c, i, cert, None)
@@ -183,7 +204,7 @@ pub fn history_view<'a>(
     like: Option<&History>,
 ) -> Result<Option<History>, OutOfMemory>
     requires instance { 1 ≤ i }
-    requires formed { All (IsSigned IsAbort) (aborts cert.now) }
+    requires formed { All (IsSigned IsStopContent) (aborts cert.now) }
     ensures { IfOk result (λ o. o ≡ history_of c.now i (aborts cert.now)) }
 {
     if !are_members(cert, c.replicas()) {
@@ -208,7 +229,7 @@ pub fn take_view<'a>(
     like: Option<&History>,
 ) -> Result<Option<(History, AbortCert)>, OutOfMemory>
     requires instance { 1 ≤ i }
-    requires formed { All (IsSigned IsAbort) (aborts cert.now) }
+    requires formed { All (IsSigned IsStopContent) (aborts cert.now) }
     ensures history { IfOk result (λ o. option_map (λ x. x.0) o ≡ history_of c.now i (aborts cert.now)) }
     ensures cert { IfOk result (λ o. IfSome o (λ x. x.1 ≡ aborts cert.now)) }
 {

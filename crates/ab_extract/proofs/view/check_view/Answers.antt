@@ -1,5 +1,5 @@
 use Rattle.ab_wire.specs.Views.{aborts}
-use Rattle.ab_extract.proofs.CauseLemmas.{count_is, signer_is, foreign_is, unequal_is, memory_is}
+use Rattle.ab_extract.proofs.CauseLemmas.{count_is, signer_is, foreign_is, bad_is, unequal_is, memory_is}
 use Rattle.ab_extract.proofs.view.check_view.Goals as goal
 
 pub returns-clause-count : goal.returns-clause-count
@@ -10,6 +10,9 @@ returns-clause-signer c = signer_is c.args.c.now c.args.i (aborts c.args.cert.no
 
 pub returns-clause-foreign : goal.returns-clause-foreign
 returns-clause-foreign c = foreign_is c.args.c.now c.args.i (aborts c.args.cert.now) c.requires.aborts c.history_in.result c.history_in.ensures.ok c.history_in.ensures.fault
+
+pub returns-clause-bad : goal.returns-clause-bad
+returns-clause-bad c = bad_is c.args.c.now c.args.i (aborts c.args.cert.now) c.requires.aborts c.history_in.result c.history_in.ensures.ok c.history_in.ensures.fault
 
 pub returns-clause-unequal : goal.returns-clause-unequal
 returns-clause-unequal c = unequal_is c.args.c.now c.args.i (aborts c.args.cert.now) c.requires.aborts c.history_in.result c.history_in.ensures.ok c.history_in.ensures.fault
