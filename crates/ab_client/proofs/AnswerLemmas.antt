@@ -3,6 +3,7 @@ use Rattle.std.proofs.Common.{◌≡◌, ℕ, zero, suc, ◌+◌, ◌*◌, ◌<�
 use Rattle.std.specs.Prelude.{◌==◌, ◌&&◌, ◌||◌, nat_lt, if◌then◌else◌, All, IsTrue, ◌≢◌, ◌⊎◌, Result, Ok, Err, IfOk, IsOk, IsOkAnd}
 use Rattle.std.proofs.lemmas.Bool.{cases_order}
 use Rattle.std.proofs.lemmas.Bool.Decides.{nat_tests}
+use Rattle.std.proofs.lemmas.Result.{IfOk-weaker}
 use Rattle.std.proofs.lemmas.Slice.Eq.{bytes_eq-Decides}
 use Rattle.std.specs.Str.{bytes_eq}
 use Rattle.arrayvec.specs.ArrayVec.{ArrayVec}
@@ -13,7 +14,9 @@ use Rattle.ab_num.specs.declared.plan.Kind.TheVariants as kind
 use Rattle.ab_num.specs.declared.party.Party.TheVariants.{Replica}
 use Rattle.ab_num.specs.Places.{kind_of}
 use Rattle.ab_hist.specs.declared.request.Request.{Request}
-use Rattle.ab_msg.specs.declared.content.Content.TheVariants.{Resp}
+use Rattle.ab_msg.specs.declared.content.Content.TheVariants.{Resp, Spec}
+use Rattle.ab_msg.specs.declared.content.Content.{Content}
+use Rattle.ab_msg.specs.declared.zcert.Zcert.{Zcert}
 use Rattle.ab_msg.specs.declared.message.Msg.{Msg}
 use Rattle.ab_msg.specs.declared.message.Msg.TheVariants as msg
 use Rattle.ab_abs.specs.declared.ballot.Ballot.{Ballot}
@@ -21,12 +24,12 @@ use Rattle.ab_abs.specs.declared.rule.ReplyRule.TheVariants as rules
 use Rattle.ab_abs.specs.declared.seen.Seen.{Seen}
 use Rattle.ab_abs.specs.declared.seen.Seen.TheVariants.{Committed}
 use Rattle.ab_abs.specs.Votes.{has_voted, voted, same_vote, all_voted, is_full_by}
-use Rattle.ab_abs.specs.Kinds.{rule_of, counts_responses}
+use Rattle.ab_abs.specs.Kinds.{rule_of, counts_responses, is_zcert}
 use Rattle.ab_run.specs.declared.phase.Phase.{Phase}
 use Rattle.ab_run.specs.declared.phase.Phase.TheVariants.{Idle, Waiting, Panicking}
-use Rattle.ab_run.specs.Clients.{CliAction, move_vote, move_commit, vote_claim, if_open, counting, hears_response}
+use Rattle.ab_run.specs.Clients.{CliAction, move_vote, move_commit, vote_claim, if_open, counting, counting_spec, hears_response, telling, telling_by}
 use Rattle.ab_run.specs.Local.{cue_message, marks_in_moves}
-use Rattle.ab_client.specs.Clients.{Seat, alone, is_waiting, moves_on, marks}
+use Rattle.ab_client.specs.Clients.{Seat, alone, is_waiting, moves_on, marks, told_by}
 use Rattle.ab_client.specs.Moved.{IsLastVote, IsMoved, is_answer}
 use Rattle.ab_client.proofs.MovedLemmas.{moved_nothing, moved_so}
 
@@ -66,6 +69,84 @@ module _ (s : Seat) (b : Ballot) (i d stamp : ℕ) (tag : List ℕ) (now : Seat)
 
   pub response_counted : IsMoved s (moves_on s (cue_message (msg.Resp (Resp (Replica b.by) i d stamp b.n b.d b.reply) tag))) now [] shown
   response_counted = by_last s.cli.last refl
+
+-- the same of a signed one, for whose signature memory may be wanting
+module _ (s : Seat) (b : Ballot) (sig : List ℕ) (i d stamp maker : ℕ) (now : Seat) (r : Result (ArrayVec Seen) OutOfMemory)
+    (awaited : ((is_waiting s.cli.phase && is_zcert (kind_of s.cluster.plan s.cli.at)) && ((i == s.cli.at) && ((d == s.me) && (stamp == s.cli.stamp)))) ≡ true)
+    (counts : (m : Request) → s.cli.last ≡ Some m → IfOk r (λ marks. IsMoved s (counting_spec (alone s.cluster) s.me s.cli m b sig) now [] marks.items))
+    (none : s.cli.last ≡ None → IfOk r (λ marks. (now ≡ s) × (marks.items ≡ []))) where
+  abbrev moves_by : List CliAction
+  moves_by = moves_on s (cue_message (msg.Spec (record { maker = maker; content = Spec (Replica b.by) i d stamp b.n b.d b.reply; sig = sig })))
+
+  spec_by_last : (last : Option Request) → s.cli.last ≡ last → IfOk r (λ marks. IsMoved s moves_by now [] marks.items)
+  spec_by_last None is =
+      IfOk-weaker r (λ marks. (now ≡ s) × (marks.items ≡ [])) (λ marks. IsMoved s moves_by now [] marks.items)
+      (λ marks rests. subst (λ (t : Seat). IsMoved s moves_by t [] marks.items) (sym rests.0) (moved_nothing s moves_by [] marks.items refl rests.1 (heard_none s.cli.phase s.cli.last _ is)))
+      (none is)
+  spec_by_last (Some m) is =
+      let counted = counting_spec (alone s.cluster) s.me s.cli m b sig in
+      IfOk-weaker r (λ marks. IsMoved s counted now [] marks.items) (λ marks. IsMoved s moves_by now [] marks.items)
+      (λ marks moved. moved_so s moves_by counted now [] marks.items
+      (heard_so s.cli.phase s.cli.last (is_zcert (kind_of s.cluster.plan s.cli.at)) ((i == s.cli.at) && ((d == s.me) && (stamp == s.cli.stamp))) (λ q. counting_spec (alone s.cluster) s.me s.cli q b sig) m awaited is)
+      moved)
+      (counts m is)
+
+  pub spec_counted : IfOk r (λ marks. IsMoved s moves_by now [] marks.items)
+  spec_counted = spec_by_last s.cli.last refl
+
+-- ---- what replicas tell that they keep
+
+kept_so : (p : Phase) (last : Option Request) (moves : Request → List CliAction) (m : Request) → is_waiting p ≡ true → last ≡ Some m → if_open p last (λ waits q. if waits then moves q else []) ≡ moves m
+kept_so Idle last moves m e is = absurd (cc (e))
+kept_so Waiting None moves m e is = absurd (cc (is))
+kept_so Waiting (Some q) moves m e is = let same : q ≡ m = cc (is) in ap moves same
+kept_so Panicking last moves m e is = absurd (cc (e))
+
+kept_still : (p : Phase) (last : Option Request) (moves : Request → List CliAction) → is_waiting p ≡ false → if_open p last (λ waits q. if waits then moves q else []) ≡ []
+kept_still Idle last moves e = refl
+kept_still Waiting last moves e = absurd (cc (e))
+kept_still Panicking None moves e = refl
+kept_still Panicking (Some q) moves e = refl
+
+module _ (s : Seat) (content : Content) (tag : List ℕ) where
+  abbrev telling_moves : List CliAction
+  telling_moves = moves_on s (cue_message (msg.LocalCommit content tag))
+
+  -- nothing comes of it where the client doesn't wait
+  pub tells_nobody : is_waiting s.cli.phase ≡ false → telling_moves ≡ []
+  tells_nobody e = kept_still s.cli.phase s.cli.last (λ q. telling (alone s.cluster) s.me s.cli q content s.cli.sent) e
+
+  pub tells_without : s.cli.last ≡ None → telling_moves ≡ []
+  tells_without e = heard_none s.cli.phase s.cli.last _ e
+
+  untold : (m : Request) (o : Option Zcert) → told_by s.cluster.f s.cli.at s.me o content ≡ None → telling (alone s.cluster) s.me s.cli m content o ≡ []
+  untold m None none = refl
+  untold m (Some z) none = ap (telling_by (alone s.cluster) s.me s.cli m z) none
+
+  by_request : (last : Option Request) → s.cli.last ≡ last → is_waiting s.cli.phase ≡ true → told_by s.cluster.f s.cli.at s.me s.cli.sent content ≡ None → telling_moves ≡ []
+  by_request None is waits none = tells_without is
+  by_request (Some m) is waits none = kept_so s.cli.phase s.cli.last (λ q. telling (alone s.cluster) s.me s.cli q content s.cli.sent) m waits is ∙ untold m s.cli.sent none
+
+  -- nor where it says nothing of the certificate that was sent
+  pub tells_nothing : is_waiting s.cli.phase ≡ true → told_by s.cluster.f s.cli.at s.me s.cli.sent content ≡ None → telling_moves ≡ []
+  tells_nothing waits none = by_request s.cli.last refl waits none
+
+  module _ (r : ℕ) (waits : is_waiting s.cli.phase ≡ true) (now : Seat) (out : Result (ArrayVec Seen) OutOfMemory) (says : told_by s.cluster.f s.cli.at s.me s.cli.sent content ≡ Some r)
+      (tells : (m : Request) (z : Zcert) → s.cli.last ≡ Some m → s.cli.sent ≡ Some z → IfOk out (λ marks. IsMoved s (telling_by (alone s.cluster) s.me s.cli m z (Some r)) now [] marks.items)) where
+    told_so : (m : Request) (o : Option Zcert) → s.cli.sent ≡ o → s.cli.last ≡ Some m → told_by s.cluster.f s.cli.at s.me o content ≡ Some r → IfOk out (λ marks. IsMoved s telling_moves now [] marks.items)
+    told_so m None is asked said = absurd (cc (said))
+    told_so m (Some z) is asked said =
+        let counted = telling_by (alone s.cluster) s.me s.cli m z (Some r) in
+        let same : telling_moves ≡ counted =
+        kept_so s.cli.phase s.cli.last (λ q. telling (alone s.cluster) s.me s.cli q content s.cli.sent) m waits asked
+        ∙ ap (telling (alone s.cluster) s.me s.cli m content) is ∙ ap (telling_by (alone s.cluster) s.me s.cli m z) said
+        in
+        IfOk-weaker out (λ marks. IsMoved s counted now [] marks.items) (λ marks. IsMoved s telling_moves now [] marks.items)
+        (λ marks moved. moved_so s telling_moves counted now [] marks.items same moved) (tells m z asked is)
+
+    -- the first that a replica tells of it counts
+    pub tells_so : (m : Request) → s.cli.last ≡ Some m → IfOk out (λ marks. IsMoved s telling_moves now [] marks.items)
+    tells_so m asked = told_so m s.cli.sent refl asked says
 
 -- ---- the last of equal answers
 

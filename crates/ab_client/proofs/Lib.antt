@@ -4,3 +4,4 @@ pub mod CertLemmas
 pub mod MovedLemmas
 pub mod Targets
 pub mod TimerLemmas
+pub mod ZcertLemmas

@@ -1,41 +1,48 @@
 -- What a client comes to, move by move.
-use Rattle.std.proofs.Common.{◌≡◌, ℕ, ◌+◌, ◌*◌, ◌<◌, ◌≤◌, Bool, true, false, Option, Some, None, List, [], ◌∷◌, ◌++◌, arith, refl, sym, ap, ◌∙◌, subst}
-use Rattle.std.specs.Prelude.{◌==◌, ◌&&◌, nat_lt, nat_le, if◌then◌else◌, All, ◌⊎◌, Result, Ok, Err, IfOk}
+use Rattle.std.proofs.Common.{◌≡◌, ℕ, ◌+◌, ◌*◌, ◌<◌, ◌≤◌, suc, length, map, Bool, true, false, Option, Some, None, List, [], ◌∷◌, ◌++◌, arith, refl, sym, ap, ◌∙◌, subst}
+use Rattle.std.specs.Prelude.{◌==◌, ◌&&◌, nat_lt, nat_le, if◌then◌else◌, All, Contains, ◌⊎◌, Result, Ok, Err, IfOk}
 use Rattle.std.proofs.Common.{inl, inr}
-use Rattle.std.specs.List.{list_any}
+use Rattle.std.specs.List.{list_all, list_any}
+use Rattle.std.proofs.Math.Bool.{and-false}
+use Rattle.std.proofs.lemmas.Bool.{and_parts, eqb-true}
 use Rattle.std.proofs.lemmas.Bool.Decides.{nat_tests}
 use Rattle.std.proofs.lemmas.List.{append-nil}
-use Rattle.std.proofs.lemmas.List.Elements.{All-nil}
+use Rattle.std.proofs.lemmas.List.Elements.{All-nil, All-cons, All-contains}
 use Rattle.arrayvec.specs.ArrayVec.{ArrayVec}
 use Rattle.ab_num.specs.declared.memory.OutOfMemory.{OutOfMemory}
 use Rattle.ab_num.specs.declared.cluster.Cluster.{Cluster}
-use Rattle.ab_num.specs.declared.plan.Kind.TheVariants as kind
 use Rattle.ab_num.specs.declared.party.Party.TheVariants.{Client}
 use Rattle.ab_num.specs.Places.{kind_of}
+use Rattle.ab_form.specs.Formats.{IsWithin}
 use Rattle.ab_form.specs.Lists.{FitsInside}
 use Rattle.ab_hist.specs.declared.request.Request.{Request}
 use Rattle.ab_msg.specs.declared.signed.Signed.{Signed}
-use Rattle.ab_msg.specs.declared.message.Msg.{Msg}
 use Rattle.ab_msg.specs.declared.message.Msg.TheVariants as msg
 use Rattle.ab_msg.specs.declared.message.Out.{Out}
 use Rattle.ab_msg.specs.Claims.{instance_of}
-use Rattle.ab_msg.specs.Fields.{IsInstance}
+use Rattle.ab_msg.specs.declared.zcert.Zcert.{Zcert}
+use Rattle.ab_msg.specs.Fields.{IsInstance, IsReply, IsSigner, IsStamp}
 use Rattle.ab_msg.specs.Messages.{IsDraft}
-use Rattle.ab_msg.specs.Contents.{IsAbort}
+use Rattle.ab_msg.specs.Contents.{IsStopContent, IsZcert}
 use Rattle.ab_msg.specs.Certs.{IsSigned, AreAborts}
+use Rattle.ab_abs.specs.declared.ballot.Ballot.{Ballot}
 use Rattle.ab_abs.specs.declared.seen.Seen.{Seen}
 use Rattle.ab_abs.specs.declared.seen.Seen.TheVariants.{Invoked, Cert}
-use Rattle.ab_abs.specs.Certificates.{history_of}
+use Rattle.ab_abs.specs.Kinds.{is_zcert}
+use Rattle.ab_abs.specs.Certificates.{are_apart, history_of}
+use Rattle.ab_extract.specs.Certs.{is_fit}
 use Rattle.ab_run.specs.declared.phase.Phase.{Phase}
 use Rattle.ab_run.specs.declared.phase.Phase.TheVariants.{Idle, Waiting, Panicking}
 use Rattle.ab_run.specs.Replicas.{cert_instance}
-use Rattle.ab_run.specs.Clients.{Cli, CliAction, move_again, move_keep, move_panic, move_take, after_move, if_open, cert_out, request_out, to_all, own_cert, taking, taking_with, is_abort_of}
+use Rattle.ab_run.specs.Clients.{Cli, CliAction, move_again, move_cert, move_keep, move_panic, move_take, after_move, if_open, cert_out, request_out, to_all, own_cert, taking, taking_with, is_abort_of, cert_due}
+use Rattle.ab_run.specs.Asking.{IsSent, AreVoters}
 use Rattle.ab_run.specs.Local.{cue_message}
-use Rattle.ab_client.specs.Clients.{Seat, after, alone, is_waiting, marks, moves_on, request_msg, panic_msg, sends}
+use Rattle.ab_run.proofs.AskingLemmas.{timeout_sends}
+use Rattle.ab_client.specs.Clients.{Seat, alone, is_waiting, marks, moves_on, request_msg, panic_msg, sends}
 use Rattle.ab_run.specs.Forms.{IsDraftOf}
-use Rattle.ab_client.specs.Moved.{IsMoved, IsPlaced, IsRequestOf, open_request}
-use Rattle.ab_client.proofs.CertLemmas.{is_abort_of-instance}
-use Rattle.ab_client.proofs.Targets.{requests_are_drafts, certs_are_drafts, panics_are_drafts, both_are_drafts}
+use Rattle.ab_client.specs.Moved.{IsBallot, IsMoved, IsPlaced, IsRequestOf, open_request}
+use Rattle.ab_client.proofs.CertLemmas.{is_abort_of-fits}
+use Rattle.ab_client.proofs.Targets.{requests_are_drafts, certs_are_drafts, panics_are_drafts, zcerts_are_drafts, both_are_drafts}
 
 -- ---- the open request
 
@@ -129,6 +136,51 @@ moved_panic s placed at now sent is sends = record {
       (both_are_drafts s.cluster.f (Client s.me) _ _ (certs_are_drafts s.cluster (Client s.me) s.cli.cert placed.cert) (panics_are_drafts s.cluster s.cli.at s.me (placed.instance, at) few));
 }
 
+-- ---- a certificate of answers
+
+module _ (s : Seat) (placed : IsPlaced s.me s.cli) (m : Request) (last : s.cli.last ≡ Some m) (z : Zcert) (due : cert_due (alone s.cluster) s.cli m ≡ Some z) where
+  made : IsSent s.cluster.f m.client m.stamp z × AreVoters s.cli.votes s.cli.signed z
+  made = timeout_sends s.cluster.f m s.cli.votes s.cli.signed s.cli.sent z due
+
+  many : length z.sigs ≡ 2 * s.cluster.f + 1
+  many = eqb-true (length z.sigs) (2 * s.cluster.f + 1) (and_parts (length z.sigs == (2 * s.cluster.f + 1)) (are_apart (map (λ t. t.0) z.sigs) && list_all (λ t. nat_lt t.0 (3 * s.cluster.f + 1)) z.sigs) made.0.quorum).0
+
+  -- it has what one of the votes has
+  voted_like : (sigs : List (ℕ × List ℕ)) → 1 ≤ length sigs → ((t : ℕ × List ℕ) → Contains sigs t → (a : Ballot) × Contains s.cli.votes a × (a.by ≡ t.0) × (a.n ≡ z.n) × (a.d ≡ z.d) × (a.reply ≡ z.reply))
+      → IsWithin 1 65535 z.n × ((length z.d ≡ 32) × IsReply z.reply)
+  voted_like [] some each = absurd (omega (arith, some))
+  voted_like (t ∷ sigs) some each =
+      let vote = each t (0, omega arith, refl) in
+      let fits = All-contains IsBallot s.cli.votes vote.0 placed.votes vote.1 in
+      (subst (λ (n : ℕ). IsWithin 1 65535 n) vote.3 fits.0, (subst (λ (d : List ℕ). length d ≡ 32) vote.4 fits.1, subst IsReply vote.5 fits.2))
+
+  all_signed : (sigs : List (ℕ × List ℕ)) → ((t : ℕ × List ℕ) → Contains sigs t → Contains s.cli.signed t) → All IsSigner sigs
+  all_signed [] each = All-nil IsSigner
+  all_signed (t ∷ sigs) each =
+      All-cons IsSigner t sigs (All-contains IsSigner s.cli.signed t placed.signed (each t (0, omega arith, refl))) (all_signed sigs (λ u has. each u (suc has.0, omega (arith, has.1), has.2)))
+
+  zcert_fits : s.me ≤ 15 → IsZcert z
+  zcert_fits few =
+      let fits = open_fits s placed m last in
+      let like = voted_like z.sigs (omega (arith, many)) (λ t has. (made.1 t has).1) in
+      let f = s.cluster.in_bounds.few_faulty in (
+        (omega arith, omega (arith, made.0.client_is, fits.0, few)),
+        (
+          subst IsStamp (sym made.0.stamp_is) fits.1.0,
+          (like.0, (like.1.0, (like.1.1, ((omega (arith, many), omega (arith, many, f)), all_signed z.sigs (λ t has. (made.1 t has).0))))),
+        ),
+      )
+
+  pub moved_cert : (at : s.cli.at ≤ 4294967295) (now : Seat) (sent : List Out) → now ≡ record s { cli = after_move s.cli (move_cert z) } → sent ≡ to_all (3 * s.cluster.f + 1) (msg.Cert s.cli.at z)
+      → IsMoved s (move_cert z ∷ []) now sent []
+  moved_cert at now sent is sends = record {
+    client = is;
+    stamp = ap (λ (t : Seat). t.cli.stamp) is;
+    outs = sends ∙ sym (append-nil _);
+    marks = refl;
+    drafts = λ few. subst (All (IsDraftOf s.cluster.f (Client s.me))) (sym sends) (zcerts_are_drafts s.cluster (Client s.me) s.cli.at z (placed.instance, at) (zcert_fits few));
+  }
+
 -- ---- kept ABORTs
 
 -- an ABORT that is kept just before an entry is gone after it
@@ -170,22 +222,50 @@ module _ (c : Cluster) (s : Cli) (m : Request) (j : ℕ) (cert : List Signed) wh
 
 -- ---- ABORTs that come
 
-module _ (s : Seat) (v : Signed) (is : IsSigned IsAbort v) where
+module _ (s : Seat) (v : Signed) (is : IsSigned IsStopContent v) where
+  abbrev may_keep : Bool
+  may_keep = is_abort_of (kind_of s.cluster.plan s.cli.at) s.cluster.f s.cli.at v.content
+
+  abbrev is_known : Bool
+  is_known = list_any (λ w. w.maker == v.maker) s.cli.kept
+
+  may_if : may_keep ≡ ((instance_of v.content == s.cli.at) && is_fit (is_zcert (kind_of s.cluster.plan s.cli.at)) s.cluster.f v.content)
+  may_if = is_abort_of-fits (kind_of s.cluster.plan s.cli.at) s.cluster.f s.cli.at v.content is.1.0
+
   again : (a b : Bool) (moves : List CliAction) → b ≡ true → (if a then (if b then [] else moves) else []) ≡ []
   again true b moves e = ap (λ t. if t then [] else moves) e
   again false b moves e = refl
 
   pub abort_again : list_any (λ w. w.maker == v.maker) s.cli.kept ≡ true → moves_on s (cue_message (msg.Abort v)) ≡ []
-  abort_again out = if_open-still s.cli.phase s.cli.last _ (λ waits m. again (is_abort_of s.cli.at v.content) (list_any (λ w. w.maker == v.maker) s.cli.kept) _ out)
+  abort_again out = if_open-still s.cli.phase s.cli.last _ (λ waits m. again may_keep is_known _ out)
+
+  not_kept : (a : Bool) (moves : List CliAction) → a ≡ false → (if a then moves else []) ≡ []
+  not_kept a moves out = ap (λ t. if t then moves else []) out
+
+  refused : may_keep ≡ false → moves_on s (cue_message (msg.Abort v)) ≡ []
+  refused out = if_open-still s.cli.phase s.cli.last _ (λ waits m. not_kept may_keep _ out)
+
+  -- one of another instance
+  pub abort_elsewhere : (instance_of v.content ≡ s.cli.at → ⊥) → moves_on s (cue_message (msg.Abort v)) ≡ []
+  abort_elsewhere other =
+      refused (may_if ∙ ap (λ b. b && is_fit (is_zcert (kind_of s.cluster.plan s.cli.at)) s.cluster.f v.content) (differs (instance_of v.content) s.cli.at other))
+    where
+      differs : (a b : ℕ) → (a ≡ b → ⊥) → (a == b) ≡ false
+      differs a b e = grind (arith, nat_tests)
+
+  -- one that no certificate of the instance may hold
+  pub abort_unfit : is_fit (is_zcert (kind_of s.cluster.plan s.cli.at)) s.cluster.f v.content ≡ false → moves_on s (cue_message (msg.Abort v)) ≡ []
+  abort_unfit out = refused (may_if ∙ ap (λ b. (instance_of v.content == s.cli.at) && b) out ∙ and-false (instance_of v.content == s.cli.at))
 
   first : (a b : Bool) (moves : List CliAction) → a ≡ true → b ≡ false → (if a then (if b then [] else moves) else []) ≡ moves
   first a b moves e f = ap (λ t. if t then (if b then [] else moves) else []) e ∙ ap (λ t. if t then [] else moves) f
 
   pub abort_first : (m : Request) → open_request s.cli.phase s.cli.last ≡ Some m → instance_of v.content ≡ s.cli.at → list_any (λ w. w.maker == v.maker) s.cli.kept ≡ false
+      → is_fit (is_zcert (kind_of s.cluster.plan s.cli.at)) s.cluster.f v.content ≡ true
       → moves_on s (cue_message (msg.Abort v)) ≡ move_keep v ∷ taking (alone s.cluster) s.cli m s.cli.at (own_cert (kind_of s.cluster.plan s.cli.at) v s.cli.kept)
-  abort_first m asked here new =
+  abort_first m asked here new fits =
       if_open-some s.cli.phase s.cli.last _ m asked
-      ∙ first (is_abort_of s.cli.at v.content) (list_any (λ w. w.maker == v.maker) s.cli.kept) _ (is_abort_of-instance s.cli.at v is ∙ same (instance_of v.content) s.cli.at here) new
+      ∙ first may_keep is_known _ (may_if ∙ (λ j. same (instance_of v.content) s.cli.at here j && fits j)) new
     where
       same : (a b : ℕ) → a ≡ b → (a == b) ≡ true
       same a b e = grind (arith, nat_tests)

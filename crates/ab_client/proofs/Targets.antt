@@ -19,6 +19,8 @@ use Rattle.ab_form.specs.Lists.{FitsInside}
 use Rattle.ab_msg.specs.Certs.{AreAborts}
 use Rattle.ab_msg.specs.Fields.{IsInstance}
 use Rattle.ab_msg.specs.Claims.{maker_of}
+use Rattle.ab_msg.specs.declared.zcert.Zcert.{Zcert}
+use Rattle.ab_msg.specs.Contents.{IsZcert}
 use Rattle.ab_msg.specs.Messages.{IsDraft}
 use Rattle.ab_run.specs.Clients.{to_all, to_targets, request_out, cert_out}
 use Rattle.ab_num.specs.Places.{kind_of}
@@ -46,6 +48,7 @@ module _ (f : ℕ) (p : Party) (m : Msg) (each : (to : Party) → IsDraftOf f p 
   drafts_to_targets c kind.ZLight i = one_of _
   drafts_to_targets c kind.Chain i = one_of _
   drafts_to_targets c kind.Backup i = drafts_to_all (3 * c.f + 1)
+  drafts_to_targets c kind.ZCert i = one_of _
 
 request_draft : (f i : ℕ) (m : Request) → IsDraft (request_msg i m) → (to : Party) → IsDraftOf f (Client m.client) (record { to = to; msg = request_msg i m })
 request_draft f i m draft to = record { draft = draft; own = λ s has. ap maker_of (only (Req (Client m.client) i m) s has) }
@@ -59,6 +62,11 @@ pub certs_are_drafts : (c : Cluster) (p : Party) (cert : Option (List Signed)) �
 certs_are_drafts c p None fits = All-nil (IsDraftOf c.f p)
 certs_are_drafts c p (Some cert) fits =
     drafts_to_all c.f p (msg.Init cert) (λ to. record { draft = fits; own = λ s has. absurd (none_in s has) }) (3 * c.f + 1)
+
+-- a certificate of answers
+pub zcerts_are_drafts : (c : Cluster) (p : Party) (i : ℕ) (z : Zcert) → IsInstance i → IsZcert z → All (IsDraftOf c.f p) (to_all (3 * c.f + 1) (msg.Cert i z))
+zcerts_are_drafts c p i z placed fits =
+    drafts_to_all c.f p (msg.Cert i z) (λ to. record { draft = (placed, fits); own = λ s has. absurd (none_in s has) }) (3 * c.f + 1)
 
 -- and what asks the replicas to stop
 pub panics_are_drafts : (c : Cluster) (i me : ℕ) → IsInstance i → me ≤ 15 → All (IsDraftOf c.f (Client me)) (to_all (3 * c.f + 1) (panic_msg i me))

@@ -1,9 +1,11 @@
 -- What a contract sees of a client.
-use Rattle.std.specs.Prelude.{◌≡◌, ◌≢◌, ℕ, ◌<◌, ◌≤◌, Bool, true, false, List, [], replicate}
+use Rattle.std.specs.Prelude.{◌≡◌, ◌≢◌, ℕ, ◌<◌, ◌≤◌, Bool, true, false, Option, None, Some, List, [], replicate}
 use Rattle.ab_num.specs.declared.cluster.Cluster.{Cluster}
 use Rattle.ab_num.specs.declared.party.Party.TheVariants.{Client}
 use Rattle.ab_hist.specs.declared.request.Request.{Request}
+use Rattle.ab_msg.specs.declared.content.Content.{Content}
 use Rattle.ab_msg.specs.declared.content.Content.TheVariants.{Req, Panic}
+use Rattle.ab_msg.specs.declared.zcert.Zcert.{Zcert}
 use Rattle.ab_msg.specs.declared.message.Msg.{Msg}
 use Rattle.ab_msg.specs.declared.message.Msg.TheVariants as msg
 use Rattle.ab_msg.specs.declared.message.Out.{Out}
@@ -12,6 +14,7 @@ use Rattle.ab_run.specs.declared.phase.Phase.{Phase}
 use Rattle.ab_run.specs.declared.phase.Phase.TheVariants.{Idle, Waiting, Panicking}
 use Rattle.ab_run.specs.Setups.{RunSetup}
 use Rattle.ab_run.specs.Clients.{Cli, CliAction}
+use Rattle.ab_run.specs.Asking.{teller}
 use Rattle.ab_run.specs.Local.{Cue, cue_command, moves_at, cli_after, cli_sends, cli_marks}
 use Rattle.ab_client.specs.declared.client.InvokeFault.{InvokeFault}
 use Rattle.ab_client.specs.declared.client.InvokeFault.TheVariants.{Busy, TooLong, Empty, OutOfMemory}
@@ -56,6 +59,11 @@ request_msg i m = msg.Req (Req (Client m.client) i m) (record { items = [] })
 -- what asks the replicas to stop an instance, before it has a tag
 unfoldable pub panic_msg : ℕ → ℕ → Msg
 panic_msg i c = msg.Panic (Panic (Client c) i) (replicate 32 0)
+
+-- the replica that tells by this content that it keeps the certificate which client c sent in instance i, or one with a higher number
+abbrev pub told_by : ℕ → ℕ → ℕ → Option Zcert → Content → Option ℕ
+told_by f i c None s = None
+told_by f i c (Some z) s = teller f i c z s
 
 -- when a command is refused: a request is open, or the command is too long or empty
 abbrev pub InvokeCause : InvokeFault → Phase → ℕ → Type 0

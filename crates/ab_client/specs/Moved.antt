@@ -10,8 +10,8 @@ use Rattle.ab_msg.specs.declared.content.Content.TheVariants.{Resp}
 use Rattle.ab_msg.specs.declared.message.Msg.{Msg}
 use Rattle.ab_msg.specs.declared.message.Msg.TheVariants as msg
 use Rattle.ab_msg.specs.declared.message.Out.{Out}
-use Rattle.ab_msg.specs.Fields.{IsStamp}
-use Rattle.ab_msg.specs.Contents.{IsAbort}
+use Rattle.ab_msg.specs.Fields.{IsReply, IsSigner, IsStamp}
+use Rattle.ab_msg.specs.Contents.{IsStopContent}
 use Rattle.ab_msg.specs.Certs.{AreAborts, IsSigned}
 use Rattle.ab_abs.specs.declared.ballot.Ballot.{Ballot}
 use Rattle.ab_abs.specs.declared.seen.Seen.{Seen}
@@ -33,13 +33,19 @@ open_request Panicking last = last
 abbrev pub IsRequestOf : ℕ → Request → Type 0
 IsRequestOf me m = (m.client ≡ me) × (IsStamp m.stamp × IsWithin 1 128 (length m.command.items))
 
--- where client me can be: its last request, its certificate and the ABORTs that it kept have bytes
+-- a vote that has bytes
+abbrev pub IsBallot : Ballot → Type 0
+IsBallot b = IsWithin 1 65535 b.n × (length b.d ≡ 32) × IsReply b.reply
+
+-- where client me can be: its last request, the votes for it with their signatures, its certificate and the ABORTs that it kept have bytes
 pub record IsPlaced (me : ℕ) (s : Cli) : Type 0 where
   pub instance : 1 ≤ s.at
   pub stamp : s.stamp ≤ 2 ^ 63
   pub cert : FitsInside (AreAborts 1 7) s.cert
   pub last : FitsInside (IsRequestOf me) s.last
-  pub kept : All (IsSigned IsAbort) s.kept
+  pub votes : All IsBallot s.votes
+  pub signed : All IsSigner s.signed
+  pub kept : All (IsSigned IsStopContent) s.kept
 
 -- by these moves client s comes to now, sends this and shows this. Its stamp stays, and all that it sends gets bytes
 pub record IsMoved (s : Seat) (moves : List CliAction) (now : Seat) (sent : List Out) (shown : List Seen) : Type 0 where

@@ -5,7 +5,7 @@ ghost use Rattle.std.specs.List.{filter, insert, list_all, list_any};
 ghost use Rattle.std.specs.Option.{option_map};
 ghost use Rattle.ab_form.specs.Readers.{listed};
 ghost use Rattle.ab_msg.specs.declared.signed.Signed.{Signed as SignedContent};
-ghost use Rattle.ab_msg.specs.Contents.{IsAbort};
+ghost use Rattle.ab_msg.specs.Contents.{IsStopContent};
 ghost use Rattle.ab_msg.specs.Certs.{IsSigned};
 ghost use Rattle.ab_abs.specs.Certificates.{history_of};
 ghost use Rattle.ab_wire.specs.Views.{aborts};
@@ -56,6 +56,7 @@ pub(crate) fn timely<'a>(at: u32, cert: &ListRef<'a, SignedRef<'a>>) -> Option<u
 fn last_log(aborts: &[Signed]) -> Option<&History> {
     match &aborts.last()?.content {
         Content::Abort { history, .. } => Some(history),
+        Content::AbortZ { history, .. } => Some(history),
         _ => None,
     }
 }
@@ -94,6 +95,7 @@ fn is_memory(fault: CertFault) -> bool
         CertFault::Count => false,
         CertFault::SameSigner(_) => false,
         CertFault::WrongInstance(_) => false,
+        CertFault::BadCert(_) => false,
         CertFault::Unequal => false,
     }
 }
@@ -106,7 +108,7 @@ pub(crate) fn history_of(
     cert: &AbortCert,
 ) -> Result<Option<History>, OutOfMemory>
     requires instance { 1 ≤ i }
-    requires aborts { All (IsSigned IsAbort) cert.now }
+    requires aborts { All (IsSigned IsStopContent) cert.now }
     ensures { IfOk result (λ h. h ≡ history_of cluster.now i cert.now) }
 {
     if !are_within(cert.as_slice(), cluster.replicas()) {

@@ -12,12 +12,13 @@ ghost use Rattle.ab_run.specs.Forms.{IsDraftOf};
 ghost use Rattle.ab_client.specs.Moved.{IsLastVote, IsMoved, is_answer, open_request};
 
 mod answers;
+mod certified;
 mod switching;
 
 use crate::sending::requests;
 use ab_abs::{Marks, Seen, Votes, reply_rule};
 use ab_hist::Request;
-use ab_msg::{AbortCert, Outs, Signed};
+use ab_msg::{AbortCert, Outs, Sig, Signed, Zcert};
 use ab_num::{Cluster, OutOfMemory};
 use ab_run::Phase;
 use ab_wire::MsgRef;
@@ -53,8 +54,9 @@ impl From<OutOfMemory> for InvokeFault {
     }
 }
 
-/// A client in its present instance: the certificate by which it entered, its last request with the
-/// votes for it, and the ABORTs of the instance by ascending replica.
+/// A client in its present instance: the certificate by which it entered, its last request with the votes for it, and the ABORTs
+/// of the instance by ascending replica. Where replicas sign their votes, also the signatures, the certificate of answers that it
+/// sent, and the replicas that told that they keep it.
 pub struct Client {
     cluster: Cluster,
     me: u16,
@@ -64,6 +66,9 @@ pub struct Client {
     stamp: u64,
     last: Option<Request>,
     votes: Votes,
+    signed: Vec<(u8, Sig)>,
+    sent: Option<Zcert>,
+    told: Vec<u8>,
     kept: Vec<Signed>,
 }
 
@@ -79,6 +84,9 @@ impl Drop for Client {
             stamp: _,
             last: _,
             votes: _,
+            signed: _,
+            sent: _,
+            told: _,
             kept: _,
         } = self;
     }
@@ -96,11 +104,11 @@ impl Model for Client {
     ghost view = { λ c. record {
       me = c.me;
       cluster = c.cluster;
-      cli = record { at = c.instance; cert = c.cert; phase = c.phase; stamp = c.stamp; last = c.last; votes = c.votes.ballots; kept = c.kept.items };
+      cli = record { at = c.instance; cert = c.cert; phase = c.phase; stamp = c.stamp; last = c.last; votes = c.votes.ballots; signed = c.signed.items; sent = c.sent; told = c.told.items; kept = c.kept.items };
     } };
 
     ghost invariant = { λ c.
-        IsPlaced c.me (record { at = c.instance; cert = c.cert; phase = c.phase; stamp = c.stamp; last = c.last; votes = c.votes.ballots; kept = c.kept.items })
+        IsPlaced c.me (record { at = c.instance; cert = c.cert; phase = c.phase; stamp = c.stamp; last = c.last; votes = c.votes.ballots; signed = c.signed.items; sent = c.sent; told = c.told.items; kept = c.kept.items })
         × (c.votes.rule ≡ rule_of (kind_of c.cluster.plan c.instance) c.cluster.f) × (c.votes.replicas ≡ 3 * c.cluster.f + 1) };
 }
 
@@ -133,6 +141,9 @@ impl Client {
             stamp: 0,
             last: None,
             votes: Votes::new(reply_rule(cluster.kind(1), cluster.f), cluster.replicas()),
+            signed: Vec::new(alloc),
+            sent: None,
+            told: Vec::new(alloc),
             kept: Vec::new(alloc),
         }
     }
@@ -189,8 +200,18 @@ impl Client {
         self.phase = Phase::Waiting;
         self.stamp += 1;
         self.last = Some(request);
-        self.votes.clear();
+        self.forget_votes();
         Ok((outs, marks))
+    }
+
+    /// Drops the votes, and what was made of them.
+    fn forget_votes(&mut self)
+        ensures { self.new ≡ record self.old { cli = record self.old.cli { votes = []; signed = []; sent = None; told = [] } } }
+    {
+        self.votes.clear();
+        self.signed.clear();
+        self.sent = None;
+        self.told.clear();
     }
 
     /// A number that rises with each invocation and each entry (`timers_count`), the last stamp and the
@@ -228,9 +249,9 @@ impl Client {
         }
     }
 
-    /// Takes a message. A response or a CHAIN that makes the votes for the open request enough commits
-    /// at once. An ABORT of the present instance is kept, and a certificate of this or of a later
-    /// instance brings the client to the one behind it. Nothing else changes the client.
+    /// Takes a message. A response, signed or not, or a CHAIN that makes the votes for the open request enough commits at once, and so
+    /// does the last of 2f + 1 replicas that keep the certificate which it sent. An ABORT of the present instance is kept, and a
+    /// certificate of this or of a later instance brings the client to the one behind it. Nothing else changes the client.
     pub fn on(&mut self, alloc: Global, msg: MsgRef<'_>) -> Result<(Outs, Marks), OutOfMemory>
         requires received { IsReceived msg }
         ensures client { OnOk result (self.new ≡ after self.old (cue_message (message msg.entry))) }
@@ -248,8 +269,8 @@ impl Client {
         self.hear(alloc, msg)
     }
 
-    /// Its timer runs out. With a request open in a Backup it asks once more, and in an instance of
-    /// another kind it asks the replicas to stop.
+    /// Its timer runs out. With a request open in a Backup it asks once more. In a ZCert it sends the certificate of 2f + 1 equal
+    /// signed votes, where it has so many and has sent none. Otherwise it asks the replicas to stop.
     pub fn timeout(&mut self, alloc: Global) -> Result<(Outs, Marks), OutOfMemory>
         ensures client { OnOk result (self.new ≡ after self.old cue_time) }
         ensures outs { IfOk result (λ r. r.0 ≡ sends self.old cue_time) }
@@ -282,6 +303,14 @@ impl Client {
                 ..
             } => {
                 let marks = self.on_chain(alloc, instance, request, n, d, reply);
+                Ok((Outs::new(alloc), marks))
+            }
+            MsgRef::Spec { spec } => {
+                let marks = self.on_spec(alloc, spec)?;
+                Ok((Outs::new(alloc), marks))
+            }
+            MsgRef::LocalCommit { content, .. } => {
+                let marks = self.on_local_commit(alloc, content)?;
                 Ok((Outs::new(alloc), marks))
             }
             MsgRef::Abort { abort } => self.on_abort(alloc, abort),

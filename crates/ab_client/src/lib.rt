@@ -5,6 +5,7 @@ mod certs;
 mod client;
 mod laws;
 mod sending;
+mod zcerts;
 
 pub use client::{Client, InvokeFault};
 pub use laws::{clients_act_by_their_cluster, timers_count};

@@ -5,7 +5,7 @@ ghost use Rattle.ab_run.specs.Clients.{cert_out, request_out, to_all};
 ghost use Rattle.ab_client.specs.Clients.{alone, panic_msg, request_msg};
 
 use ab_hist::Request;
-use ab_msg::{AbortCert, Content, Msg, NO_TAG, Out, Outs, Tags};
+use ab_msg::{AbortCert, Content, Msg, NO_TAG, Out, Outs, Tags, Zcert};
 use ab_num::{Cluster, Kind, OutOfMemory, Party};
 use std::alloc::Global;
 
@@ -78,7 +78,7 @@ fn send_request(
         Kind::Quorum | Kind::Backup => {
             return send_to_first(alloc, outs, cluster.replicas(), instance, request);
         }
-        Kind::ZLight => cluster.primary(instance),
+        Kind::ZLight | Kind::ZCert => cluster.primary(instance),
         Kind::Chain => cluster.at_position(instance, 1),
     };
     send_to(alloc, outs, replica, request_msg(instance, request))
@@ -194,4 +194,21 @@ pub(crate) fn panicking(
     send_entry(alloc, &mut all, cluster, cert)?;
     send_panic(alloc, &mut all, cluster, instance, me)?;
     Ok(all)
+}
+
+/// What a client sends that shows a certificate of answers to all replicas.
+pub(crate) fn certifying(
+    alloc: Global,
+    cluster: &Cluster,
+    instance: u32,
+    zcert: &Zcert,
+) -> Result<Outs, OutOfMemory>
+    ensures { IfOk result (λ outs. outs ≡ to_all (3 * cluster.now.f + 1) (Msg.Cert instance zcert.now)) }
+{
+    let mut outs = Outs::new(alloc);
+    for r in 0..cluster.replicas() {
+        let zcert = zcert.copy(alloc)?;
+        send_to(alloc, &mut outs, r, Msg::Cert { instance, zcert })?;
+    }
+    Ok(outs)
 }

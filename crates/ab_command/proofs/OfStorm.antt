@@ -1,5 +1,5 @@
 -- The events that a storm draws, as a schedule.
-use Rattle.std.proofs.Common.{◌≡◌, List, [], All, Ok, length, refl, sym, ap, ◌∙◌, subst}
+use Rattle.std.proofs.Common.{◌≡◌, List, [], All, Ok, length, refl, sym, ap, ◌∙◌, subst, arith}
 use Rattle.std.proofs.lemmas.List.Elements.{recursion_from_All}
 use Rattle.ab_num.specs.declared.cluster.Cluster.{Cluster}
 use Rattle.ab_num.specs.declared.plan.Height.TheVariants.{Ten}
@@ -21,8 +21,8 @@ use Rattle.ab_command.specs.Statuses.{kv}
 use Rattle.ab_command.specs.Written.{script_in, IsOfStorm}
 
 -- events with lines, in a cluster, are a schedule of the grammar
-in_grammar : (c : Cluster) (events : List Event) → All IsEvent events → IsSchedule (script_in c events)
-in_grammar c events lines = record { bounds = c.in_bounds; dense = c.is_dense; seed = IsSeed-none; faulty = tt; events = recursion_from_All IsEvent events lines }
+in_grammar : (c : Cluster) (events : List Event) → c.every ≡ 0 → All IsEvent events → IsSchedule (script_in c events)
+in_grammar c events none lines = record { bounds = c.in_bounds; dense = omega (arith, none); seed = IsSeed-none; faulty = tt; events = recursion_from_All IsEvent events lines }
 
 pub of_storm : (k : StormCommand) (c : Cluster) (events : List Event) (s : Script) → IsSized c k.f k.clients k.plan 0 → ((end : World Any) × Draws kv k events end) → s ≡ script_in c events → IsOfStorm k s
 of_storm k c events s sized (end, draws) is =
@@ -40,5 +40,5 @@ of_storm k c events s sized (end, draws) is =
       end = end;
       storms = draws.runs;
       replays = subst (λ (x : Script). Runs x (Ok end)) (sym whole) (record { cluster = own; sized = record { f = refl; clients = refl; plan = refl; every = refl }; runs = draws.runs });
-      grammar = subst IsSchedule (sym whole) (in_grammar own (events_in kv own k) (subst (All IsEvent) draws.drawn draws.lines));
+      grammar = subst IsSchedule (sym whole) (in_grammar own (events_in kv own k) draws.sized.every (subst (All IsEvent) draws.drawn draws.lines));
     }

@@ -8,7 +8,7 @@ use Rattle.ab_num.specs.declared.party.Party.TheVariants.{Client}
 use Rattle.ab_num.proofs.Lists.{Contains-head, Contains-tail, Contains-cons_cases}
 use Rattle.ab_abs.specs.declared.seen.Seen.{Seen}
 use Rattle.ab_abs.specs.declared.seen.Seen.TheVariants.{Invoked, Cert, Committed}
-use Rattle.ab_run.specs.Clients.{Cli, CliAction, move_ask, move_vote, move_commit, move_keep, move_take, move_panic, move_again, after_move, seen_in_move}
+use Rattle.ab_run.specs.Clients.{Cli, CliAction, move_ask, move_vote, move_commit, move_keep, move_take, move_panic, move_again, move_spec, move_cert, move_told, after_move, seen_in_move}
 use Rattle.ab_run.specs.Local.{seen_in_moves}
 use Rattle.ab_loop.specs.declared.party_core.Commit.{Commit}
 use Rattle.ab_node.specs.Clients.{commit_in, commit_of, first_of}
@@ -61,6 +61,9 @@ own_move c at (move_take j cert h m) s commit has is = elim (Contains-cons_cases
 ]
 own_move c at move_panic s commit gone is = absurd (omega (arith, gone.1))
 own_move c at (move_again m) s commit gone is = absurd (omega (arith, gone.1))
+own_move c at (move_spec b sig) s commit gone is = absurd (omega (arith, gone.1))
+own_move c at (move_cert z) s commit gone is = absurd (omega (arith, gone.1))
+own_move c at (move_told r) s commit gone is = absurd (omega (arith, gone.1))
 
 pub own_commit : (c : ℕ) (ts : List CliAction) (at : Cli) (s : Seen) (commit : Commit) → Contains (seen_in_moves c at ts) s → commit_of s ≡ Some commit → IsOwnCommit c s commit
 own_commit c [] at s commit gone is = absurd (omega (arith, gone.1))

@@ -13,4 +13,4 @@ backup_counted q = if is_done q.k (pbft.base (signing.view q.order)) (pbft.order
 
 -- no other kind has a timer
 abbrev pub any_counted : Any → Option ℕ
-any_counted = counted (λ q. None) (counted (λ q. None) (counted (λ q. None) backup_counted))
+any_counted = counted (λ q. None) (counted (λ q. None) (counted (λ q. None) (counted (λ q. None) backup_counted)))

@@ -52,6 +52,10 @@ goes-tagged ring b (msg.Prepare prepare) = refl
 goes-tagged ring b (msg.Commit content tag) = refl
 goes-tagged ring b (msg.ViewChange change) = refl
 goes-tagged ring b (msg.NewView content tag changes) = refl
+goes-tagged ring b (msg.Checkpoint content tag) = refl
+goes-tagged ring b (msg.LocalCommit content tag) = refl
+goes-tagged ring b (msg.Spec spec) = refl
+goes-tagged ring b (msg.Cert i z) = refl
 
 pub taken-goes : (f clients : ℕ) (ring : Ring) (b : Party) (m : Msg) → takes f clients b (tagged ring b m) ≡ true → goes_to m b ≡ true
 taken-goes f clients ring b m h = sym (goes-tagged ring b m) ∙ (and_parts (goes_to (tagged ring b m) b) (list_all (is_party f clients) (parties_of f b (tagged ring b m))) h).0

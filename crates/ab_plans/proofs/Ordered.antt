@@ -15,7 +15,7 @@ use Rattle.ab_abs.specs.Promises.{ServesAll}
 use Rattle.ab_abs.specs.Ensembles.{Proto}
 use Rattle.ab_abs.proofs.Reach.{reached_abstract, reached_ordered}
 use Rattle.ab_plans.specs.ChoiceRules.{sound_by, stands_by}
-use Rattle.ab_abs.specs.Kinds.{is_backup}
+use Rattle.ab_abs.specs.Kinds.{is_backup, is_zcert}
 use Rattle.ab_order.specs.Protos.{OrderProto, Obeys, backup, backup_sound, backup_stands}
 use Rattle.ab_order.proofs.ProtoLaws as laws
 use Rattle.ab_pbft_rules.specs.Traces.{IsPbftSound}
@@ -90,3 +90,10 @@ aliph_served c is i one = subst (λ (p : Plan). IsTrue (served is_fast (kind_of 
     of_tests true d = refl
     of_tests false true = refl
     of_tests false false = refl
+
+pub zcert_served : (c : Cluster) → c.plan ≡ plan.ZCert → ServesAll (served is_zcert) c
+zcert_served c is i one = subst (λ (p : Plan). IsTrue (served is_zcert (kind_of p i))) (sym is) (of_test (nat_eq (i % 2) 1))
+  where
+    of_test : (b : Bool) → IsTrue (served is_zcert (if b then kind.ZCert else kind.Backup))
+    of_test true = refl
+    of_test false = refl

@@ -88,6 +88,15 @@ module _ {P Q : Type 0} (p : Proto P) (q : Proto Q) (serves_p serves_q : Kind �
       enters = λ c i r e. enters_in (serves_p (kind_of c.plan i)) c i r e;
       entered_stays = λ pen. elim [ First v ↦ form_p.entered_stays pen v | Second v ↦ form_q.entered_stays pen v ];
       entered_rests = elim [ First v ↦ form_p.entered_rests v | Second v ↦ form_q.entered_rests v ];
+      zcert_stays = λ c i r pen. elim [
+        | First v ↦ λ call was. form_p.zcert_stays c i r pen v call (belongs c i r (First v) was)
+        | Second v ↦ λ call was. form_q.zcert_stays c i r pen v call (belongs c i r (Second v) was)
+      ];
+      zcert_rests = elim [ First v ↦ form_p.zcert_rests v | Second v ↦ form_q.zcert_rests v ];
+      zcert_beside = λ c i r. elim [
+        | First v ↦ λ was. form_p.zcert_beside c i r v (belongs c i r (First v) was)
+        | Second v ↦ λ was. form_q.zcert_beside c i r v (belongs c i r (Second v) was)
+      ];
       own = λ c i r pen. elim [
         | First v ↦ λ call o s was. form_p.own c i r pen v call o s (belongs c i r (First v) was)
         | Second v ↦ λ call o s was. form_q.own c i r pen v call o s (belongs c i r (Second v) was)
@@ -105,6 +114,10 @@ module _ {P Q : Type 0} (p : Proto P) (q : Proto Q) (serves_p serves_q : Kind �
       written = λ c i r. elim [
         | First v ↦ λ was. form_p.written c i r v (arises c i r (First v) was)
         | Second v ↦ λ was. form_q.written c i r v (arises c i r (Second v) was)
+      ];
+      zcert_written = λ c i r. elim [
+        | First v ↦ λ was. form_p.zcert_written c i r v (arises c i r (First v) was)
+        | Second v ↦ λ was. form_q.zcert_written c i r v (arises c i r (Second v) was)
       ];
       drafts = λ c i r pen. elim [
         | First v ↦ λ call lawful was. form_p.drafts c i r pen v call lawful (arises c i r (First v) was)
@@ -141,6 +154,10 @@ module _ {P Q : Type 0} (p : Proto P) (q : Proto Q) (serves_p serves_q : Kind �
       rests = λ c i r. elim [
         | First v ↦ λ was is. ap First (rules_p.rests c i r v (belongs c i r (First v) was) is)
         | Second v ↦ λ was is. ap Second (rules_q.rests c i r v (belongs c i r (Second v) was) is)
+      ];
+      keeps_none = λ c i r. elim [
+        | First v ↦ λ was. rules_p.keeps_none c i r v (belongs c i r (First v) was)
+        | Second v ↦ λ was. rules_q.keeps_none c i r v (belongs c i r (Second v) was)
       ];
     }
 

@@ -7,10 +7,11 @@ use Rattle.ab_abs.specs.Members.{Member}
 use Rattle.ab_chain.specs.Rules.{ChainState, is_chain, chain}
 use Rattle.ab_quorum.specs.Rules.{is_quorum, quorum}
 use Rattle.ab_zlight.specs.Rules.{Light, is_zlight, zlight}
+use Rattle.ab_zcert.specs.Rules.{Keeper, zcert_proto}
 use Rattle.ab_plans.specs.declared.choice.Choice.{Choice}
 use Rattle.ab_plans.specs.ChoiceRules.{choice, either}
 use Rattle.ab_order.specs.Backups.{Backing}
-use Rattle.ab_abs.specs.Kinds.{is_backup}
+use Rattle.ab_abs.specs.Kinds.{is_backup, is_zcert}
 use Rattle.ab_order.specs.Protos.{OrderProto, backup}
 use Rattle.ab_pbft_rules.specs.Rules.{Pbft, pbft}
 
@@ -31,3 +32,7 @@ is_fast = either is_quorum is_chain
 
 abbrev pub aliph : {S Q : Type 0} → Machine S → OrderProto Q Pbft → Proto (Choice (Choice Member ChainState) (Backing Q))
 aliph machine orders = with_backup machine (choice (quorum machine) (chain machine) is_quorum) is_fast orders
+
+-- ZCert and Backup in turn
+abbrev pub zcerts : {S Q : Type 0} → Machine S → OrderProto Q Pbft → Proto (Choice Keeper (Backing Q))
+zcerts machine orders = with_backup machine (zcert_proto machine) is_zcert orders

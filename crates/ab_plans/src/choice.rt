@@ -2,7 +2,7 @@
 
 use ab_abs::{Entry, Protocol, StepFault};
 use ab_hist::History;
-use ab_msg::{Notary, Outs};
+use ab_msg::{Notary, Outs, Zcert};
 use ab_num::{Cluster, Kind, OutOfMemory};
 use ab_svc::Service;
 use ab_wire::MsgRef;
@@ -107,6 +107,13 @@ impl<S: Service, P: Protocol<S>, Q: Protocol<S>> Protocol<S> for Choice<P, Q> {
         match self {
             Choice::First(p) => p.first(),
             Choice::Second(q) => q.first(),
+        }
+    }
+
+    fn zcert(&self) -> Option<&Zcert> {
+        match self {
+            Choice::First(p) => p.zcert(),
+            Choice::Second(q) => q.zcert(),
         }
     }
 

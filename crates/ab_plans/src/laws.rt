@@ -15,18 +15,24 @@ use crate::choice::Choice;
 use ab_abs::{Protocol, any_protocol_is_ordered};
 use ab_svc::Service;
 
-/// Three lawful protocols, each for its own kinds, make one that is ordered: whatever events come,
-/// and however differently their clients commit, by the votes of all, by the tail of a chain or on
-/// f + 1 equal votes.
-pub fn three_protocols_are_ordered<S: Service, P: Protocol<S>, Q: Protocol<S>, R: Protocol<S>>()
-    ensures ordered { (c : Cluster) (faulty : List Party) (w : Ensemble (Chosen P (Chosen Q R)))
-        → ServesAll (either P.serves (either Q.serves R.serves)) c
-        → Reached (choice P.proto (choice Q.proto R.proto Q.serves) P.serves) c faulty w
+/// Four lawful protocols, each for its own kinds, make one that is ordered: whatever events come,
+/// and however differently their clients commit, by the votes of all, by the tail of a chain, on
+/// f + 1 equal votes or by a certificate of signed answers.
+pub fn four_protocols_are_ordered<
+    S: Service,
+    P: Protocol<S>,
+    Q: Protocol<S>,
+    R: Protocol<S>,
+    T: Protocol<S>,
+>()
+    ensures ordered { (c : Cluster) (faulty : List Party) (w : Ensemble (Chosen P (Chosen Q (Chosen R T))))
+        → ServesAll (either P.serves (either Q.serves (either R.serves T.serves))) c
+        → Reached (choice P.proto (choice Q.proto (choice R.proto T.proto R.serves) Q.serves) P.serves) c faulty w
         → MeetsPremises c faulty w.run → Ordered S.machine (seen_in w.run) (named_in_run c faulty w.run) faulty }
-    ensures instances { (c : Cluster) (faulty : List Party) (w : Ensemble (Chosen P (Chosen Q R)))
-        → ServesAll (either P.serves (either Q.serves R.serves)) c
-        → Reached (choice P.proto (choice Q.proto R.proto Q.serves) P.serves) c faulty w
+    ensures instances { (c : Cluster) (faulty : List Party) (w : Ensemble (Chosen P (Chosen Q (Chosen R T))))
+        → ServesAll (either P.serves (either Q.serves (either R.serves T.serves))) c
+        → Reached (choice P.proto (choice Q.proto (choice R.proto T.proto R.serves) Q.serves) P.serves) c faulty w
         → MeetsPremises c faulty w.run → EachIsAbstract S.machine (seen_in w.run) (named_in_run c faulty w.run) faulty }
 {
-    any_protocol_is_ordered::<S, Choice<P, Choice<Q, R>>>()
+    any_protocol_is_ordered::<S, Choice<P, Choice<Q, Choice<R, T>>>>()
 }

@@ -84,6 +84,9 @@ module _ {P : Type 0} (k : RunSetup) (proto : Proto P) where
       let c = client_of (maker_of content) in
       calm_if (state_at k proto s).stopped (aborting k proto c s) (turn_call (took (msg.Req content tags)) ∷ []) (still (aborting k proto c s) (aborting_quiet c s.abort)) (once (took (msg.Req content tags)))
   here_calm s (msg.Panic content tag) = halting_calm (client_of (maker_of content)) s
+  here_calm s (msg.Checkpoint content tag) = still [] tt
+  here_calm s (msg.LocalCommit content tag) = still [] tt
+  here_calm s (msg.Spec spec) = still [] tt
   here_calm s _ = once (took _)
 
   late_calm : (m : Msg) → IsCalm (late m)

@@ -1,7 +1,7 @@
 -- What correct parties make in a run has bytes.
 use Rattle.std.proofs.Common.{◌≡◌, ℕ, suc, ◌+◌, ◌<◌, ◌≤◌, true, false, Bool, Some, None, Option, List, [], ◌∷◌, ◌++◌, length, refl, sym, ap, subst, inl, inr, arith, append-nil}
 use Rattle.std.proofs.lemmas.Grind.{flat_map-append}
-use Rattle.std.specs.Prelude.{All, Contains, nat_le, nat_lt, ◌==◌, ◌&&◌, not, ◌^◌, if◌then◌else◌, flat_map, map}
+use Rattle.std.specs.Prelude.{All, Contains, nat_le, nat_lt, ◌==◌, ◌&&◌, ◌^◌, if◌then◌else◌, flat_map, map}
 use Rattle.arrayvec.specs.ArrayVec.{ArrayVec}
 use Rattle.std.proofs.lemmas.Bool.{cases_Bool, cases_eq, and_parts, ltb-true}
 use Rattle.std.specs.List.{list_any}
@@ -17,6 +17,7 @@ use Rattle.ab_svc.specs.Machines.{Reply}
 use Rattle.ab_msg.specs.declared.content.Content.{Content}
 use Rattle.ab_msg.specs.declared.content.Content.TheVariants as content
 use Rattle.ab_msg.specs.declared.signed.Signed.{Signed}
+use Rattle.ab_msg.specs.declared.zcert.Zcert.{Zcert}
 use Rattle.ab_msg.specs.declared.message.Msg.{Msg}
 use Rattle.ab_msg.specs.declared.message.Msg.TheVariants as msg
 use Rattle.ab_msg.specs.declared.message.Offer.TheVariants as offer
@@ -24,9 +25,10 @@ use Rattle.ab_msg.specs.Claims.{fresh, maker_of, stated, claims, tail_claims}
 use Rattle.ab_msg.specs.Fields.{IsInstance, IsRequest}
 use Rattle.ab_msg.specs.Contents.{IsContent, spell_content}
 use Rattle.ab_msg.specs.Messages.{IsMessage}
+use Rattle.ab_wire.proofs.KindLemmas.{abort_content as of_grammar}
 use Rattle.ab_abs.specs.declared.ballot.Ballot.{Ballot}
 use Rattle.ab_abs.specs.Faults.{is_faulty}
-use Rattle.ab_abs.specs.Kinds.{rule_in, counts_responses}
+use Rattle.ab_abs.specs.Kinds.{rule_in}
 use Rattle.ab_abs.specs.Votes.{has_voted, is_full_by}
 use Rattle.ab_abs.specs.Messages.{Call, took, timed, IsFormed}
 use Rattle.ab_abs.specs.Certificates.{history_of}
@@ -36,8 +38,9 @@ use Rattle.ab_run.specs.Forms.{IsWrittenRep, IsWrittenSetup}
 use Rattle.ab_run.proofs.Written.{IsGood, AllGood, good_if, due_good, first_written, abort_written, turn_keeps, turn_drafts}
 use Rattle.ab_abs.proofs.Drafts.{few_replicas}
 use Rattle.ab_run.specs.Setups.{RunSetup, replicas, within, last_instance}
-use Rattle.ab_run.specs.Replicas.{Rep, RepAction, turn_enter, turn_call, turn_halt, turn_sign, turn_bring, turn_abort, after_turn, made_in_turn, state_at, pen_of, cert_instance, here, due, is_spent, turns}
-use Rattle.ab_run.specs.Clients.{Cli, CliAction, move_ask, move_vote, move_commit, move_keep, move_take, move_panic, move_again, asking, after_move, made_in_move, hears, hears_response, hears_tail, counting, keeping, taking, taking_with, own_cert, kind_at, panics, panics_in, if_open, moves, vote_claim, is_abort_of}
+use Rattle.ab_run.specs.Replicas.{Rep, RepAction, turn_enter, turn_call, turn_halt, turn_sign, turn_bring, turn_abort, after_turn, made_in_turn, state_at, pen_of, cert_instance, abort_content as stopped, here, due, is_spent, turns}
+use Rattle.ab_run.specs.Clients.{Cli, CliAction, move_ask, move_vote, move_commit, move_keep, move_take, move_panic, move_again, move_spec, move_cert, move_told, asking, after_move, made_in_move, hears, hears_response, hears_spec, hears_tail, counting_by, telling, telling_by, keeping, taking, taking_with, own_cert, kind_at, certifying, cert_due, panics, panics_in, if_open, moves, vote_claim, spec_claim, counts_chains, is_abort_of}
+use Rattle.ab_run.specs.Asking.{teller, is_told_full, told_claims}
 use Rattle.ab_run.specs.declared.phase.Phase.{Phase}
 use Rattle.ab_run.specs.declared.phase.Phase.TheVariants.{Idle, Waiting, Panicking}
 use Rattle.ab_run.specs.Runs.{Event, invoke, to_replica, to_client, replica_time, client_time, Run, run, step, start}
@@ -75,7 +78,7 @@ module _ {P : Type 0} (k : RunSetup) (proto : Proto P) {serves : Kind → Bool} 
       let draft = turn_drafts k proto form are r (turn_call call) s lt good was o found.1 in
       All-contains IsContent (fresh k.cluster.f (Replica r) o.msg) c (contents.stated r o.msg (few_replicas k.cluster r lt) draft.draft) fresh_in.0
   turn_makes r turn_halt s lt good was = nothing
-  turn_makes r turn_sign s lt good was = λ c has. one_of (content.Abort (Replica r) s.at (state_at k proto s).log) c (abort_written k proto form are r s lt was) has
+  turn_makes r turn_sign s lt good was = λ c has. one_of (stopped k proto r s) c (of_grammar (stopped k proto r s) (abort_written k proto form are r s lt was)) has
   turn_makes r (turn_bring c) s lt good was = nothing
   turn_makes r (turn_abort c) s lt good was = nothing
 
@@ -105,6 +108,9 @@ IsFine c n (move_keep v) = Unit {0}
 IsFine c n (move_take j cert h m) = (j < last_instance) × IsOwned c m
 IsFine c n move_panic = Unit {0}
 IsFine c n (move_again m) = Unit {0}
+IsFine c n (move_spec b sig) = Unit {0}
+IsFine c n (move_cert z) = Unit {0}
+IsFine c n (move_told r) = Unit {0}
 
 abbrev AllFine : ℕ → ℕ → List CliAction → Type 0
 AllFine c n [] = Unit {0}
@@ -140,6 +146,9 @@ move_does c n move_panic s le fine sits = record {
   sits = record { at = sits.at; stamp = sits.stamp; last = sits.last };
 }
 move_does c n (move_again m) s le fine sits = record { each = no_content; sits = record { at = sits.at; stamp = sits.stamp; last = sits.last } }
+move_does c n (move_spec b sig) s le fine sits = record { each = no_content; sits = record { at = sits.at; stamp = sits.stamp; last = sits.last } }
+move_does c n (move_cert z) s le fine sits = record { each = no_content; sits = record { at = sits.at; stamp = sits.stamp; last = sits.last } }
+move_does c n (move_told r) s le fine sits = record { each = no_content; sits = record { at = sits.at; stamp = sits.stamp; last = sits.last } }
 
 moves_do : (c n : ℕ) (ts : List CliAction) (s : Cli) → c ≤ 15 → AllFine c n ts → Sits c n s → Does c n (made_in_moves c s ts) (after_moves s ts)
 moves_do c n [] s le fine sits = record { each = no_content; sits = sits }
@@ -159,11 +168,16 @@ tail_fine : (c n : ℕ) (m : Request) (x : ℕ) (d : List ℕ) (reply : Option R
 tail_fine c n m x d None claims = tt
 tail_fine c n m x d (Some reply) claims = (tt, tt)
 
-panics_fine : (c n : ℕ) (kd : Kind) (waits : Bool) (m : Request) → AllFine c n (panics_in kd waits m)
-panics_fine c n kind.Quorum waits m = (tt, tt)
-panics_fine c n kind.ZLight waits m = (tt, tt)
-panics_fine c n kind.Chain waits m = (tt, tt)
-panics_fine c n kind.Backup waits m = fine_if c n waits (move_again m ∷ []) [] (tt, tt) tt
+certifying_fine : (c n : ℕ) (made : Option Zcert) → AllFine c n (certifying made)
+certifying_fine c n None = (tt, tt)
+certifying_fine c n (Some z) = (tt, tt)
+
+panics_fine : (c n : ℕ) (kd : Kind) (waits : Bool) (m : Request) (made : Option Zcert) → AllFine c n (panics_in kd waits m made)
+panics_fine c n kind.Quorum waits m made = (tt, tt)
+panics_fine c n kind.ZLight waits m made = (tt, tt)
+panics_fine c n kind.Chain waits m made = (tt, tt)
+panics_fine c n kind.Backup waits m made = fine_if c n waits (move_again m ∷ []) [] (tt, tt) tt
+panics_fine c n kind.ZCert waits m made = fine_if c n waits (certifying made) (move_panic ∷ []) (certifying_fine c n made) (tt, tt)
 
 open_fine : (c n : ℕ) (phase : Phase) (last : Option Request) (ms : Bool → Request → List CliAction) → ((waits : Bool) (q : Request) → last ≡ Some q → AllFine c n (ms waits q)) → AllFine c n (if_open phase last ms)
 open_fine c n Idle last ms all = tt
@@ -173,17 +187,36 @@ open_fine c n Panicking None ms all = tt
 open_fine c n Panicking (Some q) ms all = all false q refl
 
 module _ (k : RunSetup) (c n : ℕ) where
-  counting_fine : (s : Cli) (m : Request) (b : Ballot) → AllFine c n (counting k c s m b)
-  counting_fine s m b =
-      let last : List CliAction = move_commit m b.n b.d b.reply (map (vote_claim s.at c m.stamp) (b ∷ s.votes)) ∷ [] in
+  counting_fine : (claim : Ballot → Content) (counted : CliAction) (s : Cli) (m : Request) (b : Ballot) → IsFine c n counted → AllFine c n (counting_by k claim counted s m b)
+  counting_fine claim counted s m b fine =
+      let last : List CliAction = move_commit m b.n b.d b.reply (map claim (b ∷ s.votes)) ∷ [] in
       let full : Bool = is_full_by (rule_in (within k s.at)) (replicas k) (b ∷ s.votes) b in
-      let voting : List CliAction = move_vote b ∷ (if full then last else []) in
-      let all : AllFine c n voting = (tt, fine_if c n full last [] (tt, tt) tt) in
+      let voting : List CliAction = counted ∷ (if full then last else []) in
+      let all : AllFine c n voting = (fine, fine_if c n full last [] (tt, tt) tt) in
       fine_if c n (nat_lt b.by (replicas k)) (if has_voted s.votes b.by then [] else voting) [] (fine_if c n (has_voted s.votes b.by) [] voting tt all) tt
 
   response_fine : (s : Cli) (waits : Bool) (m : Request) (q : Content) → AllFine c n (hears_response k c s waits m q)
-  response_fine s waits m (content.Resp (Replica r) i d stamp x digest reply) = fine_if c n _ _ [] (counting_fine s m (record { by = r; n = x; d = digest; reply = reply })) tt
+  response_fine s waits m (content.Resp (Replica r) i d stamp x digest reply) =
+      let b : Ballot = record { by = r; n = x; d = digest; reply = reply } in
+      fine_if c n _ _ [] (counting_fine (vote_claim s.at c m.stamp) (move_vote b) s m b tt) tt
   response_fine s waits m _ = tt
+
+  spec_fine : (s : Cli) (waits : Bool) (m : Request) (q : Content) (sig : List ℕ) → AllFine c n (hears_spec k c s waits m q sig)
+  spec_fine s waits m (content.Spec (Replica r) i d stamp x digest reply) sig =
+      let b : Ballot = record { by = r; n = x; d = digest; reply = reply } in
+      fine_if c n _ _ [] (counting_fine (spec_claim s.at c m.stamp) (move_spec b sig) s m b tt) tt
+  spec_fine s waits m _ sig = tt
+
+  teller_fine : (s : Cli) (m : Request) (z : Zcert) (o : Option ℕ) → AllFine c n (telling_by k c s m z o)
+  teller_fine s m z None = tt
+  teller_fine s m z (Some r) =
+      let last : List CliAction = move_commit m z.n z.d z.reply (told_claims s.at c z (r ∷ s.told)) ∷ [] in
+      let full : Bool = is_told_full k.cluster.f (r ∷ s.told) in
+      fine_if c n (list_any (λ q. q == r) s.told) [] (move_told r ∷ (if full then last else [])) tt (tt, fine_if c n full last [] (tt, tt) tt)
+
+  telling_fine : (s : Cli) (m : Request) (q : Content) (o : Option Zcert) → AllFine c n (telling k c s m q o)
+  telling_fine s m q None = tt
+  telling_fine s m q (Some z) = teller_fine s m z (teller k.cluster.f s.at c z q)
 
   taking_fine : (s : Cli) (m : Request) (j : ℕ) (cert : List Signed) (o : Option (List Request)) → IsOwned c m → AllFine c n (taking_with k s m j cert o)
   taking_fine s m j cert None owned = tt
@@ -204,17 +237,19 @@ module _ (k : RunSetup) (c n : ℕ) where
   hears_fine : (s : Cli) (waits : Bool) (q : Request) (m : Msg) → IsOwned c q → AllFine c n (hears k c s waits q m)
   hears_fine s waits q (msg.Resp t tag) owned = response_fine s waits q t
   hears_fine s waits q (msg.Chain i r x d reply tags) owned =
-      fine_if c n ((waits && not (counts_responses (kind_at k s))) && ((i == s.at) && ((r.client == c) && (r.stamp == s.stamp)))) (hears_tail q x d reply (tail_claims k.cluster.f i r x d reply)) []
+      fine_if c n ((waits && counts_chains (kind_at k s)) && ((i == s.at) && ((r.client == c) && (r.stamp == s.stamp)))) (hears_tail q x d reply (tail_claims k.cluster.f i r x d reply)) []
       (tail_fine c n q x d reply (tail_claims k.cluster.f i r x d reply)) tt
-  hears_fine s waits q (msg.Abort abort) owned = fine_if c n (is_abort_of s.at abort.content) (keeping k s q abort) [] (keeping_fine s q abort owned) tt
+  hears_fine s waits q (msg.Abort abort) owned = fine_if c n (is_abort_of (kind_at k s) k.cluster.f s.at abort.content) (keeping k s q abort) [] (keeping_fine s q abort owned) tt
   hears_fine s waits q (msg.Init cert) owned = taking_fine s q (cert_instance cert) cert (history_of k.cluster (cert_instance cert) cert) owned
+  hears_fine s waits q (msg.Spec spec) owned = spec_fine s waits q spec.content spec.sig
+  hears_fine s waits q (msg.LocalCommit t tag) owned = fine_if c n waits (telling k c s q t s.sent) [] (telling_fine s q t s.sent) tt
   hears_fine s waits q _ owned = tt
 
   message_fine : (s : Cli) (m : Msg) → Sits c n s → AllFine c n (moves k c s m)
   message_fine s m sits = open_fine c n s.phase s.last (λ waits q. hears k c s waits q m) (λ waits q is. hears_fine s waits q m (sits.last q is))
 
   time_fine : (s : Cli) → AllFine c n (panics k s)
-  time_fine s = open_fine c n s.phase s.last (λ waits m. panics_in (kind_at k s) waits m) (λ waits q is. panics_fine c n (kind_at k s) waits q)
+  time_fine s = open_fine c n s.phase s.last (λ waits m. panics_in (kind_at k s) waits m (cert_due k s m)) (λ waits q is. panics_fine c n (kind_at k s) waits q (cert_due k s q))
 
 asking_fine : (c n : ℕ) (s : Cli) (phase : Phase) (command : ArrayVec ℕ) → c ≤ 15 → n + 1 < 2 ^ 64 → (1 ≤ length command.items) × (length command.items ≤ 128) → s.stamp ≤ n → AllFine c (n + 1) (asking c s phase command)
 asking_fine c n s Idle command le few is stamp = (((((omega arith, le), ((omega arith, omega (arith, few, stamp)), is)), refl), omega (arith, stamp)), tt)

@@ -54,6 +54,7 @@ fn look_at_content(
 {
     match content {
         ContentRef::Abort { history, .. } => look_at_received(alloc, digests, last, history),
+        ContentRef::AbortZ { history, .. } => look_at_received(alloc, digests, last, history),
         ContentRef::Req { request, .. } => digests.add_request(&request.own()),
         ContentRef::Order { request, .. } => digests.add_request(&request.own()),
         _ => Ok(false),
@@ -76,6 +77,7 @@ fn look_at_claim(
         ClaimRef::Received { content, .. } => look_at_content(alloc, digests, last, content),
         ClaimRef::Asked { request, .. } => digests.add_request(&request.own()),
         ClaimRef::Said { .. } => Ok(false),
+        ClaimRef::Answered { .. } => Ok(false),
         ClaimRef::Prepared { .. } => Ok(false),
     }
 }

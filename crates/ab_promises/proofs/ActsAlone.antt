@@ -10,7 +10,7 @@ use Rattle.ab_num.proofs.Lists.{Contains-head, Contains-tail, Contains-none, Con
 use Rattle.ab_hist.specs.declared.request.Request.{Request}
 use Rattle.ab_hist.specs.Histories.{IsHistory}
 use Rattle.ab_msg.specs.declared.content.Content.{Content}
-use Rattle.ab_msg.specs.declared.content.Content.TheVariants.{Req, Panic, Abort, Prepare}
+use Rattle.ab_msg.specs.declared.content.Content.TheVariants.{Req, Panic, Prepare}
 use Rattle.ab_msg.specs.declared.signed.Signed.{Signed}
 use Rattle.ab_msg.specs.declared.message.Msg.{Msg}
 use Rattle.ab_msg.specs.declared.message.Msg.TheVariants as msg
@@ -22,7 +22,8 @@ use Rattle.ab_abs.specs.declared.seen.Seen.{Seen}
 use Rattle.ab_abs.specs.declared.seen.Seen.TheVariants.{Init}
 use Rattle.ab_abs.specs.declared.entry.Entry.{Entry}
 use Rattle.ab_abs.specs.Faults.{is_faulty}
-use Rattle.ab_abs.specs.Acts.{Act, MayStart, WasMade, setting, unmarked, with_init, observations, own_acts, abort_of}
+use Rattle.ab_abs.specs.Acts.{Act, MayStart, WasMade, setting, unmarked, with_init, observations, own_acts, abort_by}
+use Rattle.ab_abs.specs.Kinds.{rule_in}
 use Rattle.ab_abs.specs.Certificates.{history_of}
 use Rattle.ab_abs.specs.Ensembles.{Proto, MayTake, entry_of, begin_of, asked_of, halt_of}
 use Rattle.ab_abs.specs.FormLaws.{KeepsPlace, IsOffered, in_first, by_cert}
@@ -30,14 +31,14 @@ use Rattle.ab_abs.specs.Messages.{Call, took, timed, offered, IsFor, IsFormed}
 use Rattle.ab_abs.specs.Promises.{ServesAll}
 use Rattle.ab_abs.proofs.Certified.{certificate_rises}
 use Rattle.ab_abs.proofs.Reach.{put_same, put_other}
-use Rattle.ab_run.specs.Setups.{RunSetup, replicas, last_instance}
-use Rattle.ab_run.specs.Clients.{Cli, CliAction, move_ask, move_vote, move_commit, move_keep, move_take, move_panic, move_again, made_in_move, moves, panics, asking}
-use Rattle.ab_run.specs.Replicas.{Rep, RepAction, turn_enter, turn_call, turn_halt, turn_sign, turn_bring, turn_abort, client_of, cert_instance, brought, aborting_with, aborting, halting, here, late, taken_in, taken, due_with, due_by, due, is_spent, turns, state_at, pen_of, after_turn, made_in_turn}
+use Rattle.ab_run.specs.Setups.{RunSetup, within, replicas, last_instance}
+use Rattle.ab_run.specs.Clients.{Cli, CliAction, move_ask, move_vote, move_commit, move_keep, move_take, move_panic, move_again, move_spec, move_cert, move_told, made_in_move, moves, panics, asking}
+use Rattle.ab_run.specs.Replicas.{Rep, RepAction, turn_enter, turn_call, turn_halt, turn_sign, turn_bring, turn_abort, client_of, cert_instance, brought, aborting_with, aborting, halting, here, late, taken_in, taken, due_with, due_by, due, is_spent, turns, state_at, abort_content, pen_of, after_turn, made_in_turn}
 use Rattle.ab_run.specs.Runs.{Event, invoke, to_replica, to_client, replica_time, client_time, Run, take_turn, take_turns, take_move, take_moves, at_replica, at_client, step, start, run, checks}
 use Rattle.ab_run.specs.Premises.{AreFormed, IsFormedEvent, IsFormedFor}
 use Rattle.ab_run.proofs.Did.{if_each}
 use Rattle.ab_promises.specs.ReplicaActs.{AreActsIn, begins, takes, stops, aborts, ActsByItself, ActsKeep, AbortsOnce, AbortsOnceIn, PreparesOnce, PreparesOnceIn}
-use Rattle.ab_promises.proofs.StatedOnce.{statement_by, made_before, acts_belong}
+use Rattle.ab_promises.proofs.StatedOnce.{statement_by, made_before, acts_belong, stop_is}
 
 none_before : IsHistory []
 none_before i j e less in_h = absurd (omega (arith, in_h))
@@ -58,6 +59,9 @@ made_by_client c s (move_keep v) q has = absurd (Contains-none q has)
 made_by_client c s (move_take j cert h m) q has = ap maker_of (sym (Contains-one (Req (Client c) (j + 1) m) q has))
 made_by_client c s move_panic q has = ap maker_of (sym (Contains-one (Panic (Client c) s.at) q has))
 made_by_client c s (move_again m) q has = absurd (Contains-none q has)
+made_by_client c s (move_spec b sig) q has = absurd (Contains-none q has)
+made_by_client c s (move_cert z) q has = absurd (Contains-none q has)
+made_by_client c s (move_told n) q has = absurd (Contains-none q has)
 
 module _ {P : Type 0} (k : RunSetup) (proto : Proto P) (serves : Kind → Bool) (place : KeepsPlace proto serves) (all : ServesAll serves k.cluster) (r : ℕ) (lt : r < replicas k) (good : is_faulty k.faulty (Replica r) ≡ false) where
   abbrev Said : List Content → ℕ → List Act → Type 0
@@ -196,9 +200,10 @@ module _ {P : Type 0} (k : RunSetup) (proto : Proto P) (serves : Kind → Bool) 
   turn_stays s turn_halt made may was =
       goes_on s.at s.value (proto.halt s.value) (halt_of proto r s.value) [] made was (stops was.are) (λ q has. absurd (Contains-none q has))
   turn_stays s turn_sign made may was =
-      let log = (state_at k proto s).log in
-      goes_on s.at s.value s.value (abort_of (setting k.cluster [] s.at) r log) (Abort (Replica r) s.at log ∷ []) made was (aborts was.are may)
-      (λ q has. (ap instance_of (sym (Contains-one (Abort (Replica r) s.at log) q has)), has))
+      let x = setting k.cluster [] s.at in
+      let abort = abort_content k proto r s in
+      goes_on s.at s.value s.value (abort_by (rule_in x) x r (state_at k proto s)) (abort ∷ []) made was (aborts was.are may)
+      (λ q has. (ap instance_of (sym (Contains-one abort q has)) ∙ (stop_is (rule_in x) s.at r (state_at k proto s)).2, has))
   turn_stays s (turn_bring c) made may was = was
   turn_stays s (turn_abort c) made may was = was
 
@@ -237,6 +242,9 @@ module _ {P : Type 0} (k : RunSetup) (proto : Proto P) (serves : Kind → Bool) 
       if_each (MayTurns s) (state_at k proto s).stopped (aborting k proto (client_of (maker_of content)) s) (turn_call (took (msg.Req content tags)) ∷ [])
       (λ stopped. aborting_may (client_of (maker_of content)) s s.abort stopped) (λ _. call_may s (msg.Req content tags) i formed is at_is)
   here_may s (msg.Panic content tag) i formed is at_is = halting_may (client_of (maker_of content)) s
+  here_may s (msg.Checkpoint content tag) i formed is at_is = tt
+  here_may s (msg.LocalCommit content tag) i formed is at_is = tt
+  here_may s (msg.Spec spec) i formed is at_is = tt
   here_may s m i formed is at_is = call_may s m i formed is at_is
 
   late_may : (s : Rep P) (m : Msg) → MayTurns s (late m)
@@ -285,7 +293,7 @@ module _ {P : Type 0} (k : RunSetup) (proto : Proto P) (serves : Kind → Bool) 
   made_by_other q s (turn_enter j cert h) c has = absurd (Contains-none c has)
   made_by_other q s (turn_call call) c has = (statement_by k.cluster.f q (proto.sends (pen_of k proto q s) s.value call) c has).3
   made_by_other q s turn_halt c has = absurd (Contains-none c has)
-  made_by_other q s turn_sign c has = ap maker_of (sym (Contains-one (Abort (Replica q) s.at (state_at k proto s).log) c has))
+  made_by_other q s turn_sign c has = ap maker_of (sym (Contains-one (abort_content k proto q s) c has)) ∙ (stop_is (rule_in (within k s.at)) s.at q (state_at k proto s)).1
   made_by_other q s (turn_bring d) c has = absurd (Contains-none c has)
   made_by_other q s (turn_abort d) c has = absurd (Contains-none c has)
 
@@ -390,10 +398,10 @@ module _ {P : Type 0} (k : RunSetup) (proto : Proto P) (serves : Kind → Bool) 
         ]
 
     pub aborts_once_in : ActsKeep proto serves AbortsOnce → AbortsOnceIn made r
-    aborts_once_in keep i g h one two =
+    aborts_once_in keep i s t is_s is_t one two =
         elim (acts_by_itself i) [
-          | inl nothing ↦ absurd (nothing (Abort (Replica r) i g) one refl refl)
-          | inr its ↦ keep k.cluster i r its.acts its.value (all i its.one) its.one its.are g h (its.said (Abort (Replica r) i g) one refl refl) (its.said (Abort (Replica r) i h) two refl refl)
+          | inl nothing ↦ absurd (nothing s one is_s.1 is_s.2)
+          | inr its ↦ keep k.cluster i r its.acts its.value (all i its.one) its.one its.are s t is_s is_t (its.said s one is_s.1 is_s.2) (its.said t two is_t.1 is_t.2)
         ]
 
     pub prepares_once_in : ActsKeep proto serves PreparesOnce → PreparesOnceIn made r

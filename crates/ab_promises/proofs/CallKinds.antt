@@ -11,9 +11,10 @@ use Rattle.ab_hist.specs.declared.request.Request.{Request}
 use Rattle.ab_hist.specs.Histories.{place_in}
 use Rattle.ab_svc.specs.Machines.{Machine}
 use Rattle.ab_msg.specs.declared.content.Content.{Content}
-use Rattle.ab_msg.specs.declared.content.Content.TheVariants.{Order, Resp, ChainTag, PrePrepare, Prepare, Commit, ViewChange, NewView}
+use Rattle.ab_msg.specs.declared.content.Content.TheVariants.{Order, Resp, ChainTag, PrePrepare, Prepare, Commit, ViewChange, NewView, Spec, LocalCommit}
 use Rattle.ab_msg.specs.declared.message.Out.{Out}
 use Rattle.ab_msg.specs.Claims.{fresh, passed_at}
+use Rattle.ab_msg.specs.Pens.{Pen}
 use Rattle.ab_abs.specs.declared.vote.Vote.{Vote}
 use Rattle.ab_abs.specs.FormLaws.{is_answer}
 use Rattle.ab_abs.specs.Members.{Member, respond}
@@ -24,11 +25,13 @@ use Rattle.ab_order.specs.Backups.{Backing, answer_in, answer_of, answers_by, as
 use Rattle.ab_order.specs.Orderers.{base_at}
 use Rattle.ab_order.specs.Inputs.{handed}
 use Rattle.ab_order.specs.Orders.{is_ordering}
-use Rattle.ab_abs.specs.Kinds.{is_backup}
+use Rattle.ab_abs.specs.Kinds.{is_backup, is_zcert}
 use Rattle.ab_order.specs.Protos.{OrderProto, Obeys, answer_out, backup, told, viewed}
 use Rattle.ab_pbft_rules.specs.Rules.{Pbft, pbft}
 use Rattle.ab_pbft_rules.proofs.OrderlyOrderer.{pbft_orderly}
 use Rattle.ab_quorum.specs.Rules.{quorum, is_quorum, responses}
+use Rattle.ab_zcert.specs.Rules as keepers
+use Rattle.ab_zcert.specs.Rules.{zcert_proto}
 use Rattle.ab_zlight.specs.Rules as lights
 use Rattle.ab_zlight.specs.Rules.{zlight, is_zlight, to_others, order_msg, orders_at, orders as orders_by}
 use Rattle.ab_promises.specs.ReplicaActs.{StatesNone, is_abort, is_prepare}
@@ -42,12 +45,16 @@ answer_aborts : (s : Content) → is_answer s ≡ true → is_abort s ≡ false
 answer_aborts (Order maker i n m) is = refl
 answer_aborts (Resp maker i c stamp n d reply) is = refl
 answer_aborts (ChainTag maker i c stamp n d) is = refl
+answer_aborts (Spec maker i c stamp n d reply) is = refl
+answer_aborts (LocalCommit maker i c stamp n d) is = refl
 answer_aborts _ is = absurd (cc (is))
 
 answer_prepares : (s : Content) → is_answer s ≡ true → is_prepare s ≡ false
 answer_prepares (Order maker i n m) is = refl
 answer_prepares (Resp maker i c stamp n d reply) is = refl
 answer_prepares (ChainTag maker i c stamp n d) is = refl
+answer_prepares (Spec maker i c stamp n d reply) is = refl
+answer_prepares (LocalCommit maker i c stamp n d) is = refl
 answer_prepares _ is = absurd (cc (is))
 
 order_aborts : (s : Content) → is_ordering s ≡ true → is_abort s ≡ false
@@ -119,6 +126,37 @@ module _ {S : Type 0} (machine : Machine S) where
 
   pub zlight_prepares : StatesNone (zlight machine) is_zlight is_prepare
   zlight_prepares c i r pen q call o s belongs sent has = answer_prepares s (light_with q.f q.at (lights.task q call) o sent c.f r s has)
+
+-- ---- ZCert
+
+specs_sent : (pen : Pen) (q : Member) (m : Request) (vote : Option Vote) (o : Out) → Contains (keepers.answers pen q m vote) o → Answers o
+specs_sent pen q m None o sent = absurd (Contains-none o sent)
+specs_sent pen q m (Some vote) o sent =
+    let out = Contains-one _ o sent in
+    subst (λ (z : Out). Answers z) out (λ f r s has. one_answer (keepers.spec_for q m vote) s refl has)
+
+module _ {S : Type 0} (machine : Machine S) where
+  keeper_with : (pen : Pen) (f : ℕ) (q : Member) (j : keepers.Job) (o : Out) → Contains (keepers.sends_for machine pen f q j) o → Answers o
+  keeper_with pen f q (keepers.serves lights.idle) o sent = absurd (Contains-none o sent)
+  keeper_with pen f q (keepers.serves (lights.ordered m)) o sent = specs_sent pen q m (lights.answer_of machine q m) o sent
+  keeper_with pen f q (keepers.serves (lights.asked m tags)) o sent =
+      elim (Contains-append_cases (orders_by f q m tags (lights.answer_of machine q m)) (keepers.answers pen q m (lights.answer_of machine q m)) o sent) [
+        | inl order ↦ orders_with f q m tags (lights.answer_of machine q m) o order
+        | inr answer ↦ specs_sent pen q m (lights.answer_of machine q m) o answer
+      ]
+  keeper_with pen f q (keepers.keeps z) o sent =
+      elim (cases_Bool (keepers.takes_zcert f q z)) [
+        | inl takes ↦
+            let out = Contains-one (keepers.local_commit q z) o (rw takes at sent) in
+            subst (λ (y : Out). Answers y) out (λ g r s has. one_answer (LocalCommit (Replica q.me) q.instance z.client z.stamp z.n z.d) s refl has)
+        | inr rests ↦ absurd (Contains-none o (rw rests at sent))
+      ]
+
+  pub zcert_aborts : StatesNone (zcert_proto machine) is_zcert is_abort
+  zcert_aborts c i r pen q call o s belongs sent has = answer_aborts s (keeper_with pen q.light.f q.light.at (keepers.job q call) o sent c.f r s has)
+
+  pub zcert_prepares : StatesNone (zcert_proto machine) is_zcert is_prepare
+  zcert_prepares c i r pen q call o s belongs sent has = answer_prepares s (keeper_with pen q.light.f q.light.at (keepers.job q call) o sent c.f r s has)
 
 -- ---- Chain
 

@@ -5,8 +5,8 @@ use Rattle.std.proofs.lemmas.Bool.{cases_Bool}
 use Rattle.ab_num.specs.declared.plan.Kind.{Kind}
 use Rattle.ab_num.specs.Places.{kind_of}
 use Rattle.ab_abs.specs.declared.entry.Entry.{Entry}
-use Rattle.ab_abs.specs.Acts.{Act, Setting, setting, abort_of, start_of}
-use Rattle.ab_abs.specs.Kinds.{kind_in}
+use Rattle.ab_abs.specs.Acts.{Act, Setting, setting, abort_by, start_of}
+use Rattle.ab_abs.specs.Kinds.{kind_in, rule_in}
 use Rattle.ab_abs.specs.Ensembles.{Proto, MayTake, asked_of, halt_of}
 use Rattle.ab_plans.specs.declared.choice.Choice.{Choice}
 use Rattle.ab_plans.specs.declared.choice.Choice.TheVariants.{First, Second}
@@ -41,8 +41,8 @@ module _ {P Q : Type 0} (p : Proto P) (q : Proto Q) (serves : Kind → Bool) whe
       subst (λ (z : Choice P Q). IsFirst x r (halt_of both r z ∷ acts) (both.halt z)) (sym was.1) next
   first_acts x r _ _ first (aborts {acts} {p = v} before stopped) =
       let was = first_acts x r acts v first before in
-      let next : (both.state (First was.0)).stopped ≡ true → IsFirst x r (abort_of x r (both.state (First was.0)).log ∷ acts) (First was.0) = λ is. (was.0, refl, aborts was.2 is) in
-      subst (λ (z : Choice P Q). (both.state z).stopped ≡ true → IsFirst x r (abort_of x r (both.state z).log ∷ acts) z) (sym was.1) next stopped
+      let next : (both.state (First was.0)).stopped ≡ true → IsFirst x r (abort_by (rule_in x) x r (both.state (First was.0)) ∷ acts) (First was.0) = λ is. (was.0, refl, aborts was.2 is) in
+      subst (λ (z : Choice P Q). (both.state z).stopped ≡ true → IsFirst x r (abort_by (rule_in x) x r (both.state z) ∷ acts) z) (sym was.1) next stopped
 
   second_acts : (x : Setting) (r : ℕ) (acts : List Act) (v : Choice P Q) → serves (kind_in x) ≡ false → AreActsOf both x r acts v → IsSecond x r acts v
   second_acts x r _ _ second (begins e may) =
@@ -58,8 +58,8 @@ module _ {P Q : Type 0} (p : Proto P) (q : Proto Q) (serves : Kind → Bool) whe
       subst (λ (z : Choice P Q). IsSecond x r (halt_of both r z ∷ acts) (both.halt z)) (sym was.1) next
   second_acts x r _ _ second (aborts {acts} {p = v} before stopped) =
       let was = second_acts x r acts v second before in
-      let next : (both.state (Second was.0)).stopped ≡ true → IsSecond x r (abort_of x r (both.state (Second was.0)).log ∷ acts) (Second was.0) = λ is. (was.0, refl, aborts was.2 is) in
-      subst (λ (z : Choice P Q). (both.state z).stopped ≡ true → IsSecond x r (abort_of x r (both.state z).log ∷ acts) z) (sym was.1) next stopped
+      let next : (both.state (Second was.0)).stopped ≡ true → IsSecond x r (abort_by (rule_in x) x r (both.state (Second was.0)) ∷ acts) (Second was.0) = λ is. (was.0, refl, aborts was.2 is) in
+      subst (λ (z : Choice P Q). (both.state z).stopped ≡ true → IsSecond x r (abort_by (rule_in x) x r (both.state z) ∷ acts) z) (sym was.1) next stopped
 
   pub choice_keeps : (serves_q : Kind → Bool) (Promise : ℕ → ℕ → List Act → Type 0) → ActsKeep p serves Promise → ActsKeep q serves_q Promise → ActsKeep both (either serves serves_q) Promise
   choice_keeps serves_q Promise one two c i r acts v served at are =

@@ -9,12 +9,12 @@ use Rattle.ab_num.specs.declared.party.Party.TheVariants.{Replica}
 use Rattle.ab_num.proofs.Lists.{Contains-one, Contains-none}
 use Rattle.ab_hist.specs.declared.request.Request.{Request}
 use Rattle.ab_msg.specs.Pens.{Pen}
-use Rattle.ab_msg.specs.declared.content.Content.TheVariants.{Abort}
 use Rattle.ab_abs.specs.declared.seen.Seen.{Seen}
 use Rattle.ab_abs.specs.declared.entry.Entry.{Entry}
 use Rattle.ab_abs.specs.Faults.{is_faulty}
-use Rattle.ab_abs.specs.Acts.{Act, Setting, MayStart, Premises, histories, histories_of_act, requests, requests_of_act}
-use Rattle.ab_abs.specs.Kinds.{kind_in}
+use Rattle.ab_abs.specs.Acts.{Act, Setting, MayStart, Premises, abort_content, histories, histories_of_act, requests, requests_of_act}
+use Rattle.ab_abs.specs.Kinds.{kind_in, rule_in}
+use Rattle.ab_abs.proofs.Following.{abort_outer}
 use Rattle.ab_abs.specs.Messages.{Call}
 use Rattle.ab_abs.specs.Rules.{IsOther, IsStill, is_inner, by_client, takes as takes_cert, aborts}
 use Rattle.ab_abs.specs.Ensembles.{Proto, MayTake, begin_of, asked_of, halt_of, put}
@@ -42,7 +42,7 @@ other_still : (x : Setting) (acts : List Act) (a : Act) → IsOther x acts a →
 other_still x acts a (by_client c own is) r = inl (λ e. cc (own, e))
 other_still x acts a (takes_cert q claims k lt is valid) r = inr (ap (λ b. b.state) is, λ s has. absurd (Contains-none s (subst (λ (b : Act). Contains b.made s) is has)))
 other_still x acts a (aborts q s lt was stopped is) r =
-    inr (ap (λ b. b.state) is, λ t has. ap is_inner (sym (Contains-one (Abort (Replica q) x.i s.log) t (subst (λ (b : Act). Contains b.made t) is has))))
+    inr (ap (λ b. b.state) is, λ t has. ap is_inner (sym (Contains-one (abort_content (rule_in x) x.i q s) t (subst (λ (b : Act). Contains b.made t) is has))) ∙ abort_outer (rule_in x) x.i q s)
 
 module _ {P : Type 0} (proto : Proto P) (sound : Setting → List Act → Type 0) (stands : Setting → P → ℕ → List Act → Type 0) (serves : Kind → Bool)
     (stay : (x : Setting) (acts : List Act) (a : Act) (me : ℕ) (p : P) → IsStill me a → stands x p me acts → stands x p me (a ∷ acts))

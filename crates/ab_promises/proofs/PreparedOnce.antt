@@ -8,8 +8,9 @@ use Rattle.ab_svc.specs.Machines.{Machine}
 use Rattle.ab_msg.specs.declared.content.Content.TheVariants as content
 use Rattle.ab_msg.specs.Slots.{slot_digest}
 use Rattle.ab_abs.specs.Values.{goes}
-use Rattle.ab_abs.specs.Acts.{Act, Setting, Premises, WasMade, setting, abort_of, own_acts}
-use Rattle.ab_abs.specs.Kinds.{is_backup, kind_in, limit_in}
+use Rattle.ab_abs.specs.Acts.{Act, Setting, Premises, WasMade, setting, abort_content, abort_by, own_acts}
+use Rattle.ab_abs.proofs.Following.{abort_outer}
+use Rattle.ab_abs.specs.Kinds.{is_backup, kind_in, rule_in, limit_in}
 use Rattle.ab_abs.specs.Rules.{is_inner}
 use Rattle.ab_abs.specs.Ensembles.{begin_of, asked_of, halt_of}
 use Rattle.ab_lock.specs.Acts as lock
@@ -54,9 +55,9 @@ module _ {S Q : Type 0} (machine : Machine S) (orders : OrderProto Q Pbft) (obey
       (laws.takes machine orders pbft obeys pbft_orderly IsPbftSound PbftStands pbft_lawful x acts r pen v call seen may (stands acts v before) served).0
   stands _ _ (stops {acts} {p = v} before) = (laws.halts machine orders pbft obeys pbft_orderly IsPbftSound PbftStands pbft_lawful x acts r v served (stands acts v before)).0
   stands _ _ (aborts {acts} {p = v} before stopped) =
-      let log = ((backup orders pbft machine).state v).log in
-      laws.stays machine orders pbft obeys pbft_orderly IsPbftSound PbftStands pbft_lawful x acts (abort_of x r log) r v
-      (inr (refl, λ s has. ap is_inner (sym (Contains-one (content.Abort (Replica r) i log) s has)))) (stands acts v before)
+      let at = (backup orders pbft machine).state v in
+      laws.stays machine orders pbft obeys pbft_orderly IsPbftSound PbftStands pbft_lawful x acts (abort_by (rule_in x) x r at) r v
+      (inr (refl, λ s has. ap is_inner (sym (Contains-one (abort_content (rule_in x) i r at) s has)) ∙ abort_outer (rule_in x) i r at)) (stands acts v before)
 
   -- they are its own
   own : (acts : List Act) (v : Backing Q) → AreActsOf (backup orders pbft machine) x r acts v → own_acts r acts ≡ acts
@@ -64,7 +65,7 @@ module _ {S Q : Type 0} (machine : Machine S) (orders : OrderProto Q Pbft) (obey
   own _ _ (takes {acts} {p = v} pen call seen before may) =
       let a = asked_of (backup orders pbft machine) x r pen v call seen in own_own a acts r refl ∙ ap (λ l. a ∷ l) (own acts v before)
   own _ _ (stops {acts} {p = v} before) = let a = halt_of (backup orders pbft machine) r v in own_own a acts r refl ∙ ap (λ l. a ∷ l) (own acts v before)
-  own _ _ (aborts {acts} {p = v} before stopped) = let a = abort_of x r ((backup orders pbft machine).state v).log in own_own a acts r refl ∙ ap (λ l. a ∷ l) (own acts v before)
+  own _ _ (aborts {acts} {p = v} before stopped) = let a = abort_by (rule_in x) x r ((backup orders pbft machine).state v) in own_own a acts r refl ∙ ap (λ l. a ∷ l) (own acts v before)
 
   module _ (acts : List Act) (v : Backing Q) (are : AreActsOf (backup orders pbft machine) x r acts v) where
     abbrev its : PbftStands x (limit_in x) (viewed orders v).order r (own_acts r acts)

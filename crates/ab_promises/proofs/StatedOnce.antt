@@ -1,5 +1,5 @@
 -- A stopped replica's log stays, and each ABORT holds it.
-use Rattle.std.proofs.Common.{◌≡◌, ℕ, Bool, true, false, List, [], ◌∷◌, ◌⊎◌, sym, ap, ◌∙◌, subst, inl, inr}
+use Rattle.std.proofs.Common.{◌≡◌, ℕ, Bool, true, false, List, [], ◌∷◌, ◌⊎◌, refl, sym, ap, ◌∙◌, subst, inl, inr}
 use Rattle.std.specs.Prelude.{Contains, IsTrue}
 use Rattle.std.specs.List.{filter}
 use Rattle.ab_num.specs.declared.cluster.Cluster.{Cluster}
@@ -7,19 +7,20 @@ use Rattle.ab_num.specs.declared.party.Party.TheVariants.{Replica}
 use Rattle.ab_num.specs.declared.plan.Kind.{Kind}
 use Rattle.ab_num.specs.Parties.{party_eq}
 use Rattle.ab_num.proofs.Lists.{Contains-tail, Contains-cons_cases, Contains-none, Contains-one, Contains-filter_cases, flat_map_cases}
-use Rattle.ab_hist.specs.declared.request.Request.{Request}
 use Rattle.ab_msg.specs.declared.content.Content.{Content}
-use Rattle.ab_msg.specs.declared.content.Content.TheVariants.{Abort}
+use Rattle.ab_msg.specs.declared.content.Content.TheVariants.{Abort, AbortZ}
 use Rattle.ab_msg.specs.declared.message.Out.{Out}
 use Rattle.ab_msg.specs.Claims.{maker_of, fresh}
 use Rattle.ab_msg.specs.Pens.{Pen}
-use Rattle.ab_abs.specs.Acts.{Act, Setting, WasMade, setting, abort_of}
+use Rattle.ab_abs.specs.declared.rule.ReplyRule.{ReplyRule}
+use Rattle.ab_abs.specs.declared.rule.ReplyRule.TheVariants as rules
+use Rattle.ab_abs.specs.Acts.{Act, Setting, State, WasMade, setting, abort_content, abort_by}
 use Rattle.ab_abs.specs.FormLaws.{Belongs, begun, called, halted, KeepsForm}
-use Rattle.ab_abs.specs.Kinds.{kind_in}
+use Rattle.ab_abs.specs.Kinds.{kind_in, rule_in}
 use Rattle.ab_abs.specs.Messages.{Call}
 use Rattle.ab_abs.specs.Ensembles.{Proto, statements_of, begin_of, asked_of, halt_of}
 use Rattle.ab_abs.proofs.Facts.{party_eq-Decides}
-use Rattle.ab_promises.specs.ReplicaActs.{AreActsOf, begins, takes, stops, aborts, ActsKeep, StatesNone, AbortsOnce, is_abort}
+use Rattle.ab_promises.specs.ReplicaActs.{AreActsOf, begins, takes, stops, aborts, ActsKeep, StatesNone, IsAbortOf, AbortsOnce, is_abort}
 
 -- what a replica states in what it sends
 pub statement_by : (f r : ℕ) (outs : List Out) (s : Content) → Contains (statements_of f r outs) s → (o : Out) × Contains outs o × Contains (fresh f (Replica r) o.msg) s × (maker_of s ≡ Replica r)
@@ -39,14 +40,30 @@ made_cases a acts s was =
 pub made_before : (a : Act) (acts : List Act) (s : Content) → WasMade acts s → WasMade (a ∷ acts) s
 made_before a acts s was = (was.0, Contains-tail a was.0 acts was.1, was.2)
 
--- a stopped value stays stopped, with its log
+-- a stopped value stays stopped, with its log and the certificate of answers that it keeps
 pub record KeepsLogs {P : Type 0} (proto : Proto P) (serves : Kind → Bool) : Type 0 where
   pub frozen : (c : Cluster) (i r : ℕ) (pen : Pen) (p : P) (call : Call) → Belongs proto serves c i r p → (proto.state p).stopped ≡ true
       → ((proto.state (proto.after pen p call)).log ≡ (proto.state p).log) × ((proto.state (proto.after pen p call)).stopped ≡ true)
   pub halts : (p : P) → ((proto.state (proto.halt p)).log ≡ (proto.state p).log) × (((proto.state (proto.halt p)).stopped ≡ true) ⊎ (proto.halt p ≡ p))
+  pub zcert_stays : (c : Cluster) (i r : ℕ) (pen : Pen) (p : P) (call : Call) → Belongs proto serves c i r p → (proto.state p).stopped ≡ true → (proto.state (proto.after pen p call)).zcert ≡ (proto.state p).zcert
+  pub zcert_rests : (p : P) → (proto.state (proto.halt p)).zcert ≡ (proto.state p).zcert
 
 pub form_logs : {P : Type 0} (proto : Proto P) (serves : Kind → Bool) → KeepsForm proto serves → KeepsLogs proto serves
-form_logs proto serves form = record { frozen = form.frozen; halts = form.halts }
+form_logs proto serves form = record { frozen = form.frozen; halts = form.halts; zcert_stays = form.zcert_stays; zcert_rests = form.zcert_rests }
+
+-- what a stopped replica states as it aborts
+pub stop_is : (rule : ReplyRule) (i r : ℕ) (s : State) → IsAbortOf r i (abort_content rule i r s)
+stop_is rules.All i r s = (refl, refl, refl)
+stop_is (rules.Equal q) i r s = (refl, refl, refl)
+stop_is rules.Tail i r s = (refl, refl, refl)
+stop_is rules.Certified i r s = (refl, refl, refl)
+
+-- it rests on the log and the certificate of answers alone
+stop_same : (rule : ReplyRule) (i r : ℕ) (s t : State) → s.log ≡ t.log → s.zcert ≡ t.zcert → abort_content rule i r s ≡ abort_content rule i r t
+stop_same rules.All i r s t log zcert = ap (λ h. Abort (Replica r) i h) log
+stop_same (rules.Equal q) i r s t log zcert = ap (λ h. Abort (Replica r) i h) log
+stop_same rules.Tail i r s t log zcert = ap (λ h. Abort (Replica r) i h) log
+stop_same rules.Certified i r s t log zcert = ap (λ h. AbortZ (Replica r) i h s.zcert) log ∙ ap (λ z. AbortZ (Replica r) i t.log z) zcert
 
 module _ {P : Type 0} (proto : Proto P) (serves : Kind → Bool) where
   pub acts_belong : (x : Setting) (r : ℕ) (acts : List Act) (p : P) → AreActsOf proto x r acts p → IsTrue (serves (kind_in x)) → Belongs proto serves x.cluster x.i r p
@@ -56,7 +73,7 @@ module _ {P : Type 0} (proto : Proto P) (serves : Kind → Bool) where
   acts_belong x r _ _ (aborts {acts} {p} before stopped) served = acts_belong x r acts p before served
 
   -- a content that no call states and that is no ABORT isn't made
-  pub never_made : (test : Content → Bool) → StatesNone proto serves test → ((r i : ℕ) (h : List Request) → test (Abort (Replica r) i h) ≡ false)
+  pub never_made : (test : Content → Bool) → StatesNone proto serves test → ((rule : ReplyRule) (r i : ℕ) (s : State) → test (abort_content rule i r s) ≡ false)
       → (x : Setting) (r : ℕ) (acts : List Act) (p : P) → IsTrue (serves (kind_in x)) → AreActsOf proto x r acts p → (s : Content) → WasMade acts s → test s ≡ false
   never_made test none no_abort x r _ _ served (begins e may) s was =
       elim (made_cases (begin_of proto x r e) [] s was) [
@@ -76,51 +93,51 @@ module _ {P : Type 0} (proto : Proto P) (serves : Kind → Bool) where
         | inr old ↦ never_made test none no_abort x r acts p served before s old
       ]
   never_made test none no_abort x r _ _ served (aborts {acts} {p} before stopped) s was =
-      elim (made_cases (abort_of x r (proto.state p).log) acts s was) [
-        | inl new ↦ ap test (sym (Contains-one (Abort (Replica r) x.i (proto.state p).log) s new)) ∙ no_abort r x.i (proto.state p).log
+      elim (made_cases (abort_by (rule_in x) x r (proto.state p)) acts s was) [
+        | inl new ↦ ap test (sym (Contains-one (abort_content (rule_in x) x.i r (proto.state p)) s new)) ∙ no_abort (rule_in x) r x.i (proto.state p)
         | inr old ↦ never_made test none no_abort x r acts p served before s old
       ]
 
   module _ (keeps : KeepsLogs proto serves) (none : StatesNone proto serves is_abort) where
-    abbrev IsHeld : P → List Request → Type 0
-    IsHeld p h = ((proto.state p).stopped ≡ true) × ((proto.state p).log ≡ h)
+    abbrev IsHeld : Setting → ℕ → P → Content → Type 0
+    IsHeld x r p s = ((proto.state p).stopped ≡ true) × (abort_content (rule_in x) x.i r (proto.state p) ≡ s)
 
-    -- after an ABORT the replica is stopped, and its log is that of the ABORT
-    held : (x : Setting) (r : ℕ) (acts : List Act) (p : P) → IsTrue (serves (kind_in x)) → AreActsOf proto x r acts p → (h : List Request) → WasMade acts (Abort (Replica r) x.i h) → IsHeld p h
-    held x r _ _ served (begins e may) h was =
-        elim (made_cases (begin_of proto x r e) [] (Abort (Replica r) x.i h) was) [
-          | inl new ↦ absurd (Contains-none (Abort (Replica r) x.i h) new)
+    -- after an ABORT the replica is stopped, and would state the same again
+    held : (x : Setting) (r : ℕ) (acts : List Act) (p : P) → IsTrue (serves (kind_in x)) → AreActsOf proto x r acts p → (s : Content) → is_abort s ≡ true → WasMade acts s → IsHeld x r p s
+    held x r _ _ served (begins e may) s is_one was =
+        elim (made_cases (begin_of proto x r e) [] s was) [
+          | inl new ↦ absurd (Contains-none s new)
           | inr old ↦ absurd (Contains-none old.0 old.1)
         ]
-    held x r _ _ served (takes {acts} {p} pen call seen before may) h was =
+    held x r _ _ served (takes {acts} {p} pen call seen before may) s is_one was =
         let belongs = acts_belong x r acts p before served in
-        elim (made_cases (asked_of proto x r pen p call seen) acts (Abort (Replica r) x.i h) was) [
+        elim (made_cases (asked_of proto x r pen p call seen) acts s was) [
           | inl new ↦
-              let found = statement_by x.cluster.f r (proto.sends pen p call) (Abort (Replica r) x.i h) new in
-              absurd (let no = none x.cluster x.i r pen p call found.0 (Abort (Replica r) x.i h) belongs found.1 found.2 in cc (no))
+              let found = statement_by x.cluster.f r (proto.sends pen p call) s new in
+              absurd (let no = sym is_one ∙ none x.cluster x.i r pen p call found.0 s belongs found.1 found.2 in cc (no))
           | inr old ↦
-              let is = held x r acts p served before h old in
+              let is = held x r acts p served before s is_one old in
               let stay = keeps.frozen x.cluster x.i r pen p call belongs is.0 in
-              (stay.1, stay.0 ∙ is.1)
+              (stay.1, stop_same (rule_in x) x.i r (proto.state (proto.after pen p call)) (proto.state p) stay.0 (keeps.zcert_stays x.cluster x.i r pen p call belongs is.0) ∙ is.1)
         ]
-    held x r _ _ served (stops {acts} {p} before) h was =
-        elim (made_cases (halt_of proto r p) acts (Abort (Replica r) x.i h) was) [
-          | inl new ↦ absurd (Contains-none (Abort (Replica r) x.i h) new)
+    held x r _ _ served (stops {acts} {p} before) s is_one was =
+        elim (made_cases (halt_of proto r p) acts s was) [
+          | inl new ↦ absurd (Contains-none s new)
           | inr old ↦
-              let is = held x r acts p served before h old in
+              let is = held x r acts p served before s is_one old in
               let rest = keeps.halts p in
               elim rest.1 [
-                | inl stopped ↦ (stopped, rest.0 ∙ is.1)
-                | inr same ↦ subst (λ (q : P). IsHeld q h) (sym same) is
+                | inl stopped ↦ (stopped, stop_same (rule_in x) x.i r (proto.state (proto.halt p)) (proto.state p) rest.0 (keeps.zcert_rests p) ∙ is.1)
+                | inr same ↦ subst (λ (q : P). IsHeld x r q s) (sym same) is
               ]
         ]
-    held x r _ _ served (aborts {acts} {p} before stopped) h was =
-        elim (made_cases (abort_of x r (proto.state p).log) acts (Abort (Replica r) x.i h) was) [
-          | inl new ↦ let e = Contains-one (Abort (Replica r) x.i (proto.state p).log) (Abort (Replica r) x.i h) new in (stopped, cc (e))
-          | inr old ↦ held x r acts p served before h old
+    held x r _ _ served (aborts {acts} {p} before stopped) s is_one was =
+        elim (made_cases (abort_by (rule_in x) x r (proto.state p)) acts s was) [
+          | inl new ↦ (stopped, Contains-one (abort_content (rule_in x) x.i r (proto.state p)) s new)
+          | inr old ↦ held x r acts p served before s is_one old
         ]
 
     pub aborts_once : ActsKeep proto serves AbortsOnce
-    aborts_once c i r acts p served one are g h was_g was_h =
+    aborts_once c i r acts p served one are s t is_s is_t was_s was_t =
         let x = setting c [] i in
-        sym (held x r acts p served are g was_g).1 ∙ (held x r acts p served are h was_h).1
+        sym (held x r acts p served are s is_s.0 was_s).1 ∙ (held x r acts p served are t is_t.0 was_t).1

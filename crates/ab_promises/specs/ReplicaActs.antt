@@ -4,15 +4,15 @@ use Rattle.ab_num.specs.declared.cluster.Cluster.{Cluster}
 use Rattle.ab_num.specs.declared.party.Party.TheVariants.{Replica}
 use Rattle.ab_num.specs.declared.plan.Kind.{Kind}
 use Rattle.ab_num.specs.Places.{kind_of}
-use Rattle.ab_hist.specs.declared.request.Request.{Request}
 use Rattle.ab_msg.specs.declared.content.Content.{Content}
-use Rattle.ab_msg.specs.declared.content.Content.TheVariants.{Abort, Prepare}
+use Rattle.ab_msg.specs.declared.content.Content.TheVariants.{Abort, AbortZ, Prepare}
 use Rattle.ab_msg.specs.declared.message.Out.{Out}
 use Rattle.ab_msg.specs.Claims.{maker_of, instance_of, fresh}
 use Rattle.ab_msg.specs.Pens.{Pen}
 use Rattle.ab_abs.specs.declared.seen.Seen.{Seen}
 use Rattle.ab_abs.specs.declared.entry.Entry.{Entry}
-use Rattle.ab_abs.specs.Acts.{Act, Setting, MayStart, WasMade, setting, abort_of}
+use Rattle.ab_abs.specs.Acts.{Act, Setting, MayStart, WasMade, setting, abort_by}
+use Rattle.ab_abs.specs.Kinds.{rule_in}
 use Rattle.ab_abs.specs.FormLaws.{Belongs}
 use Rattle.ab_abs.specs.Messages.{Call}
 use Rattle.ab_abs.specs.Ensembles.{Proto, MayTake, begin_of, asked_of, halt_of}
@@ -24,7 +24,7 @@ pub data AreActsOf {P : Type 0} (proto : Proto P) (x : Setting) (r : ℕ) : List
   takes : {acts : List Act} {p : P} (pen : Pen) (call : Call) (seen : List Seen) → AreActsOf proto x r acts p → MayTake proto x acts r pen p call seen
       → AreActsOf proto x r (asked_of proto x r pen p call seen ∷ acts) (proto.after pen p call)
   stops : {acts : List Act} {p : P} → AreActsOf proto x r acts p → AreActsOf proto x r (halt_of proto r p ∷ acts) (proto.halt p)
-  aborts : {acts : List Act} {p : P} → AreActsOf proto x r acts p → (proto.state p).stopped ≡ true → AreActsOf proto x r (abort_of x r (proto.state p).log ∷ acts) p
+  aborts : {acts : List Act} {p : P} → AreActsOf proto x r acts p → (proto.state p).stopped ≡ true → AreActsOf proto x r (abort_by (rule_in x) x r (proto.state p) ∷ acts) p
 
 -- the same of instance i of a cluster. Who else is faulty plays no part
 abbrev pub AreActsIn : {P : Type 0} → Proto P → Cluster → ℕ → ℕ → List Act → P → Type 0
@@ -38,6 +38,7 @@ ActsKeep {P} proto serves Promise = (c : Cluster) (i r : ℕ) (acts : List Act) 
 
 abbrev pub is_abort : Content → Bool
 is_abort (Abort maker i h) = true
+is_abort (AbortZ maker i h zcert) = true
 is_abort _ = false
 
 abbrev pub is_prepare : Content → Bool
@@ -50,9 +51,13 @@ StatesNone {P} proto serves test =
     (c : Cluster) (i r : ℕ) (pen : Pen) (p : P) (call : Call) (o : Out) (s : Content) → Belongs proto serves c i r p → Contains (proto.sends pen p call) o
     → Contains (fresh c.f (Replica r) o.msg) s → test s ≡ false
 
--- the ABORTs of replica r in instance i among these acts hold one history
+-- an ABORT of replica r in instance i, with a certificate of answers or without
+abbrev pub IsAbortOf : ℕ → ℕ → Content → Type 0
+IsAbortOf r i s = (is_abort s ≡ true) × (maker_of s ≡ Replica r) × (instance_of s ≡ i)
+
+-- those among these acts are one: they hold one history, and the same certificate of answers or none
 abbrev pub AbortsOnce : ℕ → ℕ → List Act → Type 0
-AbortsOnce i r acts = (g h : List Request) → WasMade acts (Abort (Replica r) i g) → WasMade acts (Abort (Replica r) i h) → g ≡ h
+AbortsOnce i r acts = (s t : Content) → IsAbortOf r i s → IsAbortOf r i t → WasMade acts s → WasMade acts t → s ≡ t
 
 -- its PREPAREs of a view and a slot there have one digest
 abbrev pub PreparesOnce : ℕ → ℕ → List Act → Type 0
@@ -74,7 +79,7 @@ ActsByItself proto c i r made = ((s : Content) → Contains made s → maker_of 
 
 -- what replica r made has one ABORT of an instance, and one PREPARE of an instance, a view and a slot
 abbrev pub AbortsOnceIn : List Content → ℕ → Type 0
-AbortsOnceIn made r = (i : ℕ) (g h : List Request) → Contains made (Abort (Replica r) i g) → Contains made (Abort (Replica r) i h) → g ≡ h
+AbortsOnceIn made r = (i : ℕ) (s t : Content) → IsAbortOf r i s → IsAbortOf r i t → Contains made s → Contains made t → s ≡ t
 
 abbrev pub PreparesOnceIn : List Content → ℕ → Type 0
 PreparesOnceIn made r = (i v n : ℕ) (d e : List ℕ) → Contains made (Prepare (Replica r) i v n d) → Contains made (Prepare (Replica r) i v n e) → d ≡ e

@@ -25,5 +25,5 @@ pub use once::{
 pub use own::{
     backup_calls_are_abstract, chain_calls_are_abstract, own_calls_are_abstract,
     pbft_calls_are_abstract, quorum_calls_are_abstract, runs_call_their_own,
-    zlight_calls_are_abstract,
+    zcert_calls_are_abstract, zlight_calls_are_abstract,
 };

@@ -8,11 +8,12 @@ ghost use Rattle.ab_abs.specs.Ensembles.{Proto};
 ghost use Rattle.ab_abs.specs.Faults.{is_faulty};
 ghost use Rattle.ab_abs.specs.FormLaws.{KeepsPlace};
 ghost use Rattle.ab_abs.specs.Promises.{ServesAll};
-ghost use Rattle.ab_abs.specs.Kinds.{is_backup};
+ghost use Rattle.ab_abs.specs.Kinds.{is_backup, is_zcert};
 ghost use Rattle.ab_order.specs.Protos.{OrderProto, Obeys, backup};
 ghost use Rattle.ab_pbft_rules.specs.Rules.{Pbft, pbft};
 ghost use Rattle.ab_quorum.specs.Rules.{quorum, is_quorum};
 ghost use Rattle.ab_zlight.specs.Rules.{zlight, is_zlight};
+ghost use Rattle.ab_zcert.specs.Rules.{zcert_proto};
 ghost use Rattle.ab_chain.specs.Rules.{chain, is_chain};
 ghost use Rattle.ab_run.specs.Setups.{RunSetup, replicas};
 ghost use Rattle.ab_run.specs.Runs.{Event, run};
@@ -30,8 +31,8 @@ pub fn correct_replicas_act_by_themselves<P>()
         → r < replicas k → is_faulty k.faulty (Replica r) ≡ false → (i : ℕ) → ActsByItself proto k.cluster i r (run k proto events).made }
 {}
 
-/// Any lawful protocol whose calls state no ABORT: a replica is stopped as it makes its ABORT, which holds its log, and a
-/// stopped log stays. So a correct replica makes one ABORT an instance, whatever comes and whatever is forged.
+/// Any lawful protocol whose calls state no ABORT: a replica is stopped as it makes its ABORT, which holds its log and
+/// the certificate of answers that it keeps, and after a stop both stay. So a correct replica makes one ABORT an instance, whatever comes and whatever is forged.
 pub fn lawful_replicas_abort_once<S: Service, P: Protocol<S>>()
     ensures acts { StatesNone P.proto P.serves is_abort → ActsKeep P.proto P.serves AbortsOnce }
     ensures runs { (k : RunSetup) (events : List Event) (r : ℕ) → StatesNone P.proto P.serves is_abort → ServesAll P.serves k.cluster → AreFormed k events
@@ -46,6 +47,8 @@ pub fn calls_state_no_aborts<S: Service, Q>()
     ensures zlight_prepares { StatesNone (zlight S.machine) is_zlight is_prepare }
     ensures chain { StatesNone (chain S.machine) is_chain is_abort }
     ensures chain_prepares { StatesNone (chain S.machine) is_chain is_prepare }
+    ensures zcert { StatesNone (zcert_proto S.machine) is_zcert is_abort }
+    ensures zcert_prepares { StatesNone (zcert_proto S.machine) is_zcert is_prepare }
     ensures backup { (orders : OrderProto Q Pbft) → Obeys orders pbft → StatesNone (backup orders pbft S.machine) is_backup is_abort }
 {}
 

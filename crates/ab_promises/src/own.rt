@@ -12,6 +12,7 @@ ghost use Rattle.ab_order.specs.Protos.{OrderProto, Obeys, backup};
 ghost use Rattle.ab_pbft_rules.specs.Rules.{Pbft, pbft};
 ghost use Rattle.ab_quorum.specs.Rules.{quorum};
 ghost use Rattle.ab_zlight.specs.Rules.{zlight};
+ghost use Rattle.ab_zcert.specs.Rules.{zcert_proto};
 ghost use Rattle.ab_chain.specs.Rules.{chain};
 ghost use Rattle.ab_promises.specs.OwnCalls.{AreOwnCalls, OwnCallsKeep, AreAbstract};
 
@@ -20,6 +21,7 @@ use ab_backup::{Backup, Orderer};
 use ab_chain::Chain;
 use ab_quorum::Quorum;
 use ab_svc::Service;
+use ab_zcert::ZCert;
 use ab_zlight::ZLight;
 
 /// Any lawful protocol: the acts of an instance whose kind it serves keep what Abstract promises, if
@@ -48,6 +50,13 @@ pub fn chain_calls_are_abstract<S: Service>()
     ensures { OwnCallsKeep (chain S.machine) kind.Chain (AreAbstract S.machine) }
 {
     own_calls_are_abstract::<S, Chain<S>>()
+}
+
+/// So does ZCert.
+pub fn zcert_calls_are_abstract<S: Service>()
+    ensures { OwnCallsKeep (zcert_proto S.machine) kind.ZCert (AreAbstract S.machine) }
+{
+    own_calls_are_abstract::<S, ZCert<S>>()
 }
 
 /// So does Backup over any lawful orderer.

@@ -23,12 +23,16 @@ use ab_quorum::Quorum;
 use ab_svc::{Echo, Service};
 use ab_text::{Schedule, lines_of_head, read_is_in_form, read_schedule};
 use ab_world::{World, runs_are_told};
+use ab_zcert::ZCert;
 use ab_zlight::ZLight;
 use std::alloc::Global;
 use std::mem::drop;
 
 /// The protocol of each kind of instance.
-pub type AnyProtocol<S> = Choice<Quorum<S>, Choice<ZLight<S>, Choice<Chain<S>, Backup<S, Pbft>>>>;
+pub type AnyProtocol<S> = Choice<
+    Quorum<S>,
+    Choice<ZLight<S>, Choice<Chain<S>, Choice<ZCert<S>, Backup<S, Pbft>>>>,
+>;
 
 /// What a replay gives: the report, and whether its premise line says `held`.
 #[derive(Drop)]

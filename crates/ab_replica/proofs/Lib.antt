@@ -2,3 +2,4 @@
 pub mod TurnLemmas
 pub mod PurposeLemmas
 pub mod CrossingLemmas
+pub mod StopLemmas

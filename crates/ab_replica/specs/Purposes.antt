@@ -6,7 +6,7 @@ use Rattle.ab_msg.specs.declared.message.Offer.TheVariants as offer
 use Rattle.ab_msg.specs.Claims.{maker_of}
 use Rattle.ab_run.specs.Replicas.{client_of}
 use Rattle.ab_replica.specs.declared.purpose.Purpose.{Purpose}
-use Rattle.ab_replica.specs.declared.purpose.Purpose.TheVariants.{Request, Panic, Base, Other}
+use Rattle.ab_replica.specs.declared.purpose.Purpose.TheVariants.{Request, Panic, Base, Nothing, Other}
 
 abbrev pub purpose_of_offer : Offer → Purpose
 purpose_of_offer (offer.Base cert) = Base
@@ -16,4 +16,7 @@ abbrev pub purpose_of : Msg → Purpose
 purpose_of (msg.Req content tags) = Request (client_of (maker_of content))
 purpose_of (msg.Panic content tag) = Panic (client_of (maker_of content))
 purpose_of (msg.PrePrepare content tag o) = purpose_of_offer o
+purpose_of (msg.Checkpoint content tag) = Nothing
+purpose_of (msg.LocalCommit content tag) = Nothing
+purpose_of (msg.Spec spec) = Nothing
 purpose_of _ = Other

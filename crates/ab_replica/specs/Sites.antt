@@ -2,6 +2,10 @@
 use Rattle.std.specs.Prelude.{◌≡◌, ℕ, ◌+◌, ◌%◌, ◌^◌, None, []}
 use Rattle.ab_num.specs.declared.cluster.Cluster.{Cluster}
 use Rattle.ab_msg.specs.Pens.{Pen}
+use Rattle.ab_num.specs.Places.{kind_of}
+use Rattle.ab_msg.specs.declared.content.Content.{Content}
+use Rattle.ab_abs.specs.Acts.{State, abort_content}
+use Rattle.ab_abs.specs.Kinds.{rule_of}
 use Rattle.ab_abs.specs.Ensembles.{Proto, entry_of}
 use Rattle.ab_run.specs.Setups.{RunSetup}
 use Rattle.ab_run.specs.Replicas.{Rep}
@@ -47,3 +51,7 @@ pub record IsPenAfter {P : Type 0} (old new : Pen) (left : ℕ) (s : Site P) : T
 -- the number of a timer that has been set anew so often before, as 64 bits hold it
 abbrev pub timer_number : ℕ → ℕ → ℕ
 timer_number entries n = (n + entries) % 2 ^ 64
+
+-- what it states as it aborts from this state, by the rule of its instance
+abbrev pub stated_by : {P : Type 0} → Site P → State → Content
+stated_by s at = abort_content (rule_of (kind_of s.cluster.plan s.rep.at) s.cluster.f) s.rep.at s.me at

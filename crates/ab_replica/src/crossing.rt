@@ -4,7 +4,7 @@ ghost use Rattle.std.specs.Prelude.{◌≡◌, ◌+◌, ◌<◌, ◌≤◌, Some
 ghost use Rattle.std.specs.Option.{option_map};
 ghost use Rattle.ab_form.specs.Readers.{listed};
 ghost use Rattle.ab_msg.specs.Certs.{IsSigned};
-ghost use Rattle.ab_msg.specs.Contents.{IsAbort};
+ghost use Rattle.ab_msg.specs.Contents.{IsStopContent};
 ghost use Rattle.ab_wire.specs.Views.{IsReceived, aborts, message};
 ghost use Rattle.ab_abs.specs.Certificates.{history_of};
 ghost use Rattle.ab_abs.specs.Ensembles.{entry_of};
@@ -54,7 +54,7 @@ fn crossing_with<'a>(
     like: &History,
 ) -> Result<Option<Crossing>, OutOfMemory>
     requires instance { (1 ≤ j) × (j < 4294967295) }
-    requires formed { All (IsSigned IsAbort) (aborts cert.now) }
+    requires formed { All (IsSigned IsStopContent) (aborts cert.now) }
     ensures { IfOk result (λ o. o ≡ option_map (λ h. record { instance = j + 1; entry = entry_of h (Some (aborts cert.now)) }) (history_of c.now j (aborts cert.now))) }
 {
     match take_view(alloc, c, j, cert, Some(like))? {
@@ -79,7 +79,7 @@ fn crossing_by<'a>(
     like: &History,
 ) -> Result<Option<Crossing>, OutOfMemory>
     requires instance { 1 ≤ at }
-    requires formed { All (IsSigned IsAbort) (aborts cert.now) }
+    requires formed { All (IsSigned IsStopContent) (aborts cert.now) }
     ensures { IfOk result (λ o. o ≡ crossing_by c.now at (aborts cert.now)) }
 {
     let j = cert_instance(cert);

@@ -17,6 +17,8 @@ pub(crate) enum Purpose {
     Panic(u16),
     /// A replica offers a base, with the certificate that gives it.
     Base,
+    /// Nothing: it is for others, or for nobody.
+    Nothing,
     Other,
 }
 
@@ -41,6 +43,9 @@ pub(crate) fn purpose_of(m: &MsgRef<'_>) -> Purpose
             offer: OfferRef::Base(_),
             ..
         } => Purpose::Base,
+        MsgRef::Checkpoint { .. } => Purpose::Nothing,
+        MsgRef::LocalCommit { .. } => Purpose::Nothing,
+        MsgRef::Spec { .. } => Purpose::Nothing,
         _ => Purpose::Other,
     }
 }

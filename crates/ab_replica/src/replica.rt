@@ -13,7 +13,7 @@ ghost use Rattle.ab_abs.specs.Signers.{SignsNothing};
 ghost use Rattle.ab_run.specs.Setups.{RunSetup};
 ghost use Rattle.ab_run.specs.Runs.{first_rep};
 ghost use Rattle.ab_run.specs.Replicas.{aborting, halting, here, late, taken, turn_call};
-ghost use Rattle.ab_replica.specs.Sites.{IsPenAfter, IsPenOf, IsSetupOf, Site, first_site, setup_of, timer_number};
+ghost use Rattle.ab_replica.specs.Sites.{IsPenAfter, IsPenOf, IsSetupOf, Site, first_site, setup_of, stated_by, timer_number};
 ghost use Rattle.ab_replica.specs.Doings.{Arrives, Does, Hears, entering};
 
 use crate::accepted::marks_between;
@@ -23,8 +23,8 @@ use crate::effects::Effects;
 use crate::purpose::{Purpose, purpose_of};
 use ab_abs::{Entry, Protocol, StepFault};
 use ab_hist::History;
-use ab_msg::{Content, Notary, SignFault, Signed};
-use ab_num::{Cluster, OutOfMemory, Party};
+use ab_msg::{Content, Notary, SignFault, Signed, Zcert};
+use ab_num::{Cluster, Kind, OutOfMemory, Party};
 use ab_svc::Service;
 use ab_wire::MsgRef;
 use std::alloc::Global;
@@ -321,7 +321,7 @@ impl<S: Service, P: Protocol<S>> Replica<S, P> {
                 let outs = cert_to(alloc, client, self.entry.cert.as_ref())?;
                 Ok(Effects::sent(alloc, outs))
             }
-            Purpose::Base | Purpose::Other => Ok(Effects::none(alloc, false)),
+            Purpose::Base | Purpose::Nothing | Purpose::Other => Ok(Effects::none(alloc, false)),
         }
     }
 
@@ -344,6 +344,7 @@ impl<S: Service, P: Protocol<S>> Replica<S, P> {
             Purpose::Request(client) => self.request(alloc, client, m, n),
             Purpose::Panic(client) => self.halting(alloc, client, n),
             Purpose::Base => self.offered(alloc, m, n),
+            Purpose::Nothing => Ok(Effects::none(alloc, false)),
             Purpose::Other => self.call(alloc, m, n),
         }
     }
@@ -472,17 +473,51 @@ impl<S: Service, P: Protocol<S>> Replica<S, P> {
         }
     }
 
+    /// A copy of the certificate of answers that its protocol keeps.
+    fn kept(&self, alloc: Global) -> Result<Option<Zcert>, OutOfMemory>
+        ensures { IfOk result (λ z. z ≡ (P.proto.state self.now.rep.value).zcert) }
+    {
+        match self.value.zcert() {
+            Some(zcert) => {
+                let zcert = zcert.copy(alloc)?;
+                Ok(Some(zcert))
+            }
+            None => Ok(None),
+        }
+    }
+
+    /// What it states as it aborts, by the kind of its instance: its log, and in a ZCert the certificate of answers that it keeps.
+    fn abort_content(&self, alloc: Global) -> Result<Content, OutOfMemory>
+        ensures { IfOk result (λ s. s ≡ stated_by self.now (P.proto.state self.now.rep.value)) }
+    {
+        let maker = Party::Replica(self.me);
+        let instance = self.instance;
+        let history = self.value.log().copy(alloc)?;
+        match self.cluster.kind(self.instance) {
+            Kind::Quorum | Kind::ZLight | Kind::Chain | Kind::Backup => Ok(Content::Abort {
+                maker,
+                instance,
+                history,
+            }),
+            Kind::ZCert => {
+                let zcert = self.kept(alloc)?;
+                Ok(Content::AbortZ {
+                    maker,
+                    instance,
+                    history,
+                    zcert,
+                })
+            }
+        }
+    }
+
     /// Its ABORT in the present instance, signed with the next number.
     fn signed_abort<N: Notary>(&self, alloc: Global, n: &mut N) -> Result<Signed, SignFault>
-        ensures ok { IfOk result (λ s. (s ≡ record { maker = self.now.me; content = Content.Abort (Party.Replica self.now.me) self.now.rep.at (P.proto.state self.now.rep.value).log; sig = (N.pen n.old).sig (Content.Abort (Party.Replica self.now.me) self.now.rep.at (P.proto.state self.now.rep.value).log) (N.pen n.old).used }) × (N.pen n.new ≡ moved (N.pen n.old) 1) × (N.remains n.new + 1 ≡ N.remains n.old)) }
+        ensures ok { IfOk result (λ s. (s ≡ record { maker = self.now.me; content = stated_by self.now (P.proto.state self.now.rep.value); sig = (N.pen n.old).sig (stated_by self.now (P.proto.state self.now.rep.value)) (N.pen n.old).used }) × (N.pen n.new ≡ moved (N.pen n.old) 1) × (N.remains n.new + 1 ≡ N.remains n.old)) }
         ensures spent { IsErrOf result SignFault.Spent → N.remains n.old ≡ 0 }
         ensures unused { IsErrOf result SignFault.Spent → SignsNothing (N.pen n.old) (N.remains n.old) (N.pen n.new) (N.remains n.new) }
     {
-        let content = Content::Abort {
-            maker: Party::Replica(self.me),
-            instance: self.instance,
-            history: self.value.log().copy(alloc)?,
-        };
+        let content = self.abort_content(alloc)?;
         let sig = n.sign(alloc, &content)?;
         Ok(Signed {
             maker: self.me,

@@ -1,5 +1,5 @@
 -- What replicas keep and send has bytes.
-use Rattle.std.proofs.Common.{◌≡◌, ℕ, zero, suc, ◌+◌, ◌<◌, ◌≤◌, true, false, Bool, Some, None, Option, List, [], ◌∷◌, length, refl, sym, ap, ◌∙◌, subst, inl, inr, arith}
+use Rattle.std.proofs.Common.{◌≡◌, ℕ, zero, suc, ◌+◌, ◌*◌, ◌<◌, ◌≤◌, true, false, Bool, Some, None, Option, List, [], ◌∷◌, length, refl, sym, ap, ◌∙◌, subst, inl, inr, arith}
 use Rattle.std.proofs.Math.Dec.{eqb-zero-suc}
 use Rattle.std.specs.Prelude.{Contains, nat_le, nat_lt, ◌==◌, ◌&&◌, if◌then◌else◌}
 use Rattle.std.proofs.lemmas.Bool.{cases_Bool, and_parts, ltb-true}
@@ -10,31 +10,47 @@ use Rattle.ab_num.specs.declared.plan.Kind.{Kind}
 use Rattle.ab_num.specs.declared.plan.Kind.TheVariants as kind
 use Rattle.ab_num.specs.Places.{kind_of}
 use Rattle.ab_num.proofs.Lists.{Contains-one, Contains-none}
+use Rattle.ab_form.specs.Lists.{FitsInside}
 use Rattle.ab_hist.specs.declared.request.Request.{Request}
 use Rattle.ab_msg.specs.declared.content.Content.{Content}
-use Rattle.ab_msg.specs.declared.content.Content.TheVariants.{Abort}
 use Rattle.ab_msg.specs.declared.signed.Signed.{Signed}
 use Rattle.ab_msg.specs.declared.message.Msg.{Msg}
 use Rattle.ab_msg.specs.declared.message.Msg.TheVariants as msg
 use Rattle.ab_msg.specs.declared.message.Offer.TheVariants as offer
 use Rattle.ab_msg.specs.declared.message.Out.{Out}
 use Rattle.ab_msg.specs.Claims.{maker_of, instance_in}
-use Rattle.ab_msg.specs.Fields.{IsInstance, IsRequest, IsWritten}
-use Rattle.ab_msg.specs.Contents.{IsAbort}
+use Rattle.ab_msg.specs.Fields.{IsInstance, IsReplica, IsRequest, IsWritten}
+use Rattle.ab_msg.specs.Contents.{IsStopContent, IsZcert}
 use Rattle.ab_msg.specs.Certs.{AreAborts, IsSigned}
 use Rattle.ab_msg.specs.Messages.{IsMessage}
-use Rattle.ab_abs.specs.Kinds.{need_of, needs_equal}
+use Rattle.ab_abs.specs.Kinds.{need_of, needs_equal, rule_of, kind_in}
 use Rattle.ab_abs.specs.Messages.{Call, took, timed, IsFormed}
-use Rattle.ab_abs.specs.Certificates.{history_of, history_held, history_by, is_whole}
+use Rattle.ab_abs.specs.Certificates.{history_of, history_in, history_held, history_by, is_whole, kept_history, led_history, is_whole_kept}
 use Rattle.ab_abs.specs.Ensembles.{Proto, entry_of}
 use Rattle.ab_abs.specs.FormLaws.{KeepsForm, Belongs, begun, called, halted, Arises, IsWrittenEntry, from_entry, by_call, by_stop}
 use Rattle.ab_abs.proofs.Certified.{certificate_written}
 use Rattle.ab_abs.proofs.Drafts.{few_replicas}
-use Rattle.ab_run.specs.Setups.{RunSetup, replicas, last_instance}
-use Rattle.ab_run.specs.Replicas.{Rep, RepAction, turn_enter, turn_call, turn_halt, turn_sign, turn_bring, turn_abort, after_turn, sent_in_turn, state_at, pen_of, client_of, cert_instance, cert_to, abort_to, brought, aborting, aborting_with, halting, late, here, taken, taken_in, due, due_by, due_with, is_spent, turns}
+use Rattle.ab_run.specs.Setups.{RunSetup, within, replicas, last_instance}
+use Rattle.ab_run.specs.Replicas.{Rep, RepAction, turn_enter, turn_call, turn_halt, turn_sign, turn_bring, turn_abort, after_turn, sent_in_turn, state_at, abort_content, pen_of, client_of, cert_instance, cert_to, abort_to, brought, aborting, aborting_with, halting, late, here, taken, taken_in, due, due_by, due_with, is_spent, turns}
+use Rattle.ab_abs.specs.Acts.{State, abort_content as stated_abort}
 use Rattle.ab_run.specs.Runs.{first_rep}
 use Rattle.ab_run.specs.Local.{after_turns, sent_in_turns, rep_after, rep_sends}
 use Rattle.ab_run.specs.Forms.{IsDraftOf, IsWrittenRep, IsWrittenSetup}
+
+-- what a replica states as it aborts, whatever the kind
+stop_made : (kd : Kind) (f i r : ℕ) (s : State) → maker_of (stated_abort (rule_of kd f) i r s) ≡ Replica r
+stop_made kind.Quorum f i r s = refl
+stop_made kind.ZLight f i r s = refl
+stop_made kind.Chain f i r s = refl
+stop_made kind.Backup f i r s = refl
+stop_made kind.ZCert f i r s = refl
+
+stop_written : (kd : Kind) (f i r : ℕ) (s : State) → IsReplica (Replica r) → IsInstance i → IsWritten s.log → FitsInside IsZcert s.zcert → IsStopContent (stated_abort (rule_of kd f) i r s)
+stop_written kind.Quorum f i r s replica instance log zcert = (replica, (instance, log))
+stop_written kind.ZLight f i r s replica instance log zcert = (replica, (instance, log))
+stop_written kind.Chain f i r s replica instance log zcert = (replica, (instance, log))
+stop_written kind.Backup f i r s replica instance log zcert = (replica, (instance, log))
+stop_written kind.ZCert f i r s replica instance log zcert = (replica, (instance, (log, zcert)))
 
 -- ---- certificates
 
@@ -43,6 +59,7 @@ some_need kind.Quorum f = omega arith
 some_need kind.ZLight f = omega arith
 some_need kind.Chain f = omega arith
 some_need kind.Backup f = omega arith
+some_need kind.ZCert f = omega arith
 
 none_held : (kd : Kind) (f n : ℕ) (h : List Request) → need_of kd f ≡ n → 1 ≤ n → history_held kd f (Some []) ≡ Some h → ⊥
 none_held kd f zero h need some is = omega (arith, some)
@@ -52,9 +69,24 @@ none_held kd f (suc n) h need some is =
     let both : None ≡ Some h = sym empty ∙ is in
     cc (both)
 
+none_kept : (f n : ℕ) (h : List Request) → 2 * f + 1 ≡ n → 1 ≤ n → kept_history f (Some []) ≡ Some h → ⊥
+none_kept f zero h need some is = omega (arith, some)
+none_kept f (suc n) h need some is =
+    let empty : kept_history f (Some []) ≡ None =
+    ap (λ z. if is_whole_kept z [] then Some (led_history (f + 1) [] None) else None) need ∙ ap (λ (b : Bool). if b && true then Some (led_history (f + 1) [] None) else None) (eqb-zero-suc n) in
+    let both : None ≡ Some h = sym empty ∙ is in
+    cc (both)
+
 -- an empty one has no history
+no_aborts : (kd : Kind) (c : Cluster) (j : ℕ) (h : List Request) → history_in kd c j [] ≡ Some h → ⊥
+no_aborts kind.Quorum c j h is = none_held kind.Quorum c.f (need_of kind.Quorum c.f) h refl (some_need kind.Quorum c.f) is
+no_aborts kind.ZLight c j h is = none_held kind.ZLight c.f (need_of kind.ZLight c.f) h refl (some_need kind.ZLight c.f) is
+no_aborts kind.Chain c j h is = none_held kind.Chain c.f (need_of kind.Chain c.f) h refl (some_need kind.Chain c.f) is
+no_aborts kind.Backup c j h is = none_held kind.Backup c.f (need_of kind.Backup c.f) h refl (some_need kind.Backup c.f) is
+no_aborts kind.ZCert c j h is = none_kept c.f (2 * c.f + 1) h refl (omega arith) is
+
 some_aborts : (c : Cluster) (j : ℕ) (cert : List Signed) (h : List Request) → history_of c j cert ≡ Some h → 1 ≤ length cert
-some_aborts c j [] h is = absurd (none_held (kind_of c.plan j) c.f (need_of (kind_of c.plan j) c.f) h refl (some_need (kind_of c.plan j) c.f) is)
+some_aborts c j [] h is = absurd (no_aborts (kind_of c.plan j) c j h is)
 some_aborts c j (s ∷ cert) h is = omega arith
 
 brought_aborts : (m : Msg) (cert : List Signed) → IsMessage m → brought m ≡ Some cert → AreAborts 0 7 cert
@@ -100,6 +132,9 @@ module _ {P : Type 0} (k : RunSetup) (proto : Proto P) where
       let c = client_of (maker_of content) in
       good_if (state_at k proto s).stopped (aborting k proto c s) (turn_call (took (msg.Req content tags)) ∷ []) (aborting_good c s.abort) (is, tt)
   here_good s (msg.Panic content tag) is = halting_good (client_of (maker_of content)) s
+  here_good s (msg.Checkpoint content tag) is = tt
+  here_good s (msg.LocalCommit content tag) is = tt
+  here_good s (msg.Spec spec) is = tt
   here_good s _ is = (is, tt)
 
   late_good : (m : Msg) → AllGood (late m)
@@ -157,8 +192,10 @@ module _ {P : Type 0} (k : RunSetup) (proto : Proto P) {serves : Kind → Bool} 
       let entry : IsWrittenEntry (entry_of [] None) = record { base = no_requests; cert = λ cert is. absurd (cc (is)) } in
       record { arises = from_entry (entry_of [] None) (are.serves_all 1 (omega arith)) (omega arith, omega arith) lt entry; entry = entry; abort = λ v is. absurd (cc (is)) }
 
-  pub abort_written : (r : ℕ) (s : Rep P) → r < replicas k → Stands r s → IsAbort (Abort (Replica r) s.at (state_at k proto s).log)
-  abort_written r s lt was = ((omega arith, few_replicas k.cluster r lt), (placed proto serves k.cluster s.at r s.value was.arises, form.written k.cluster s.at r s.value was.arises))
+  pub abort_written : (r : ℕ) (s : Rep P) → r < replicas k → Stands r s → IsStopContent (abort_content k proto r s)
+  abort_written r s lt was =
+      stop_written (kind_in (within k s.at)) k.cluster.f s.at r (state_at k proto s) (omega arith, few_replicas k.cluster r lt) (placed proto serves k.cluster s.at r s.value was.arises)
+      (form.written k.cluster s.at r s.value was.arises) (form.zcert_written k.cluster s.at r s.value was.arises)
 
   pub turn_keeps : (r : ℕ) (t : RepAction) (s : Rep P) → r < replicas k → IsGood t → Stands r s → Stands r (after_turn k proto r s t)
   turn_keeps r (turn_enter j cert h) s lt good was =
@@ -174,10 +211,11 @@ module _ {P : Type 0} (k : RunSetup) (proto : Proto P) {serves : Kind → Bool} 
     arises = was.arises;
     entry = was.entry;
     abort = λ v is.
-        let signed : Signed = record { maker = r; content = Abort (Replica r) s.at (state_at k proto s).log; sig = k.sig r (Abort (Replica r) s.at (state_at k proto s).log) s.used } in
+        let signed : Signed = record { maker = r; content = abort_content k proto r s; sig = k.sig r (abort_content k proto r s) s.used } in
         let same : signed ≡ v = cc (is) in
-        subst (λ (w : Signed). IsSigned IsAbort w × (maker_of w.content ≡ Replica r)) same
-        ((refl, (abort_written r s lt was, are.signs r (Abort (Replica r) s.at (state_at k proto s).log) s.used lt)), refl);
+        let own = stop_made (kind_in (within k s.at)) k.cluster.f s.at r (state_at k proto s) in
+        subst (λ (w : Signed). IsSigned IsStopContent w × (maker_of w.content ≡ Replica r)) same
+        ((own, (abort_written r s lt was, are.signs r (abort_content k proto r s) s.used lt)), own);
   }
   turn_keeps r (turn_bring c) s lt good was = was
   turn_keeps r (turn_abort c) s lt good was = was
@@ -188,7 +226,7 @@ module _ {P : Type 0} (k : RunSetup) (proto : Proto P) {serves : Kind → Bool} 
       let sent : Out = record { to = Client c; msg = msg.Init cert } in
       subst (IsDraftOf k.cluster.f (Replica r)) (Contains-one sent out has) (record { draft = all cert refl; own = λ q gone. absurd (Contains-none q gone) })
 
-  abort_drafts : (r c : ℕ) (o : Option Signed) → ((v : Signed) → o ≡ Some v → IsSigned IsAbort v × (maker_of v.content ≡ Replica r)) → (out : Out) → Contains (abort_to c o) out → IsDraftOf k.cluster.f (Replica r) out
+  abort_drafts : (r c : ℕ) (o : Option Signed) → ((v : Signed) → o ≡ Some v → IsSigned IsStopContent v × (maker_of v.content ≡ Replica r)) → (out : Out) → Contains (abort_to c o) out → IsDraftOf k.cluster.f (Replica r) out
   abort_drafts r c None all out has = absurd (Contains-none out has)
   abort_drafts r c (Some v) all out has =
       let sent : Out = record { to = Client c; msg = msg.Abort v } in

@@ -12,23 +12,24 @@ ghost use Rattle.ab_msg.specs.Contents.{IsResp};
 ghost use Rattle.ab_msg.specs.Fields.{IsReply};
 ghost use Rattle.ab_content.specs.Views.{content as shown, request as shown_request};
 ghost use Rattle.ab_wire.specs.Views.{reply_of};
-ghost use Rattle.ab_run.specs.Clients.{counting};
+ghost use Rattle.ab_num.specs.Places.{kind_of};
+ghost use Rattle.ab_run.specs.Clients.{counting, counts_chains};
 ghost use Rattle.ab_run.specs.Local.{cue_message};
 ghost use Rattle.ab_client.specs.Clients.{is_waiting, alone, moves_on};
-ghost use Rattle.ab_client.specs.Moved.{IsMoved};
+ghost use Rattle.ab_client.specs.Moved.{IsBallot, IsMoved};
 
 use super::Client;
 use ab_abs::{Ballot, Marks, Seen, counts_responses};
 use ab_content::{ContentRef, RequestRef};
 use ab_hist::{Reply, array_of, copy_reply};
-use ab_num::Party;
+use ab_num::{Kind, Party};
 use ab_run::Phase;
 use std::alloc::Global;
 
 impl Client {
     /// Whether an answer in this instance to this client and stamp is one to the open request, where
     /// `counts` says whether the kind of the present instance has such answers.
-    fn awaits(&self, counts: bool, instance: u32, client: u16, stamp: u64) -> bool
+    pub(super) fn awaits(&self, counts: bool, instance: u32, client: u16, stamp: u64) -> bool
         ensures { result ≡ ((is_waiting self.now.cli.phase && counts)
             && ((instance == self.now.cli.at) && ((client == self.now.me) && (stamp == self.now.cli.stamp)))) }
     {
@@ -40,7 +41,7 @@ impl Client {
     }
 
     /// What is observed where the open request commits with this number, digest and reply.
-    fn committed(&self, alloc: Global, n: u16, d: &[u8; 32], reply: &Reply) -> Marks
+    pub(super) fn committed(&self, alloc: Global, n: u16, d: &[u8; 32], reply: &Reply) -> Marks
         ensures { (m : TheRequest) → self.now.cli.last ≡ Some m
             → result.items ≡ Seen.Committed self.now.cli.at self.now.me m n d.now reply.now ∷ [] }
     {
@@ -59,7 +60,7 @@ impl Client {
     }
 
     /// What is observed where the newest vote for the open request commits it.
-    fn elected(&self, alloc: Global) -> Marks
+    pub(super) fn elected(&self, alloc: Global) -> Marks
         ensures { (m : TheRequest) (b : Ballot) (bs : List Ballot) → self.now.cli.last ≡ Some m → self.now.cli.votes ≡ b ∷ bs
             → result.items ≡ Seen.Committed self.now.cli.at self.now.me m b.n b.d b.reply ∷ [] }
     {
@@ -73,6 +74,7 @@ impl Client {
     /// for what it says.
     fn count(&mut self, alloc: Global, ballot: Ballot) -> Marks
         requires open { self.old.cli.phase ≡ Phase.Waiting }
+        requires formed { IsBallot ballot }
         ensures counted { (m : TheRequest) → self.old.cli.last ≡ Some m
             → IsMoved self.old (counting (alone self.old.cluster) self.old.me self.old.cli m ballot) self.new [] result.items }
         ensures none { self.old.cli.last ≡ None → (self.new ≡ self.old) × (result.items ≡ []) }
@@ -97,6 +99,7 @@ impl Client {
         stamp: u64,
         ballot: Ballot,
     ) -> Marks
+        requires formed { IsBallot ballot }
         ensures { (tag : List ℕ) →
             IsMoved self.old (moves_on self.old (cue_message (msg.Resp (Resp (Replica ballot.by) instance client stamp ballot.n ballot.d ballot.reply) tag))) self.new [] result.items }
     {
@@ -130,6 +133,16 @@ impl Client {
         }
     }
 
+    /// Whether clients commit by a CHAIN in the present instance.
+    fn counts_chains(&self) -> bool
+        ensures { result ≡ counts_chains (kind_of self.now.cluster.plan self.now.cli.at) }
+    {
+        match self.cluster.kind(self.instance) {
+            Kind::Quorum | Kind::ZLight | Kind::Backup | Kind::ZCert => false,
+            Kind::Chain => true,
+        }
+    }
+
     /// Takes a request that comes along a chain with this number, digest and reply.
     pub(super) fn on_chain(
         &mut self,
@@ -144,7 +157,7 @@ impl Client {
         ensures { (tags : List TagBetween) →
             IsMoved self.old (moves_on self.old (cue_message (msg.Chain instance (shown_request request.entry) n d.now (option_map reply_of reply.entry) tags))) self.new [] result.items }
     {
-        let counts = !counts_responses(self.cluster.kind(self.instance));
+        let counts = self.counts_chains();
         if !self.awaits(counts, instance, request.client, request.stamp) {
             return Marks::new_in(alloc);
         }

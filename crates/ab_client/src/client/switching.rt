@@ -4,7 +4,7 @@ ghost use Rattle.std.specs.Prelude.{◌≡◌, ◌+◌, ◌<◌, ◌≤◌, ◌�
 ghost use Rattle.ab_num.specs.Places.{kind_of};
 ghost use Rattle.ab_hist.specs.declared.request.Request.{Request as TheRequest};
 ghost use Rattle.ab_msg.specs.declared.message.Msg.TheVariants as sent;
-ghost use Rattle.ab_msg.specs.Contents.{IsAbort};
+ghost use Rattle.ab_msg.specs.Contents.{IsStopContent};
 ghost use Rattle.ab_msg.specs.Certs.{AreAborts, IsSigned};
 ghost use Rattle.ab_abs.specs.Certificates.{history_of};
 ghost use Rattle.ab_wire.specs.Views.{aborts, signed};
@@ -17,7 +17,7 @@ use super::{Client, nothing};
 use crate::certs::{history_of, is_kept, keep, known_log, own_cert, timely};
 use crate::sending::{asking_again, entering, panicking};
 use ab_abs::{Marks, Seen, Votes, reply_rule};
-use ab_extract::{own_abort, take_view};
+use ab_extract::{is_fit_view, own_abort, take_view};
 use ab_form::ListRef;
 use ab_hist::{History, Request};
 use ab_msg::{AbortCert, Outs, Signed};
@@ -40,6 +40,9 @@ impl Client {
             reply_rule(self.cluster.kind(self.instance), self.cluster.f),
             self.cluster.replicas(),
         );
+        self.signed.clear();
+        self.sent = None;
+        self.told.clear();
         self.kept.clear();
     }
 
@@ -71,7 +74,7 @@ impl Client {
         alloc: Global,
         v: &Signed,
     ) -> Result<Option<(AbortCert, History)>, OutOfMemory>
-        requires { IsSigned IsAbort v.now }
+        requires { IsSigned IsStopContent v.now }
         ensures cert { IfOk result (λ o. IfSome o (λ x. (x.0 ≡ (own_cert (kind_of self.now.cluster.plan self.now.cli.at) v.now self.now.cli.kept)) × AreAborts 1 7 x.0)) }
         ensures history { IfOk result (λ o. IfSome o (λ x. history_of self.now.cluster self.now.cli.at (own_cert (kind_of self.now.cluster.plan self.now.cli.at) v.now self.now.cli.kept) ≡ Some x.1)) }
         ensures below { IfOk result (λ o. IsSome o → self.now.cli.at < 4294967295) }
@@ -90,7 +93,7 @@ impl Client {
 
     /// Keeps the ABORT of another replica.
     fn keep(&mut self, v: Signed) -> Result<(), OutOfMemory>
-        requires { IsSigned IsAbort v }
+        requires { IsSigned IsStopContent v }
         ensures ok { OnOk result (self.new ≡ record self.old { cli = after_move self.old.cli (move_keep v) }) }
         ensures err { OnErr result (self.new ≡ self.old) }
     {
@@ -105,7 +108,7 @@ impl Client {
         v: Signed,
         request: &Request,
     ) -> Result<(Outs, Marks), OutOfMemory>
-        requires abort { IsSigned IsAbort v }
+        requires abort { IsSigned IsStopContent v }
         requires request { self.old.cli.last ≡ Some request.now }
         ensures ok { IfOk result (λ r. IsMoved self.old (move_keep v ∷ taking (alone self.old.cluster) self.old.cli request.now self.old.cli.at (own_cert (kind_of self.old.cluster.plan self.old.cli.at) v self.old.cli.kept)) self.new r.0 r.1.items) }
         ensures err { OnErr result (self.new ≡ self.old) }
@@ -119,13 +122,13 @@ impl Client {
         }
     }
 
-    /// Takes an ABORT.
+    /// Takes an ABORT. One that no certificate of the present instance may hold is not kept.
     pub(super) fn on_abort(
         &mut self,
         alloc: Global,
         abort: SignedRef<'_>,
     ) -> Result<(Outs, Marks), OutOfMemory>
-        requires received { IsSigned IsAbort (signed abort) }
+        requires received { IsSigned IsStopContent (signed abort) }
         ensures ok { IfOk result (λ r. IsMoved self.old (moves_on self.old (cue_message (sent.Abort (signed abort.entry)))) self.new r.0 r.1.items) }
         ensures err { OnErr result (self.new ≡ self.old) }
     {
@@ -136,6 +139,13 @@ impl Client {
             return Ok(nothing(alloc));
         }
         if is_kept(&self.kept, abort.maker) {
+            return Ok(nothing(alloc));
+        }
+        if !is_fit_view(
+            &abort.content,
+            self.cluster.kind(self.instance),
+            self.cluster.f,
+        ) {
             return Ok(nothing(alloc));
         }
         let known = known_log(&self.kept, self.cert.as_ref());
@@ -196,6 +206,7 @@ impl Client {
             Kind::ZLight => self.panic(alloc),
             Kind::Chain => self.panic(alloc),
             Kind::Backup => self.ask_again(alloc, &request),
+            Kind::ZCert => self.certify(alloc, &request),
         }
     }
 
@@ -207,7 +218,7 @@ impl Client {
     }
 
     /// Asks the replicas to stop.
-    fn panic(&mut self, alloc: Global) -> Result<(Outs, Marks), OutOfMemory>
+    pub(super) fn panic(&mut self, alloc: Global) -> Result<(Outs, Marks), OutOfMemory>
         ensures ok { IfOk result (λ r. IsMoved self.old (move_panic ∷ []) self.new r.0 r.1.items) }
         ensures err { OnErr result (self.new ≡ self.old) }
     {

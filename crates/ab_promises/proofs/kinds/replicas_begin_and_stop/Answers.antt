@@ -10,6 +10,7 @@ returns g c =
       quorum = record { begins = λ c i r e. refl; stops = λ p. refl; stays = λ p. refl };
       zlight = record { begins = λ c i r e. refl; stops = λ p. refl; stays = λ p. refl };
       chain = record { begins = λ c i r e. refl; stops = λ p. refl; stays = λ p. refl };
+      zcert = record { begins = λ c i r e. refl; stops = λ p. refl; stays = λ p. refl };
       backup = record {
         begins = λ c i r e. ap o.rules.ordered (laws.obeys.begins c i r e) ∙ laws.orderly.empty (o.rules.begin (limit_of c.plan i) c.f i r e.base) (laws.orderly.begun (limit_of c.plan i) c.f i r e.base).0;
         rests = λ p. refl;

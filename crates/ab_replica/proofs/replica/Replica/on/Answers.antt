@@ -8,8 +8,16 @@ use Rattle.ab_replica.specs.Sites.{Site, setup_of}
 use Rattle.ab_replica.specs.Crossings.{crossing_in}
 use Rattle.ab_replica.specs.Doings.{entering}
 use Rattle.ab_replica.proofs.TurnLemmas.{hears_if}
-use Rattle.ab_replica.proofs.CrossingLemmas.{IsDue, due_is}
+use Rattle.ab_replica.proofs.CrossingLemmas.{IsAhead, IsDue, ahead, due_is}
 use Rattle.ab_replica.proofs.replica.Replica.on.Goals as goal
+
+pub enter-requires-clause-higher : goal.enter-requires-clause-higher
+enter-requires-clause-higher g c =
+    let s : Site g.row.P.Denot = c.args.self.now in
+    let m = message c.args.m in
+    let led : crossing_in s.cluster s.rep.at (brought m) ≡ Some c.in-Some.next =
+    sym (ap (λ (t : Site g.row.P.Denot). crossing_in t.cluster t.rep.at (brought m)) c.self.view_is) ∙ (sym c.in_ok-next.ensures ∙ c.in-Some.is) in
+    subst (λ (o : Option Crossing). IsAhead s.rep.at o) led (ahead s.cluster s.rep.at (brought m))
 
 pub returns-in-Some-clause-hears : goal.returns-in-Some-clause-hears
 returns-in-Some-clause-hears g c k of =
