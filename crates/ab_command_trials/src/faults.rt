@@ -127,6 +127,13 @@ fn faults_of_histories_and_certificates_say_what_is_wrong(rt: HostRuntime) {
             "an ABORT is of instance 9"
         )
     );
+    assert!(rt;
+        says(
+            alloc,
+            &CertFault::BadCert(2),
+            "the ABORT of replica 2 isn't one of the instance's kind"
+        )
+    );
     assert!(rt; says(alloc, &CertFault::Unequal, "the histories differ"));
 }
 

@@ -27,3 +27,5 @@ mod solos;
 mod trees;
 #[cfg(test)]
 mod views;
+#[cfg(test)]
+mod zcerts;

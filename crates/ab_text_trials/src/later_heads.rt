@@ -2,7 +2,7 @@
 
 ghost use Rattle.std.specs.Prelude.{◌<◌, ◌^◌, length};
 
-use ab_num::{Height, Scheme};
+use ab_num::{Plan, Scheme};
 use ab_text::{Head, TextFault, lines_of_head, read_schedule};
 use std::alloc::Global;
 use std::process::Abort;
@@ -16,10 +16,10 @@ const UPPER: &str = "000102030405060708090A0b0c0d0e0f101112131415161718191a1b1c1
 /// A digit less.
 const SHORT: &str = "000102030405060708090a0b0c0d0e0f101112131415161718191a1b1c1d1ef";
 
-/// The head that a text has from its first line and what comes after the sixth, or what is wrong with it.
-fn head_by(alloc: Global, first: &str, rest: &str) -> Option<Result<Head, TextFault>> {
+/// The head that a text has from its first line, its plan and what comes after the sixth, or what is wrong with it.
+fn head_of(alloc: Global, first: &str, plan: &str, rest: &str) -> Option<Result<Head, TextFault>> {
     let text = format!(in alloc;
-        "abstract {first}\nf 1\nplan quorum\nclients 2\nservice echo\nlms 20\n{rest}"
+        "abstract {first}\nf 1\nplan {plan}\nclients 2\nservice echo\nlms 20\n{rest}"
     ).ok()?;
     if text.len() > 1000 {
         return None;
@@ -28,6 +28,11 @@ fn head_by(alloc: Global, first: &str, rest: &str) -> Option<Result<Head, TextFa
         Ok(schedule) => Ok(schedule.head),
         Err(fault) => Err(fault),
     })
+}
+
+/// The head of a text whose plan is `quorum`.
+fn head_by(alloc: Global, first: &str, rest: &str) -> Option<Result<Head, TextFault>> {
+    head_of(alloc, first, "quorum", rest)
 }
 
 /// Checks that what comes after the sixth line is refused so.
@@ -78,6 +83,21 @@ fn checkpoints(rt: HostRuntime) {
         ("3", "checkpoint 0\nrun\nend\nend\n", TextFault::BadLine(10)),
     ];
     refused(&rt, rt.alloc(), &cases).expect(&rt, "memory");
+}
+
+#[test]
+fn a_plan_without_checkpoints(rt: HostRuntime) {
+    let alloc = rt.alloc();
+    let cases = [("3", "1"), ("3", "128"), ("4", "64"), ("4", "129")];
+    for (first, every) in cases {
+        let rest = format!(in alloc; "checkpoint {every}\n").expect(&rt, "memory");
+        let read = head_of(alloc, first, "zcert", rest.as_str()).expect(&rt, "memory");
+        let fault = read.err().expect(&rt, "a fault");
+        assert!(rt; fault == TextFault::BadLine(7), "{first} {every}");
+    }
+    let read = head_of(alloc, "3", "zcert", "checkpoint 0\nrun\nend\n").expect(&rt, "memory");
+    let head = read.expect(&rt, "a schedule");
+    assert!(rt; head.cluster.plan == Plan::ZCert && head.cluster.every == 0);
 }
 
 /// What comes after the sixth line, with this line behind that of checkpoints.

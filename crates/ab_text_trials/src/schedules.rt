@@ -131,6 +131,7 @@ fn plans(rt: HostRuntime) {
         ("azyzzyva", Plan::AZyzzyva),
         ("aliph", Plan::Aliph),
         ("backup", Plan::Backup),
+        ("zcert", Plan::ZCert),
     ];
     for (name, plan) in cases {
         assert!(rt; plan_by(alloc, name) == Some(plan));

@@ -37,6 +37,10 @@ fn commands(rt: HostRuntime) {
             false,
         ),
         (
+            "storm --plan zcert --f 1 --clients 2 --seed 1 --events 100000",
+            true,
+        ),
+        (
             "storm --plan aliph --f 01 --clients 2 --seed 1 --events 1",
             false,
         ),
@@ -51,6 +55,9 @@ fn commands(rt: HostRuntime) {
         ("node --base 1 --wait 1 --turns 1 --trace=", false),
         ("node --base 1 --base 1 --wait 1 --turns 1", false),
         ("node --base 1 --wait 0 --turns 1", false),
+        ("node --base 65001 --wait 1 --turns 1", false),
+        ("node --base 1 --wait 60001 --turns 1", false),
+        ("node --base 1 --wait 1 --turns 1000000001", false),
         ("node --base 1 --wait 1 --turns", false),
         ("node --base 1 --wait 1 --turns 1 --", false),
         ("node --base 1 --wait 1 --turns 1 --other 1", false),

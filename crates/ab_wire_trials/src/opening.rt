@@ -3,7 +3,7 @@
 use ab_check::Checker;
 use ab_keys::is_party;
 use ab_msg::Tag;
-use ab_num::{Cluster, Party, Plan};
+use ab_num::{Cluster, OutOfMemory, Party, Plan};
 use ab_open::{OpenFault, claims, open};
 use std::alloc::Global;
 
@@ -34,6 +34,38 @@ const CHAIN: [u8; 54] = [
     4, 0, 0, 0, 1, 0, 0, 0, 0, 0, 0, 0, 0, 0, 1, 0, 1, 97, 0, 1, 0, 0, 0, 0, 0, 0, 0, 0, 0, 0, 0,
     0, 0, 0, 0, 0, 0, 0, 0, 0, 0, 0, 0, 0, 0, 0, 0, 0, 0, 0, 0, 0, 0, 0,
 ];
+
+/// Adds a certificate of one answer to client 0's request 1, by this replica.
+fn put_zcert(out: &mut Vec<u8>, replica: u8) -> Result<(), OutOfMemory> {
+    out.extend_from_slice(&[1, 0, 0, 0, 0, 0, 0, 0, 0, 0, 1, 0, 1])?;
+    out.extend_from_slice(&[0; 32])?;
+    out.extend_from_slice(&[2, 111, 107, 1, replica])?;
+    put_sig(out)
+}
+
+/// Adds a signature behind its length.
+fn put_sig(out: &mut Vec<u8>) -> Result<(), OutOfMemory> {
+    out.extend_from_slice(&2348u16.to_be_bytes())?;
+    out.extend_from_slice(&[7; 2348])?;
+    Ok(())
+}
+
+/// A CERT in instance 1, with an answer of this replica.
+fn cert(alloc: Global, replica: u8) -> Result<Vec<u8>, OutOfMemory> {
+    let mut out = Vec::new(alloc);
+    out.extend_from_slice(&[16, 0, 0, 0, 1])?;
+    put_zcert(&mut out, replica)?;
+    Ok(out)
+}
+
+/// An ABORT of replica 0 in instance 1 with an empty history, which holds an answer of this replica.
+fn abort(alloc: Global, replica: u8) -> Result<Vec<u8>, OutOfMemory> {
+    let mut out = Vec::new(alloc);
+    out.extend_from_slice(&[6, 15, 0, 0, 0, 0, 0, 0, 1, 0, 0])?;
+    put_zcert(&mut out, replica)?;
+    put_sig(&mut out)?;
+    Ok(out)
+}
 
 /// Why bytes don't open at a party of a cluster of four replicas and one client.
 fn fault(alloc: Global, me: Party, right: bool, bytes: &[u8]) -> Option<OpenFault> {
@@ -78,5 +110,43 @@ fn what_is_checked_of_a_chain_is_told(rt: HostRuntime) {
     assert!(rt; asked.maker() == Party::Client(0) && asked.text().as_slice().len() == 21);
     let passed = checks.next().expect(&rt, "the tag of position 1").claim;
     assert!(rt; passed.maker() == Party::Replica(0) && passed.text().as_slice().len() == 52);
+    assert!(rt; checks.next().is_none());
+}
+
+#[test]
+fn a_certificate_of_answers_opens_at_replicas(rt: HostRuntime) {
+    let bytes = cert(rt.alloc(), 3).expect(&rt, "memory");
+    assert!(rt; fault(rt.alloc(), Party::Replica(1), true, bytes.as_slice()) == None);
+    assert!(rt;
+        fault(rt.alloc(), Party::Replica(1), false, bytes.as_slice()) == Some(OpenFault::BadTag(0))
+    );
+    assert!(rt;
+        fault(rt.alloc(), Party::Client(0), true, bytes.as_slice()) == Some(OpenFault::NotMine)
+    );
+    let bytes = cert(rt.alloc(), 4).expect(&rt, "memory");
+    assert!(rt;
+        fault(rt.alloc(), Party::Replica(1), true, bytes.as_slice()) == Some(OpenFault::NotMine)
+    );
+}
+
+#[test]
+fn the_answers_that_an_abort_holds_are_checked_behind_it(rt: HostRuntime) {
+    let alloc = rt.alloc();
+    let bytes = abort(alloc, 4).expect(&rt, "memory");
+    assert!(rt; fault(alloc, Party::Client(0), true, bytes.as_slice()) == Some(OpenFault::NotMine));
+    let bytes = abort(alloc, 3).expect(&rt, "memory");
+    let k = Cluster::new(1, 1, Plan::Chain, 0).expect(&rt, "a cluster");
+    let me = Party::Client(0);
+    if !is_party(&k, me) {
+        panic!(rt; "a party");
+    }
+    let checked = open(alloc, &k, me, &mut Always(true), bytes.as_slice())
+        .ok()
+        .expect(&rt, "it opens");
+    let mut checks = checked.checks(&k);
+    let stopped = checks.next().expect(&rt, "the ABORT").claim;
+    assert!(rt; stopped.maker() == Party::Replica(0) && stopped.text().as_slice().len() == 2410);
+    let answered = checks.next().expect(&rt, "the answer").claim;
+    assert!(rt; answered.maker() == Party::Replica(3) && answered.text().as_slice().len() == 55);
     assert!(rt; checks.next().is_none());
 }

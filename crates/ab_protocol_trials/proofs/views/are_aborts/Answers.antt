@@ -12,12 +12,12 @@ use Rattle.ab_extract.proofs.MemberLemmas.{aborts_are}
 use Rattle.ab_protocol_trials.proofs.views.are_aborts.Goals as goal
 
 -- one that was read, signed by one of the replicas
-one_is : (replicas : ℕ) (s : Signed) → IsSigned contents.IsAbort s → s.maker < replicas → IsAbort replicas s
+one_is : (replicas : ℕ) (s : Signed) → IsSigned contents.IsStopContent s → s.maker < replicas → IsAbort replicas s
 one_is replicas s formed lt =
     All-head (λ t. IsAbort replicas t) s []
-    (aborts_are replicas (s ∷ []) (All-cons (IsSigned contents.IsAbort) s [] formed (All-nil (IsSigned contents.IsAbort))) (let e : nat_lt s.maker replicas ≡ true = lt-ltb s.maker replicas lt in ap (λ b. b && true) e))
+    (aborts_are replicas (s ∷ []) (All-cons (IsSigned contents.IsStopContent) s [] formed (All-nil (IsSigned contents.IsStopContent))) (let e : nat_lt s.maker replicas ≡ true = lt-ltb s.maker replicas lt in ap (λ b. b && true) e))
 
-more : (replicas : ℕ) (left after : List Signed) (s : Signed) → left ≡ s ∷ after → IsSigned contents.IsAbort s → s.maker < replicas → AreAborts replicas after → AreAborts replicas left
+more : (replicas : ℕ) (left after : List Signed) (s : Signed) → left ≡ s ∷ after → IsSigned contents.IsStopContent s → s.maker < replicas → AreAborts replicas after → AreAborts replicas left
 more replicas left after s is formed lt rest = subst (AreAborts replicas) (sym is) (All-cons (λ t. IsAbort replicas t) s after (one_is replicas s formed lt) rest)
 
 pub aborts-preserved : goal.aborts-preserved
