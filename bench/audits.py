@@ -79,11 +79,30 @@ def slot_of(b):
     return b.number(4), b.number(1, 0, 16), b.take(32)
 
 
+def answer(b):
+    """A client's stamp, a number, a digest and a reply."""
+    return b.number(2, 0, 15), b.number(8, 1), b.number(2, 1, 65535), b.take(32), b.take(b.number(1, 0, 72))
+
+
+def answers(b):
+    """A certificate of answers."""
+    answer(b)
+    listed(b, 1, 7, lambda b: (b.number(1, 0, 6), signature(b)))
+
+
+def log_and_answers(b):
+    """A history, and a certificate of answers if there is one."""
+    log = history(b)
+    if b.number(1, 0, 1):
+        answers(b)
+    return log
+
+
 BEHIND = {
     1: request,
-    2: lambda b: (b.number(2, 1, 1024), request(b)),
-    3: lambda b: (b.number(2, 0, 15), b.number(8, 1), b.number(2, 1, 1024), b.take(32), b.take(b.number(1, 0, 72))),
-    4: lambda b: (b.number(2, 0, 15), b.number(8, 1), b.number(2, 1, 1024), b.take(32)),
+    2: lambda b: (b.number(2, 1, 65535), request(b)),
+    3: answer,
+    4: lambda b: (b.number(2, 0, 15), b.number(8, 1), b.number(2, 1, 65535), b.take(32)),
     5: lambda b: None,
     6: history,
     7: slot_of,
@@ -91,15 +110,22 @@ BEHIND = {
     9: slot_of,
     10: lambda b: listed(b, 0, 17, lambda b: (b.number(4), b.take(32))),
     11: lambda b: None,
+    12: lambda b: (b.number(2, 1, 65535), b.take(32)),
+    13: answer,
+    14: lambda b: (b.number(2, 0, 15), b.number(8, 1), b.number(2, 1, 65535), b.take(32)),
+    15: log_and_answers,
 }
+# The codes of what a stopped replica states.
+STOPS = (6, 15)
 
 
 class Content:
     """What a party states, with its bytes."""
 
-    def __init__(self, b, code):
+    def __init__(self, b, *codes):
         start = b.at
-        if b.number(1) != code:
+        code = b.number(1)
+        if code not in codes:
             raise Bad
         self.code, self.maker, self.instance = code, party(b), b.number(4, 1)
         # A view change and a new view name their view before what else they have.
@@ -117,9 +143,9 @@ def signature(b):
     return b.take(length)
 
 
-def signed(code):
+def signed(*codes):
     def read(b):
-        content = Content(b, code)
+        content = Content(b, *codes)
         return content, signature(b)
 
     return read
@@ -158,7 +184,7 @@ def pre_prepare(b):
     content = Content(b, 7)
     b.take(32)
     if content.rest[1] == 0:
-        return listed(b, 0, 7, signed(6))
+        return listed(b, 0, 7, signed(*STOPS))
     request(b)
     b.take(32)
     return []
@@ -167,7 +193,7 @@ def pre_prepare(b):
 def chain(b):
     b.number(4, 1)
     request(b)
-    b.number(2, 1, 1024)
+    b.number(2, 1, 65535)
     b.take(32)
     if b.number(1, 0, 1):
         b.take(b.number(1, 0, 72))
@@ -188,13 +214,17 @@ MESSAGES = {
     3: nothing(lambda b: (Content(b, 3), b.take(32))),
     4: nothing(chain),
     5: nothing(lambda b: (Content(b, 5), b.take(32))),
-    6: lambda b: [signed(6)(b)],
-    7: lambda b: listed(b, 1, 7, signed(6)),
+    6: lambda b: [signed(*STOPS)(b)],
+    7: lambda b: listed(b, 1, 7, signed(*STOPS)),
     8: pre_prepare,
     9: lambda b: [signed(8)(b)],
     10: nothing(lambda b: (Content(b, 9), b.take(32))),
     11: change,
     12: lambda b: (Content(b, 11), b.take(32)) and sum(listed(b, 1, 7, change), []),
+    13: nothing(lambda b: (Content(b, 12), b.take(32))),
+    14: nothing(lambda b: (Content(b, 14), b.take(32))),
+    15: lambda b: [signed(13)(b)],
+    16: nothing(lambda b: (b.number(4, 1), b.number(1, 1, 1), answers(b))),
 }
 
 
@@ -223,7 +253,7 @@ def verifies(key, text, sig):
 def subject(content):
     """Of what a correct replica makes one statement: an order among them, and its words."""
     r, i = content.maker[1], content.instance
-    if content.code == 6:
+    if content.code in STOPS:
         return (r, 0, i), f"accuse r{r} abort {i}"
     view, slot, _ = content.rest
     return (r, 1, i, view, slot), f"accuse r{r} prepare {i} {view} {slot}"
@@ -231,7 +261,7 @@ def subject(content):
 
 def words(content):
     """What a content says."""
-    if content.code == 6:
+    if content.code in STOPS:
         return f"log r{content.maker[1]} {content.instance} " + (",".join(f"c{c}.{s}" for c, s in content.rest) or "-")
     return f"digest {content.rest[2].hex()}"
 
@@ -253,7 +283,7 @@ class Audit:
 
     def hear(self, n, content, sig):
         r = content.maker[1]
-        if content.code not in (6, 8) or r >= len(self.keys):
+        if content.code not in (*STOPS, 8) or r >= len(self.keys):
             return
         tried = (r, content.text, sig)
         if tried not in self.tried:

@@ -4,7 +4,7 @@
 usage: kill.py [--plan P] [--kills N] [--seed S] [--clients N] [--commands N] [--wait W] [--pause T] [--seconds S] [--lms H] [--timed N]
                [--folder F] [--torn N]
 
-Without `--plan` all six plans are tried. Of each plan one cluster after another runs, until N nodes (200) were killed by SIGKILL. A
+Without `--plan` all seven plans are tried. Of each plan one cluster after another runs, until N nodes (200) were killed by SIGKILL. A
 cluster has four replicas and N clients (2), each with so many commands (40), all with journals and traces. Nodes are killed after random
 pauses, T seconds in the middle (0.5): mostly one, sometimes two, sometimes all at once, also while they read their journals. They are
 started again after a further pause. S of `--seed` (1) gives the moments and who is killed, as far as the machine goes along. Once the

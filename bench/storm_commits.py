@@ -1,5 +1,5 @@
 #!/usr/bin/env python3
-"""Replays storms of all six plans, and checks their commits.
+"""Replays storms of all seven plans, and checks their commits.
 
 usage: storm_commits.py [--seconds S] [--events E] [--seed N] [--no-summary]
 
@@ -21,7 +21,7 @@ from storms import drawn, parser_of_storms
 
 WRITER = path_of("storm_schedule")
 LIMIT = 7
-KINDS = {"azyzzyva": ("zlight", "backup"), "aliph": ("quorum", "chain", "backup")}
+KINDS = {"azyzzyva": ("zlight", "backup"), "zcert": ("zcert", "backup"), "aliph": ("quorum", "chain", "backup")}
 MOST_KEYS = 65536
 
 

@@ -1,5 +1,5 @@
 #!/usr/bin/env python3
-"""Runs storms of all six plans, and looks at each summary.
+"""Runs storms of all seven plans, and looks at each summary.
 
 usage: storms.py [--seconds S] [--events E] [--seed N] [--once]
 
@@ -14,7 +14,7 @@ import time
 
 from programs import need, parser_of, ran
 
-PLANS = ("quorum", "zlight", "chain", "backup", "azyzzyva", "aliph")
+PLANS = ("quorum", "zlight", "chain", "zcert", "backup", "azyzzyva", "aliph")
 
 
 def parser_of_storms(doc):
