@@ -184,6 +184,10 @@ front_whole cs is q k e lt =
 pub no_more : (cs : List Chunk) (is : IsChained cs) (k : ℕ) → length cs ≤ k / 64 → length (entries_of cs) ≤ k
 no_more cs is k le = omega (arith, at_most cs is.small, in_chunks k)
 
+-- as many entries as there are need no more chunks than there are
+pub some_more : (cs : List Chunk) (is : IsChained cs) (k : ℕ) → k ≤ length (entries_of cs) → k / 64 ≤ length cs
+some_more cs is k le = omega (arith, at_most cs is.small, in_chunks k)
+
 module _ (cs : List Chunk) (is : IsChained cs) (q : ℕ) (c : Chunk) (at : slice_get cs q ≡ Some c) where
   -- chunk q cut
   pub cut-chained : (r : ℕ) → IsChained (take q cs ++ front r c ∷ [])

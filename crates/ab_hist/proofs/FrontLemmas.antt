@@ -11,7 +11,7 @@ use Rattle.ab_hist.proofs.ChunkLemmas.{chunk_room, chunk_within, entries-end, fr
 pub no_longer : (xs ys : List Request) → length ys < length xs → take (length xs) ys ≡ xs → ⊥
 no_longer xs ys short is = omega (arith, ap length is, length-take (length xs) ys)
 
-chunks_more : (cs : List Chunk) (n : ℕ) (c : Chunk) → slice_get cs n ≡ Some c → take (n + 1) cs ≡ take n cs ++ c ∷ []
+pub chunks_more : (cs : List Chunk) (n : ℕ) (c : Chunk) → slice_get cs n ≡ Some c → take (n + 1) cs ≡ take n cs ++ c ∷ []
 chunks_more cs n c at =
     take_more cs n c (slice_get_within cs n c at) ∙ ap (λ d. take n cs ++ d ∷ []) (get_or_from_slice_get cs n c c at)
 

@@ -162,6 +162,9 @@ follows_says m e h same_client = grind (arith, nat_tests)
 follows_if : (m e : Request) → Precedes e m → may_follow m e ≡ true
 follows_if m e h = grind (arith, nat_tests)
 
--- the test says what the definition says
+-- the tests say what the definitions say
+pub next-Decides : (h : List Request) (m : Request) → Decides (list_all (may_follow m) h) (IsNext h m)
+next-Decides h m = Decides-by_and (may_follow m) (λ e. Precedes e m) (list_all (may_follow m)) (λ e. (follows_says m e, follows_if m e)) refl (λ _ _. refl) h
+
 pub can_push-Decides : (h : List Request) (m : Request) → Decides (can_push h m) (CanPush h m)
-can_push-Decides h m = Decides-and _ _ (Decides-ltb (length h) 1024) (Decides-by_and (may_follow m) (λ e. Precedes e m) (list_all (may_follow m)) (λ e. (follows_says m e, follows_if m e)) refl (λ _ _. refl) h)
+can_push-Decides h m = Decides-and _ _ (Decides-ltb (length h) 1024) (next-Decides h m)

@@ -2,7 +2,9 @@
 
 ghost use Rattle.std.specs.Prelude.{◌≡◌, ◌-◌, ◌<◌, ◌≤◌, ◌↔◌, [], ◌∷◌, ◌++◌, length, take, slice_get, map, IsTrue, Some, OnOk, OnErr, IfOk, IfSome, IfNone, Contains, vec_len};
 ghost use Rattle.std.specs.Vec.{vec_capacity};
+ghost use Rattle.std.specs.List.{list_all};
 ghost use Rattle.ab_hist.specs.Requests.{key_of};
+ghost use Rattle.ab_hist.specs.Known.{is_no_later};
 ghost use Rattle.ab_hist.specs.Histories.{IsHistory, IsNext, Knows};
 ghost use Rattle.ab_hist.specs.Chunks.{begun, grown, front, digest_from};
 
@@ -118,6 +120,16 @@ impl Entries {
     {
         let stamp = self.index.latest(m.client)?;
         Some(stamp < m.stamp)
+    }
+
+    /// Whether no entry is of m's client and later than `m`.
+    pub(crate) fn is_latest(&self, m: &Request) -> bool
+        ensures { result ≡ list_all (is_no_later m.now) self.now.requests }
+    {
+        match self.index.latest(m.client) {
+            Some(stamp) => stamp <= m.stamp,
+            None => true,
+        }
     }
 
     /// The place whose entry equals `m`.

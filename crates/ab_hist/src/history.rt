@@ -1,9 +1,10 @@
 //! Histories.
 
-ghost use Rattle.std.specs.Prelude.{◌≡◌, ◌-◌, ◌<◌, ◌≤◌, ◌↔◌, [], ◌∷◌, ◌++◌, length, take, slice_get, IsTrue, IsFalse, Some, OnOk, OnErr, IsErrOf, IfOk, IfSome, IfNone, Contains};
+ghost use Rattle.std.specs.Prelude.{◌≡◌, ◌+◌, ◌-◌, ◌<◌, ◌≤◌, ◌↔◌, [], ◌∷◌, ◌++◌, length, take, slice_get, IsTrue, IsFalse, Some, OnOk, OnErr, IsErrOf, IfOk, IfSome, IfNone, Contains};
 ghost use mathlib.Core.List.{IsPrefix};
 ghost use Rattle.ab_hist.specs.Digests.{digest_of};
-ghost use Rattle.ab_hist.specs.Histories.{IsHistory, IsNext, CanPush, place_in, can_push as test_push};
+ghost use Rattle.ab_hist.specs.Histories.{IsHistory, IsNext, CanAdd, CanPush, place_in, can_push as test_push};
+ghost use Rattle.ab_hist.specs.Known.{is_latest as test_latest, known_place as place_known, can_push_after as test_push_after};
 ghost use Rattle.ab_hist.specs.Chunks.{Chunk, IsChained, begun, grown, entries_of};
 
 use crate::part::Part;
@@ -14,7 +15,10 @@ use std::marker::Model;
 use thiserror::Error;
 
 /// How many requests a history may hold.
-const CAPACITY: usize = 1024;
+const CAPACITY: usize = 65535;
+
+/// How many of them may stand behind those that are forgotten.
+const ROOM: usize = 1024;
 
 /// How many of them a chunk holds.
 const CHUNK: usize = 64;
@@ -153,7 +157,7 @@ impl History {
 
     pub fn len(&self) -> usize
         ensures len { result ≡ length self.now }
-        ensures few { result ≤ 1024 }
+        ensures few { result ≤ 65535 }
         ensures history { IsHistory self.now }
     {
         self.len
@@ -192,7 +196,28 @@ impl History {
     fn may_push(&self, m: &Request) -> bool
         ensures { IsTrue result ↔ CanPush self.now m.now }
     {
-        self.len < CAPACITY && self.is_later(m)
+        self.len < ROOM && self.is_later(m)
+    }
+
+    /// Whether `m` may come next, and has room behind the first `n` entries, which are forgotten.
+    pub fn can_push_after(&self, n: usize, m: &Request) -> bool
+        ensures says { IsTrue result → CanAdd self.now m.now }
+        ensures test { result ≡ test_push_after n self.now m.now }
+    {
+        self.may_push_after(n, m)
+    }
+
+    fn may_push_after(&self, n: usize, m: &Request) -> bool
+        ensures { IsTrue result ↔ ((length self.now < n + 1024) × CanAdd self.now m.now) }
+    {
+        self.has_room(n) && self.is_later(m)
+    }
+
+    /// Whether there is room for one more entry, if the first `n` are forgotten.
+    fn has_room(&self, n: usize) -> bool
+        ensures { IsTrue result ↔ ((length self.now < n + 1024) × (length self.now < 65535)) }
+    {
+        self.len < CAPACITY && (self.len < ROOM || self.len - ROOM < n)
     }
 
     /// Whether the stamp of `m` is above the latest one of its client.
@@ -222,6 +247,38 @@ impl History {
         None
     }
 
+    /// The place of `m` if it is known: it stands behind the first `n` entries, which are forgotten, or
+    /// is the last of its client among them.
+    pub fn known_place(&self, n: usize, m: &Request) -> Option<usize>
+        ensures place { result ≡ place_known n self.now m.now }
+        ensures found { IfSome result (λ x. (1 ≤ x) × (slice_get self.now (x - 1) ≡ Some m.now)) }
+    {
+        let place = self.place_of(m)?;
+        if self.is_latest(n, place, m) {
+            Some(place)
+        } else {
+            None
+        }
+    }
+
+    /// Whether none of the first `n` entries is of m's client and later than `m`, which stands at a place.
+    fn is_latest(&self, n: usize, place: usize, m: &Request) -> bool
+        requires { (1 ≤ place) × (slice_get self.now (place - 1) ≡ Some m.now) }
+        ensures { result ≡ test_latest n self.now m.now }
+    {
+        let end = n.min(self.len);
+        if end < place {
+            return true;
+        }
+        let whole = end / CHUNK;
+        'chunks: for k in (place - 1) / CHUNK..whole {
+            if !self.parts[k].is_latest(CHUNK, m) {
+                return false;
+            }
+        }
+        whole == self.parts.len() || self.parts[whole].is_latest(end % CHUNK, m)
+    }
+
     /// Whether `h` begins with these entries.
     pub fn is_prefix_of(&self, h: &History) -> bool
         ensures front { IsTrue result ↔ (take (length self.now) h.now ≡ self.now) }
@@ -247,9 +304,9 @@ impl History {
 
     /// Adds an entry.
     pub fn push(&mut self, alloc: Global, m: Request) -> Result<(), PushFault>
-        ensures ok { OnOk result (CanPush self.old m × (self.new ≡ self.old ++ m ∷ [])) }
-        ensures full { IsErrOf result PushFault.Full ↔ (1024 ≤ length self.old) }
-        ensures repeat { IsErrOf result PushFault.Repeat ↔ ((length self.old < 1024) × (IsNext self.old m → ⊥)) }
+        ensures ok { OnOk result (CanAdd self.old m × (self.new ≡ self.old ++ m ∷ [])) }
+        ensures full { IsErrOf result PushFault.Full ↔ (65535 ≤ length self.old) }
+        ensures repeat { IsErrOf result PushFault.Repeat ↔ ((length self.old < 65535) × (IsNext self.old m → ⊥)) }
         ensures err { OnErr result (self.new ≡ self.old) }
     {
         if self.len >= CAPACITY {

@@ -2,7 +2,7 @@
 use Rattle.std.proofs.Common.{◌≡◌, ℕ, ◌+◌, ◌<◌, ◌≤◌, Bool, true, false, Option, Some, None, List, [], ◌∷◌, length, arith, refl, sym, ap, ◌∙◌, subst, inl, inr}
 use Rattle.std.specs.Prelude.{Contains, ◌&&◌, nat_le, if◌then◌else◌}
 use Rattle.std.proofs.lemmas.Bool.{cases_lt, le-leb}
-use Rattle.ab_trim.specs.Trimmed.{Trimmed, digest_at, Holds, holds, cut}
+use Rattle.ab_hist.specs.Trimmed.{Trimmed, digest_at, Holds, holds, cut}
 use Rattle.ab_trim.specs.Points.{IsLastPoint, fewer, least_holder, IsAgreedList}
 use Rattle.ab_trim.proofs.Chains.{Contains-head, Contains-tail, Contains-cons_cases}
 use Rattle.ab_trim.proofs.Stands.{holds-Decides}

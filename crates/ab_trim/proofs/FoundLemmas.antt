@@ -5,7 +5,7 @@ use Rattle.std.proofs.lemmas.Bool.{cases_lt, leb-true}
 use Rattle.std.specs.Option.{option_map}
 use Rattle.std.proofs.lemmas.List.{drop_more}
 use Rattle.std.proofs.lemmas.Option.{slice_get_read, slice_get-map, slice_get_within, get_or_from_slice_get}
-use Rattle.ab_trim.specs.Trimmed.{Trimmed, end_of, digest_at, Holds, cut}
+use Rattle.ab_hist.specs.Trimmed.{Trimmed, end_of, digest_at, Holds, cut}
 use Rattle.ab_trim.specs.Points.{point_holders, IsLastPoint, IsAgreedList, IsLastOf, IsWithin, later_of, fewer, least_holder, lists_in}
 use Rattle.ab_trim.specs.Logs.{TrimmedLog}
 use Rattle.ab_trim.proofs.Agreed.{least_is, least_there}

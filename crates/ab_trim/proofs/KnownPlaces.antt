@@ -13,8 +13,9 @@ use Rattle.ab_hist.specs.Requests.{request_eq}
 use Rattle.ab_hist.specs.Histories.{IsHistory, Precedes, may_follow, place_in, can_push}
 use Rattle.ab_hist.proofs.RequestLemmas.{request_eq-Decides, place_in-none}
 use Rattle.ab_hist.proofs.KeptLemmas.{history-take}
-use Rattle.ab_trim.specs.Trimmed.{digest_at}
-use Rattle.ab_trim.specs.Known.{known_place, can_push_after, Last, last_from, last_of, Log, IsLogOf, place_of_last, place_behind, place_by, follows_last, can_push_by, forget_log}
+use Rattle.ab_hist.specs.Trimmed.{digest_at}
+use Rattle.ab_hist.specs.Known.{is_no_later, known_place, can_push_after}
+use Rattle.ab_trim.specs.Known.{Last, last_from, last_of, Log, IsLogOf, place_of_last, place_behind, place_by, follows_last, can_push_by, forget_log}
 use Rattle.ab_trim.proofs.Chains.{Contains-head, Contains-tail, Contains-cons_cases}
 use Rattle.ab_trim.proofs.Stands.{ends, digests, forgets, front_split}
 
@@ -130,22 +131,19 @@ before (x ∷ p) r e m history has there =
     any_get (y ∷ xs) zero d e lt = refl
     any_get (y ∷ xs) (suc k) d e lt = any_get xs k d e (omega arith)
 
-abbrev later_test : Request → Request → Bool
-later_test m e = not (nat_eq e.client m.client) || nat_le e.stamp m.stamp
-
-other_client : (m e : Request) → nat_eq e.client m.client ≡ false → later_test m e ≡ true
+other_client : (m e : Request) → nat_eq e.client m.client ≡ false → is_no_later m e ≡ true
 other_client m e is = ap (λ b. not b || nat_le e.stamp m.stamp) is
 
-precedes_passes : (m e : Request) → Precedes e m → later_test m e ≡ true
+precedes_passes : (m e : Request) → Precedes e m → is_no_later m e ≡ true
 precedes_passes m e p = grind (arith, nat_tests)
 
-itself_passes : (m : Request) → later_test m m ≡ true
+itself_passes : (m : Request) → is_no_later m m ≡ true
 itself_passes m = grind (arith, nat_tests)
 
 same_client : (m e : Request) → nat_eq e.client m.client ≡ true → e.client ≡ m.client
 same_client m e is = grind (arith, nat_tests)
 
-not_above : (m x : Request) → nat_eq x.client m.client ≡ true → later_test m x ≡ true → x.stamp ≤ m.stamp
+not_above : (m x : Request) → nat_eq x.client m.client ≡ true → is_no_later m x ≡ true → x.stamp ≤ m.stamp
 not_above m x same passes = grind (arith, nat_tests)
 
 differ : (x m : Request) → nat_eq x.client m.client ≡ false → request_eq x m ≡ false
@@ -154,14 +152,14 @@ differ x m is = ap (λ b. b && (nat_eq x.stamp m.stamp && pointwise nat_eq x.com
 -- ---- the last of a client is the one that is known
 
 abbrev KnownHere : List Request → Request → Type 0
-KnownHere p m = place_of_last (last_of p m.client) m ≡ (if list_all (later_test m) p then place_in p m else None)
+KnownHere p m = place_of_last (last_of p m.client) m ≡ (if list_all (is_no_later m) p then place_in p m else None)
 
 module _ (m : Request) where
   at_push : (q : List Request) (x : Request) → place_in (q ++ x ∷ []) m ≡ first_place (place_in q m) (option_map (λ k. length q + k) (if request_eq x m then Some 1 else None))
   at_push q x = place-append q (x ∷ []) m
 
-  tests_push : (q : List Request) (x : Request) → list_all (later_test m) (q ++ x ∷ []) ≡ (list_all (later_test m) q && later_test m x)
-  tests_push q x = all-append (later_test m) q (x ∷ []) ∙ ap (λ b. list_all (later_test m) q && b) (and-true (later_test m x))
+  tests_push : (q : List Request) (x : Request) → list_all (is_no_later m) (q ++ x ∷ []) ≡ (list_all (is_no_later m) q && is_no_later m x)
+  tests_push q x = all-append (is_no_later m) q (x ∷ []) ∙ ap (λ b. list_all (is_no_later m) q && b) (and-true (is_no_later m x))
 
   first_none : (o : Option ℕ) → first_place o None ≡ o
   first_none None = refl
@@ -177,7 +175,7 @@ module _ (m : Request) where
       by_client false other =
           ap (λ o. place_of_last o m) (last_push m.client q x ∙ ap (λ b. if b then Some (record { place = length q + 1; request = x }) else last_of q m.client) other)
           ∙ (was
-          ∙ λ i. if sym (tests_push q x ∙ (ap (λ b. list_all (later_test m) q && b) (other_client m x other) ∙ and-true (list_all (later_test m) q))) i
+          ∙ λ i. if sym (tests_push q x ∙ (ap (λ b. list_all (is_no_later m) q && b) (other_client m x other) ∙ and-true (list_all (is_no_later m) q))) i
           then sym (at_push q x ∙ (ap (λ b. first_place (place_in q m) (option_map (λ k. length q + k) (if b then Some 1 else None))) (differ x m other) ∙ first_none (place_in q m))) i
           else None)
       by_client true same = by_request (request_eq x m) refl
@@ -185,10 +183,10 @@ module _ (m : Request) where
           here : last_of (q ++ x ∷ []) m.client ≡ Some (record { place = length q + 1; request = x })
           here = last_push m.client q x ∙ ap (λ b. if b then Some (record { place = length q + 1; request = x }) else last_of q m.client) same
 
-          by_tests : (b : Bool) → request_eq x m ≡ false → list_all (later_test m) (q ++ x ∷ []) ≡ b → None ≡ (if list_all (later_test m) (q ++ x ∷ []) then place_in (q ++ x ∷ []) m else None)
+          by_tests : (b : Bool) → request_eq x m ≡ false → list_all (is_no_later m) (q ++ x ∷ []) ≡ b → None ≡ (if list_all (is_no_later m) (q ++ x ∷ []) then place_in (q ++ x ∷ []) m else None)
           by_tests false other tests = sym (ap (λ b. if b then place_in (q ++ x ∷ []) m else None) tests)
           by_tests true other tests =
-              let low : x.stamp ≤ m.stamp = not_above m x same (all_true (later_test m) (q ++ x ∷ []) x tests (Contains-append_right q (x ∷ []) x (Contains-head x []))) in
+              let low : x.stamp ≤ m.stamp = not_above m x same (all_true (is_no_later m) (q ++ x ∷ []) x tests (Contains-append_right q (x ∷ []) x (Contains-head x []))) in
               let absent : Contains (q ++ x ∷ []) m → ⊥ =
               λ has.
               elim (Contains-append_cases q (x ∷ []) m has) [
@@ -203,12 +201,12 @@ module _ (m : Request) where
 
           by_request : (b : Bool) → request_eq x m ≡ b → KnownHere (q ++ x ∷ []) m
           by_request false other =
-              ap (λ o. place_of_last o m) here ∙ (ap (λ b. if b then Some (length q + 1) else None) other ∙ by_tests (list_all (later_test m) (q ++ x ∷ [])) other refl)
+              ap (λ o. place_of_last o m) here ∙ (ap (λ b. if b then Some (length q + 1) else None) other ∙ by_tests (list_all (is_no_later m) (q ++ x ∷ [])) other refl)
           by_request true equal =
               let e : x ≡ m = (request_eq-Decides x m).0 equal in
-              let tests : list_all (later_test m) (q ++ x ∷ []) ≡ true =
-              tests_push q x ∙ (λ i. all_from (later_test m) q (λ y has. precedes_passes m y (subst (λ (z : Request). Precedes y z) e (before q (x ∷ []) y x history has (Contains-head x [])))) i
-              && (ap (later_test m) e ∙ itself_passes m) i)
+              let tests : list_all (is_no_later m) (q ++ x ∷ []) ≡ true =
+              tests_push q x ∙ (λ i. all_from (is_no_later m) q (λ y has. precedes_passes m y (subst (λ (z : Request). Precedes y z) e (before q (x ∷ []) y x history has (Contains-head x [])))) i
+              && (ap (is_no_later m) e ∙ itself_passes m) i)
               in
               let early : place_in q m ≡ None = place_in-none q m (λ has. let p = before q (x ∷ []) m x history has (Contains-head x []) in omega (arith, p (ap (λ (z : Request). z.client) (sym e)), ap (λ (z : Request). z.stamp) e)) in
               let at : place_in (q ++ x ∷ []) m ≡ Some (length q + 1) =
@@ -267,7 +265,7 @@ module _ (m : Request) where
   all_along : (P : List Request → Type 0) → P [] → ((q : List Request) (x : Request) → IsHistory (q ++ x ∷ []) → P q → P (q ++ x ∷ [])) → (h : List Request) → IsHistory h → P h
   all_along P none step h history = subst P (take_all (length h) h (omega arith)) (along P none step h history (length h) (omega arith))
 
-  known_last : (p : List Request) → IsHistory p → place_of_last (last_of p m.client) m ≡ (if list_all (later_test m) p then place_in p m else None)
+  known_last : (p : List Request) → IsHistory p → place_of_last (last_of p m.client) m ≡ (if list_all (is_no_later m) p then place_in p m else None)
   known_last p history = all_along (λ q. KnownHere q m) refl known_step p history
 
   follows_all : (p : List Request) → IsHistory p → follows_last (last_of p m.client) m ≡ list_all (may_follow m) p
@@ -295,10 +293,10 @@ module _ (m : Request) where
     place_with None at =
         ap (λ k. place_of_last k m) (is.lasts m.client)
         ∙ (known_last old (front_history l.list.start h history)
-        ∙ ap (λ o. if list_all (later_test m) old then o else None) (sym (ap (λ k. place_in k m) (sym split) ∙ (place-append old new m ∙ (ap (λ o. first_place (place_in old m) (option_map (λ x. length old + x) o)) at ∙ first_none (place_in old m))))))
+        ∙ ap (λ o. if list_all (is_no_later m) old then o else None) (sym (ap (λ k. place_in k m) (sym split) ∙ (place-append old new m ∙ (ap (λ o. first_place (place_in old m) (option_map (λ x. length old + x) o)) at ∙ first_none (place_in old m))))))
     place_with (Some y) at =
         let there = placed new m y at in
-        let tests : list_all (later_test m) old ≡ true = all_from (later_test m) old (λ e has. precedes_passes m e (before old new e m joined has there)) in
+        let tests : list_all (is_no_later m) old ≡ true = all_from (is_no_later m) old (λ e has. precedes_passes m e (before old new e m joined has there)) in
         let early : place_in old m ≡ None = place_in-none old m (λ has. let p = before old new m m joined has there in omega (arith, p refl)) in
         sym (ap (λ b. if b then place_in h m else None) tests
         ∙ (ap (λ k. place_in k m) (sym split) ∙ (place-append old new m ∙ (λ i. first_place (early i) (option_map (λ x. long i + x) (at i))))))
@@ -338,34 +336,22 @@ module _ (m : Request) where
 pub all_known : (h : List Request) (m : Request) → known_place 0 h m ≡ place_in h m
 all_known h m = refl
 
-pub same_push : (h : List Request) (m : Request) → can_push_after 0 h m ≡ can_push h m
-same_push h m = by_room (nat_lt (length h) 1024) refl
-  where
-    by_room : (b : Bool) → nat_lt (length h) 1024 ≡ b → can_push_after 0 h m ≡ can_push h m
-    by_room true is =
-        let wide : nat_lt (length h) (0 + 1024) ≡ true = grind (arith, nat_tests, is) in
-        let wider : nat_lt (length h) 65535 ≡ true = grind (arith, nat_tests, is) in
-        (λ i. wide i && (wider i && list_all (may_follow m) h)) ∙ sym (ap (λ b. b && list_all (may_follow m) h) is)
-    by_room false is =
-        let full : nat_lt (length h) (0 + 1024) ≡ false = grind (arith, nat_tests, is) in
-        ap (λ b. b && (nat_lt (length h) 65535 && list_all (may_follow m) h)) full ∙ sym (ap (λ b. b && list_all (may_follow m) h) is)
-
 -- two logs of one history
 module _ (m : Request) (n : ℕ) (l k : Log) (h : List Request) (l_is : IsLogOf l h) (k_is : IsLogOf k h) (history : IsHistory h) (le : k.list.start ≤ l.list.start) where
-  fewer_tests : list_all (later_test m) (take l.list.start h) ≡ true → list_all (later_test m) (take k.list.start h) ≡ true
+  fewer_tests : list_all (is_no_later m) (take l.list.start h) ≡ true → list_all (is_no_later m) (take k.list.start h) ≡ true
   fewer_tests is =
       let front = take k.list.start h in
       let more = take (l.list.start - k.list.start) (drop k.list.start h) in
-      (and_parts (list_all (later_test m) front) (list_all (later_test m) more) (sym (all-append (later_test m) front more) ∙ (ap (list_all (later_test m)) (sym (front_split k.list.start l.list.start h le)) ∙ is))).0
+      (and_parts (list_all (is_no_later m) front) (list_all (is_no_later m) more) (sym (all-append (is_no_later m) front more) ∙ (ap (list_all (is_no_later m)) (sym (front_split k.list.start l.list.start h le)) ∙ is))).0
 
-  known_with : (b : Bool) → list_all (later_test m) (take l.list.start h) ≡ b → (if list_all (later_test m) (take l.list.start h) then place_in h m else None) ≡ Some n → place_by k m ≡ Some n
+  known_with : (b : Bool) → list_all (is_no_later m) (take l.list.start h) ≡ b → (if list_all (is_no_later m) (take l.list.start h) then place_in h m else None) ≡ Some n → place_by k m ≡ Some n
   known_with true is at =
       places_agree m k h k_is history
       ∙ (ap (λ b. if b then place_in h m else None) (fewer_tests is) ∙ (sym (ap (λ b. if b then place_in h m else None) is) ∙ at))
   known_with false is at = absurd (let two : None ≡ Some n = sym (ap (λ b. if b then place_in h m else None) is) ∙ at in cc (two))
 
   pub known_by_less : place_by l m ≡ Some n → place_by k m ≡ Some n
-  known_by_less at = known_with (list_all (later_test m) (take l.list.start h)) refl (sym (places_agree m l h l_is history) ∙ at)
+  known_by_less at = known_with (list_all (is_no_later m) (take l.list.start h)) refl (sym (places_agree m l h l_is history) ∙ at)
 
 pub same_digests : (n : ℕ) (l k : Log) (h : List Request) → IsLogOf l h → IsLogOf k h → l.list.start ≤ n → k.list.start ≤ n → digest_at l.list n ≡ digest_at k.list n
 same_digests n l k h l_is k_is above also = digests l.list h l_is.stands n above ∙ sym (digests k.list h k_is.stands n also)

@@ -11,5 +11,4 @@ pub mod RestLemmas
 pub mod LastLemmas
 pub mod TrimmedLemmas
 pub mod FoundLemmas
-pub mod SpellingLemmas
 pub mod OwnedLemmas

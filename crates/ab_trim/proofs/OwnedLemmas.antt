@@ -5,12 +5,11 @@ use Rattle.std.proofs.lemmas.Bool.{lt-ltb}
 use Rattle.std.proofs.lemmas.List.{length-append, get_or-append-add}
 use Rattle.ab_hist.specs.declared.request.Request.{Request}
 use Rattle.ab_hist.specs.Histories.{may_follow}
-use Rattle.ab_msg.specs.Fields.{IsRequest}
+use Rattle.ab_msg.specs.Fields.{IsRequest, IsSpellable}
 use Rattle.ab_content.proofs.OwnLemmas.{may-follow}
-use Rattle.ab_trim.specs.Trimmed.{Trimmed, end_of}
+use Rattle.ab_hist.specs.Trimmed.{Trimmed, end_of}
 use Rattle.ab_trim.specs.Known.{can_push_by, follows_last}
 use Rattle.ab_trim.specs.Logs.{TrimmedLog, as_last, last_at, log_of, no_lasts, push_log}
-use Rattle.ab_trim.specs.Spellings.{IsSpellable}
 use Rattle.ab_trim.proofs.RestLemmas.{all_follow-Decides}
 use Rattle.ab_trim.proofs.LastLemmas.{none_at}
 

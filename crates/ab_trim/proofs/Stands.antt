@@ -8,7 +8,7 @@ use Rattle.std.proofs.lemmas.List.{take-append-drop, length-take, length-drop, t
 use Rattle.std.proofs.Math.Seq.{drop-append_seam}
 use Rattle.ab_hist.specs.declared.request.Request.{Request}
 use Rattle.ab_hist.specs.Digests.{digest_of}
-use Rattle.ab_trim.specs.Trimmed.{Trimmed, untrimmed, trim, StandsFor, end_of, linked_from, digest_at, Holds, holds, forget, cut, push, whole_by, grounded}
+use Rattle.ab_hist.specs.Trimmed.{Trimmed, untrimmed, trim, StandsFor, end_of, linked_from, digest_at, Holds, holds, forget, cut, push, whole_by, grounded}
 use Rattle.ab_trim.specs.Links.{links_from, links_of, AreApart}
 use Rattle.ab_trim.proofs.Chains.{digest_is, digest-append, linked-append, nothing, AreAmong, among-front, among-back, walk_back, same_history}
 

@@ -2,7 +2,7 @@
 use Rattle.std.proofs.Common.{◌≡◌, ℕ, zero, suc, ◌+◌, ◌≤◌, List, [], ◌∷◌, ◌⊎◌, arith, refl, sym, subst, inl, inr}
 use Rattle.std.specs.Prelude.{Contains}
 use Rattle.std.proofs.lemmas.Bool.{cases_lt}
-use Rattle.ab_trim.specs.Trimmed.{Trimmed, end_of, digest_at, Holds, holds, cut}
+use Rattle.ab_hist.specs.Trimmed.{Trimmed, end_of, digest_at, Holds, holds, cut}
 use Rattle.ab_trim.specs.Points.{point_holders, IsLastPoint, IsAgreedList}
 use Rattle.ab_trim.proofs.Chains.{Contains-cons_cases}
 use Rattle.ab_trim.proofs.Stands.{holds-Decides}

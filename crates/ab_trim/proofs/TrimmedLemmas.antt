@@ -9,7 +9,7 @@ use Rattle.ab_hist.proofs.KeptLemmas.{history-take}
 use Rattle.ab_hist.specs.declared.request.Request.{Request}
 use Rattle.ab_hist.specs.Histories.{IsNext, Precedes}
 use Rattle.ab_hist.specs.Chunks.{Chunk, grown, front}
-use Rattle.ab_trim.specs.Trimmed.{Trimmed, end_of}
+use Rattle.ab_hist.specs.Trimmed.{Trimmed, end_of}
 use Rattle.ab_trim.specs.Known.{forget_log}
 use Rattle.ab_trim.specs.Chained.{behind}
 use Rattle.ab_trim.specs.Logs.{TrimmedLog, IsTrimmed, IsFull, log_of, noted, padded, trim_log}

@@ -1,26 +1,10 @@
--- Requests that a log still knows.
-use Rattle.std.specs.Prelude.{◌≡◌, ℕ, ◌+◌, ◌-◌, Bool, true, not, ◌||◌, ◌&&◌, nat_eq, nat_le, nat_lt, if◌then◌else◌, Option, None, Some, List, [], ◌∷◌, length, take, drop}
+-- Requests that a log still knows, as it is kept.
+use Rattle.std.specs.Prelude.{◌≡◌, ℕ, ◌+◌, ◌-◌, Bool, true, ◌&&◌, nat_eq, nat_lt, if◌then◌else◌, Option, None, Some, List, [], ◌∷◌, length, take, drop}
 use Rattle.std.specs.List.{list_all}
 use Rattle.ab_hist.specs.declared.request.Request.{Request}
 use Rattle.ab_hist.specs.Requests.{request_eq}
 use Rattle.ab_hist.specs.Histories.{may_follow, place_in}
-use Rattle.ab_trim.specs.Trimmed.{Trimmed, StandsFor, end_of, digest_at}
-
--- ---- of a whole history, whose first n entries are forgotten
-
--- none of the first n entries is of m's client and later than m
-abbrev pub is_latest : ℕ → List Request → Request → Bool
-is_latest n h m = list_all (λ e. not (nat_eq e.client m.client) || nat_le e.stamp m.stamp) (take n h)
-
--- the place of a request that is known: it stands behind the first n, or is the last of its client among them
-abbrev pub known_place : ℕ → List Request → Request → Option ℕ
-known_place n h m = if is_latest n h m then place_in h m else None
-
--- there is room for m behind the forgotten entries, and m may come next
-abbrev pub can_push_after : ℕ → List Request → Request → Bool
-can_push_after n h m = nat_lt (length h) (n + 1024) && (nat_lt (length h) 65535 && list_all (may_follow m) h)
-
--- ---- of a log as it is kept
+use Rattle.ab_hist.specs.Trimmed.{Trimmed, StandsFor, end_of, digest_at}
 
 -- a client's last request among the forgotten entries, with its place
 pub record Last : Type 0 where

@@ -1,8 +1,6 @@
 -- Lists that have forgotten their first entries.
-pub mod Trimmed
 pub mod Links
 pub mod Points
 pub mod Known
 pub mod Chained
 pub mod Logs
-pub mod Spellings

@@ -4,7 +4,7 @@ use Rattle.std.specs.List.{list_all}
 use Rattle.ab_hist.specs.declared.request.Request.{Request}
 use Rattle.ab_hist.specs.Histories.{IsHistory, may_follow}
 use Rattle.ab_hist.specs.Chunks.{Chunk}
-use Rattle.ab_trim.specs.Trimmed.{Trimmed, end_of, forget, cut, push, grounded}
+use Rattle.ab_hist.specs.Trimmed.{Trimmed, end_of, forget, cut, push, grounded}
 use Rattle.ab_trim.specs.Known.{Log, Last, follows_last}
 
 -- a list, and for each client the last of its requests that the list has forgotten, with its place

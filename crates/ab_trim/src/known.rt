@@ -3,8 +3,9 @@
 ghost use Rattle.std.specs.Prelude.{◌≡◌, ℕ, ◌≤◌, false, None, Some, List, Contains, length};
 ghost use Rattle.ab_hist.specs.declared.request.Request.{Request};
 ghost use Rattle.ab_hist.specs.Histories.{IsHistory, place_in, can_push};
-ghost use Rattle.ab_trim.specs.Trimmed.{digest_at};
-ghost use Rattle.ab_trim.specs.Known.{Log, IsLogOf, known_place, can_push_after, place_by, can_push_by, forget_log};
+ghost use Rattle.ab_hist.specs.Trimmed.{digest_at};
+ghost use Rattle.ab_hist.specs.Known.{known_place, can_push_after};
+ghost use Rattle.ab_trim.specs.Known.{Log, IsLogOf, place_by, can_push_by, forget_log};
 
 /// A log finds the requests that are known at their places in the whole history, and may be given
 /// those that may come next there; and a log that forgets more is still that of its history.

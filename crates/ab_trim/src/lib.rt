@@ -3,19 +3,17 @@
 
 mod agreeing;
 mod chain;
-mod formats;
 mod head;
 mod known;
 mod lasts;
 mod lists;
+mod owning;
 mod points;
 mod rest;
 mod trimmed;
-mod trimmed_ref;
 mod writing;
 
 pub use agreeing::agreed_list;
-pub use formats::{histories_forget_nothing, trimmed_lists_are_formats, whole_lists_are_histories};
 pub use known::{
     logs_of_one_history_agree, nothing_forgotten_all_known, requests_are_known,
     unknown_requests_stay_out,
@@ -23,7 +21,7 @@ pub use known::{
 pub use lists::{
     grounded_lists_are_whole, links_are_histories, lists_stand_for_one_history, lists_stay,
 };
+pub use owning::own_trimmed;
 pub use points::{agreed_lists_are_one, agreed_lists_are_there};
 pub use trimmed::Trimmed;
-pub use trimmed_ref::{TrimmedRef, trimmed_at};
 pub use writing::put_trimmed;

@@ -3,7 +3,7 @@
 ghost use Rattle.std.specs.Prelude.{◌≡◌, ℕ, ◌≤◌, ◌↔◌, Some, List, [], ◌∷◌, ◌++◌, Contains, length, take};
 ghost use Rattle.ab_hist.specs.declared.request.Request.{Request};
 ghost use Rattle.ab_hist.specs.Digests.{NoCollision, digest_of};
-ghost use Rattle.ab_trim.specs.Trimmed.{Trimmed, StandsFor, Holds, forget, cut, push, whole_by, grounded, untrimmed, trim};
+ghost use Rattle.ab_hist.specs.Trimmed.{Trimmed, StandsFor, Holds, forget, cut, push, whole_by, grounded, untrimmed, trim};
 ghost use Rattle.ab_trim.specs.Links.{AreApart, IsAmong, links_of_all};
 
 /// Of whole histories, the digests of different beginnings are different exactly if the results

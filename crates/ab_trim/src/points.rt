@@ -1,7 +1,7 @@
 //! What enough lists agree on.
 
 ghost use Rattle.std.specs.Prelude.{◌≡◌, ℕ, ◌+◌, ◌<◌, ◌≤◌, List, length};
-ghost use Rattle.ab_trim.specs.Trimmed.{Trimmed};
+ghost use Rattle.ab_hist.specs.Trimmed.{Trimmed};
 ghost use Rattle.ab_trim.specs.Points.{IsLastPoint, IsAgreedList, point_holders};
 
 /// If q is above half the number of lists, they agree on one point, and on one list.

@@ -1,7 +1,7 @@
 //! Lists that have forgotten their first entries.
 
 ghost use Rattle.std.specs.Prelude.{◌≡◌, ◌-◌, ◌<◌, ◌≤◌, ◌↔◌, true, false, replicate, slice_get, IsTrue, Some, IsErrOf, OnOk, OnErr, IfOk};
-ghost use Rattle.ab_trim.specs.Trimmed.{end_of, forget, cut, digest_at as digest_of_front, holds as test_point};
+ghost use Rattle.ab_hist.specs.Trimmed.{end_of, forget, cut, digest_at as digest_of_front, holds as test_point};
 ghost use Rattle.ab_trim.specs.Known.{place_by, can_push_by, forget_log};
 ghost use Rattle.ab_trim.specs.Logs.{IsFull, follows_by, log_of, begun_log, push_log, cut_log, trim_log, lasts_to, grounded_log, no_lasts as without};
 

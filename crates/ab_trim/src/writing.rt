@@ -1,14 +1,12 @@
 //! Lists as their bytes.
 
 ghost use Rattle.std.specs.Prelude.{◌≡◌, ◌++◌, OnOk};
-ghost use Rattle.ab_msg.specs.Fields.{spell_history};
-ghost use Rattle.ab_trim.specs.Spellings.{spell_trimmed};
+ghost use Rattle.ab_msg.specs.Fields.{spell_history, spell_trimmed};
 
 use crate::trimmed::Trimmed;
-use crate::trimmed_ref::FORGOT;
-use ab_form::{put_bytes, put_u16};
+use ab_form::put_u16;
 use ab_num::OutOfMemory;
-use ab_write::Spelled;
+use ab_write::{Spelled, put_front};
 use std::alloc::Global;
 
 /// Adds a list, without the last requests that it knows.
@@ -16,9 +14,7 @@ pub fn put_trimmed(alloc: Global, out: &mut Vec<u8>, list: &Trimmed) -> Result<(
     ensures { OnOk result (out.new.items ≡ out.old.items ++ spell_trimmed list.now.list) }
 {
     if list.start() > 0 {
-        put_u16(alloc, out, FORGOT)?;
-        put_u16(alloc, out, list.start() as u16)?;
-        put_bytes(alloc, out, &list.digest())?;
+        put_front(alloc, out, list.start() as u16, &list.digest())?;
     }
     put_rest(alloc, out, list)
 }

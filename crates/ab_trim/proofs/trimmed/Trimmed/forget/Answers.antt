@@ -1,5 +1,5 @@
 use Rattle.std.proofs.Common.{◌+◌, ◌≤◌, length, arith, ap, sym, ◌∙◌}
-use Rattle.ab_trim.specs.Trimmed.{end_of}
+use Rattle.ab_hist.specs.Trimmed.{end_of}
 use Rattle.ab_trim.specs.Known.{forget_log}
 use Rattle.ab_trim.specs.Logs.{log_of, trim_log}
 use Rattle.ab_trim.proofs.TrimmedLemmas.{forgot_trimmed, forgot_lasts, forgot_log}

@@ -2,7 +2,7 @@ use Rattle.std.proofs.Common.{◌≡◌, true, length, arith, ap, sym, ◌∙◌
 use Rattle.std.specs.List.{list_all}
 use Rattle.std.proofs.lemmas.Bool.{and_parts}
 use Rattle.ab_hist.specs.Histories.{IsNext, may_follow}
-use Rattle.ab_trim.specs.Trimmed.{end_of}
+use Rattle.ab_hist.specs.Trimmed.{end_of}
 use Rattle.ab_trim.specs.Known.{follows_last}
 use Rattle.ab_trim.specs.Logs.{last_at, follows_by}
 use Rattle.ab_trim.proofs.RestLemmas.{all_follow-Decides}

@@ -1,5 +1,5 @@
 use Rattle.std.proofs.Common.{◌≡◌, ◌+◌, ◌-◌, ◌≤◌, length, take, arith, ap, ◌∙◌}
-use Rattle.ab_trim.specs.Trimmed.{end_of, forget}
+use Rattle.ab_hist.specs.Trimmed.{end_of, forget}
 use Rattle.ab_trim.specs.Chained.{behind}
 use Rattle.ab_trim.specs.Logs.{padded, noted, lasts_to}
 use Rattle.ab_trim.proofs.LastLemmas.{length-noted, padded-length, padded-whole}
