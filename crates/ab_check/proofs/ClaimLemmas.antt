@@ -4,7 +4,7 @@ use Rattle.std.specs.Prelude.{flat_map}
 use Rattle.std.proofs.lemmas.List.{map-append}
 use Rattle.ab_num.specs.declared.party.Party.{Party}
 use Rattle.ab_msg.specs.declared.content.Content.{Content}
-use Rattle.ab_msg.specs.declared.content.Content.TheVariants.{Req, Order, Resp, ChainTag, Panic, Abort, PrePrepare, Prepare, Commit, ViewChange, NewView, Checkpoint, Spec, LocalCommit, AbortZ}
+use Rattle.ab_msg.specs.declared.content.Content.TheVariants.{Req, Order, Resp, ChainTag, Panic, Abort, PrePrepare, Prepare, Commit, ViewChange, NewView, Checkpoint, Spec, LocalCommit, AbortZ, TrimmedAbort}
 use Rattle.ab_msg.specs.declared.signed.Signed.{Signed}
 use Rattle.ab_msg.specs.declared.zcert.Zcert.{Zcert}
 use Rattle.ab_msg.specs.declared.change.Proof.{Proof}
@@ -70,6 +70,7 @@ prepared-claims (Checkpoint maker i n d) ps = refl
 prepared-claims (Spec maker i client stamp n d reply) ps = refl
 prepared-claims (LocalCommit maker i client stamp n d) ps = refl
 prepared-claims (AbortZ maker i h zcert) ps = refl
+prepared-claims (TrimmedAbort maker i start digest rest) ps = refl
 
 proof-claims : (v : Proof) → map (λ (k : Check). k.content) (proof_checks v) ≡ change_claims v
 proof-claims v = ap (λ (xs : List Content). v.change.content ∷ xs) (prepared-claims v.change.content v.prepares)

@@ -9,7 +9,7 @@ use Rattle.ab_num.specs.declared.party.Party.{Party}
 use Rattle.ab_num.specs.declared.party.Party.TheVariants.{Replica, Client}
 use Rattle.ab_hist.specs.declared.request.Request.{Request}
 use Rattle.ab_msg.specs.declared.content.Content.{Content}
-use Rattle.ab_msg.specs.declared.content.Content.TheVariants.{Req, Order, Resp, ChainTag, Panic, Abort, PrePrepare, Prepare, Commit, ViewChange, NewView, Checkpoint, Spec, LocalCommit, AbortZ}
+use Rattle.ab_msg.specs.declared.content.Content.TheVariants.{Req, Order, Resp, ChainTag, Panic, Abort, PrePrepare, Prepare, Commit, ViewChange, NewView, Checkpoint, Spec, LocalCommit, AbortZ, TrimmedAbort}
 use Rattle.ab_msg.specs.declared.signed.Signed.{Signed}
 use Rattle.ab_msg.specs.declared.zcert.Zcert.{Zcert}
 use Rattle.ab_msg.specs.declared.change.Proof.{Proof}
@@ -58,6 +58,7 @@ kept-few : (c : Content) → IsStopContent c → length (kept_checks c) ≤ 7
 kept-few (AbortZ maker i h None) g = omega arith
 kept-few (AbortZ maker i h (Some z)) g = answers-few i z g.1.1.1
 kept-few (Abort maker i h) g = omega arith
+kept-few (TrimmedAbort maker i start digest rest) g = omega arith
 kept-few c g = absurd g
 
 abort-few : (s : Signed) → IsSigned IsStopContent s → length (abort_checks s) ≤ 8
@@ -92,6 +93,7 @@ ordered-few (Checkpoint maker i n d) = omega arith
 ordered-few (Spec maker i client stamp n d reply) = omega arith
 ordered-few (LocalCommit maker i client stamp n d) = omega arith
 ordered-few (AbortZ maker i h zcert) = omega arith
+ordered-few (TrimmedAbort maker i start digest rest) = omega arith
 
 order-few : (cs : List Check) (one : Check) → length cs ≤ 1 → length (cs ++ one ∷ []) ≤ 2
 order-few cs one few = omega (arith, few, length-append cs (one ∷ []))

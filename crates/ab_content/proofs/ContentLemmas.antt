@@ -1,9 +1,11 @@
 -- The laws of contents.
-use Rattle.std.proofs.Common.{◌≡◌, ℕ, ◌^◌, ◌<◌, Option, List, ◌++◌, length, refl, ap, arith, lit<}
+use Rattle.std.proofs.Common.{◌≡◌, ◌≢◌, ℕ, ◌^◌, ◌<◌, ◌≤◌, eqb, Bool, true, false, Option, List, ◌++◌, length, refl, sym, ap, arith, lit<}
+use Rattle.std.proofs.lemmas.Bool.{eqb-false, ne_eqb}
 use Rattle.std.specs.Int.{w32}
 use Rattle.ab_num.specs.declared.party.Party.{Party}
 use Rattle.ab_num.specs.declared.party.Party.TheVariants.{Replica, Client}
 use Rattle.ab_hist.specs.declared.request.Request.{Request}
+use Rattle.ab_hist.specs.Trimmed.{Trimmed, untrimmed}
 use Rattle.ab_form.specs.declared.bad.Bad.TheVariants.{BadCode, BadField}
 use Rattle.ab_form.specs.Readers.{Reader, number_at, marked, after, both}
 use Rattle.ab_content.specs.Parts.{replica_at}
@@ -15,13 +17,14 @@ use Rattle.ab_msg.specs.declared.zcert.Zcert.{Zcert}
 use Rattle.ab_form.proofs.ListLemmas.{u8_counted-format, optional-format}
 use Rattle.ab_content.specs.Parts.{client_at, instance_at, request_at, signer_at}
 use Rattle.ab_msg.specs.Fields.{IsStamp, spell_request, IsRequest, spell_signer, IsSigner}
-use Rattle.ab_msg.specs.Fields.{IsWritten}
+use Rattle.ab_msg.specs.Fields.{IsWritten, IsSpellable, spell_trimmed}
 use Rattle.ab_content.proofs.PartLemmas.{replica-format, client-format, instance-format, stamp-format, request-format, any_request-format, request-stays, history-format, signer-format}
+use Rattle.ab_content.proofs.TrimmedLemmas.{trimmed-format, whole_fits}
 use Rattle.ab_msg.specs.declared.content.Content.{Content}
-use Rattle.ab_msg.specs.declared.content.Content.TheVariants.{Req, Order, Resp, ChainTag, Panic, Abort, PrePrepare, Prepare, Commit, ViewChange, NewView, Checkpoint, Spec, LocalCommit, AbortZ}
+use Rattle.ab_msg.specs.declared.content.Content.TheVariants.{Req, Order, Resp, ChainTag, Panic, Abort, PrePrepare, Prepare, Commit, ViewChange, NewView, Checkpoint, Spec, LocalCommit, AbortZ, TrimmedAbort}
 use Rattle.ab_msg.specs.Fields.{IsInstance, IsView}
-use Rattle.ab_content.specs.Rows.{req_from, req_at, order_from, order_at, resp_from, resp_at, chain_tag_from, chain_tag_at, panic_from, panic_at, abort_from, abort_at, SlotParts, slot_parts_at, pre_prepare_from, pre_prepare_at, prepare_from, prepare_at, commit_from, commit_at, entry_at, change_from, change_at, new_view_from, new_view_at, checkpoint_from, checkpoint_at, spec_from, spec_at, local_commit_from, local_commit_at, ZcertParts, zcert_from, zcert_at, abort_z_from, abort_z_at}
-use Rattle.ab_msg.specs.Contents.{IsReq, IsOrder, IsResp, IsChainTag, IsPanic, IsAbort, spell_slot, IsPrePrepare, IsPrepare, IsCommit, spell_entry, IsEntry, IsChange, IsNewView, IsCheckpoint, IsSpec, IsLocalCommit, IsZcert, IsAbortZ, spell_zcert, spell_content}
+use Rattle.ab_content.specs.Rows.{req_from, req_at, order_from, order_at, resp_from, resp_at, chain_tag_from, chain_tag_at, panic_from, panic_at, abort_of, abort_from, abort_at, SlotParts, slot_parts_at, pre_prepare_from, pre_prepare_at, prepare_from, prepare_at, commit_from, commit_at, entry_at, change_from, change_at, new_view_from, new_view_at, checkpoint_from, checkpoint_at, spec_from, spec_at, local_commit_from, local_commit_at, ZcertParts, zcert_from, zcert_at, abort_z_from, abort_z_at}
+use Rattle.ab_msg.specs.Contents.{IsReq, IsOrder, IsResp, IsChainTag, IsPanic, IsEitherAbort, spell_head, spell_slot, IsPrePrepare, IsPrepare, IsCommit, spell_entry, IsEntry, IsChange, IsNewView, IsCheckpoint, IsSpec, IsLocalCommit, IsZcert, IsAbortZ, spell_zcert, spell_content}
 
 -- ---- requests
 
@@ -150,14 +153,39 @@ panic-format = inject-format panic_from _ _ (λ t. IsWithin 0 15 t.0 × IsInstan
 
 -- ---- aborts
 
-abort-back : (y : Content) → IsAbort y → (t : Headed (List Request)) × (y ≡ abort_from t) × IsHeaded IsWritten t
-abort-back (Abort (Replica r) instance h) g = ((r, (instance, h)), refl, g)
+abort-spelled : (maker : Party) (instance : ℕ) (t : Trimmed) (whole : Bool) → eqb t.start 0 ≡ whole → spell_content (abort_of maker instance t) ≡ spell_head 6 maker instance (spell_trimmed t)
+abort-spelled maker instance t true is = rw is refl
+abort-spelled maker instance t false is =
+    let trimmed : abort_of maker instance t ≡ TrimmedAbort maker instance t.start t.digest t.rest = rw is refl in
+    ap spell_content trimmed
+
+abort-fits : (r instance : ℕ) (t : Trimmed) (whole : Bool) → eqb t.start 0 ≡ whole → IsWithin 0 6 r → IsInstance instance → IsSpellable t → IsEitherAbort (abort_of (Replica r) instance t)
+abort-fits r instance t true is here there fits = rw is (here, (there, fits.rest))
+abort-fits r instance t false is here there fits =
+    let some = positive t.start (eqb-false t.start 0 is) in
+    rw is (here, (there, (some, fits)))
+  where
+    positive : (k : ℕ) → k ≢ 0 → 1 ≤ k
+    positive k other = omega (arith, other)
+
+abort-back : (y : Content) → IsEitherAbort y → (t : Headed Trimmed) × (y ≡ abort_from t) × IsHeaded IsSpellable t
+abort-back (Abort (Replica r) instance h) g = ((r, (instance, untrimmed h)), refl, (g.0, (g.1.0, whole_fits h g.1.1)))
 abort-back (Abort (Client c) instance h) g = absurd g.0
+abort-back (TrimmedAbort (Replica r) instance start digest rest) g =
+    let some : eqb start 0 ≡ false = ne_eqb start 0 (λ none. absurd (omega (arith, none, g.1.1.0))) in
+    let t : Trimmed = record { start = start; digest = digest; rest = rest } in
+    let is : abort_from (r, (instance, t)) ≡ TrimmedAbort (Replica r) instance start digest rest = rw some refl in
+    ((r, (instance, t)), sym is, (g.0, (g.1.0, g.1.1.1)))
+abort-back (TrimmedAbort (Client c) instance start digest rest) g = absurd g.0
 abort-back y g = absurd g
 
-pub abort-format : IsFormat abort_at spell_content IsAbort
+pub abort-format : IsFormat abort_at spell_content IsEitherAbort
 unfolding abort_at
-abort-format = inject-format abort_from _ _ _ spell_content IsAbort (λ t. refl) (λ t h. h) abort-back (headed-format 6 _ _ IsWritten (lit< tt) history-format)
+abort-format =
+    inject-format abort_from _ _ _ spell_content IsEitherAbort
+    (λ t. abort-spelled (Replica t.0) t.1.0 t.1.1 (eqb t.1.1.start 0) refl)
+    (λ t h. abort-fits t.0 t.1.0 t.1.1 (eqb t.1.1.start 0) refl h.0 h.1.0 h.1.1)
+    abort-back (headed-format 6 _ _ IsSpellable (lit< tt) trimmed-format)
 
 -- ---- slots
 

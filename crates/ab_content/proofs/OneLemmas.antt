@@ -4,8 +4,8 @@ use Rattle.ab_form.specs.Readers.{Reader}
 use Rattle.ab_form.specs.Formats.{IsFormat, u8_bytes}
 use Rattle.ab_form.proofs.StepLemmas.{done_is}
 use Rattle.ab_msg.specs.declared.content.Content.{Content}
-use Rattle.ab_msg.specs.declared.content.Content.TheVariants.{Req, Order, Resp, ChainTag, Panic, Abort, PrePrepare, Prepare, Commit, ViewChange, NewView, Checkpoint, Spec, LocalCommit, AbortZ}
-use Rattle.ab_msg.specs.Contents.{IsReq, IsOrder, IsResp, IsChainTag, IsPanic, IsAbort, IsPrePrepare, IsPrepare, IsCommit, IsChange, IsNewView, IsCheckpoint, IsSpec, IsLocalCommit, IsAbortZ, IsContent, spell_content}
+use Rattle.ab_msg.specs.declared.content.Content.TheVariants.{Req, Order, Resp, ChainTag, Panic, Abort, PrePrepare, Prepare, Commit, ViewChange, NewView, Checkpoint, Spec, LocalCommit, AbortZ, TrimmedAbort}
+use Rattle.ab_msg.specs.Contents.{IsReq, IsOrder, IsResp, IsChainTag, IsPanic, IsEitherAbort, IsPrePrepare, IsPrepare, IsCommit, IsChange, IsNewView, IsCheckpoint, IsSpec, IsLocalCommit, IsAbortZ, IsContent, spell_content}
 use Rattle.ab_content.proofs.ContentLemmas.{req-format, order-format, resp-format, chain_tag-format, panic-format, abort-format, pre_prepare-format, prepare-format, commit-format, change-format, new_view-format, checkpoint-format, spec-format, local_commit-format, abort_z-format}
 
 -- what has one spelling is one value
@@ -31,6 +31,7 @@ code (Checkpoint maker instance n d) = 12
 code (Spec maker instance client stamp n d reply) = 13
 code (LocalCommit maker instance client stamp n d) = 14
 code (AbortZ maker instance history zcert) = 15
+code (TrimmedAbort maker instance start digest rest) = 6
 
 -- the code is the first byte
 first-byte : (c : Content) → get_or (spell_content c) 0 0 ≡ code c
@@ -50,6 +51,7 @@ first-byte (Checkpoint maker instance n d) = refl
 first-byte (Spec maker instance client stamp n d reply) = refl
 first-byte (LocalCommit maker instance client stamp n d) = refl
 first-byte (AbortZ maker instance history zcert) = refl
+first-byte (TrimmedAbort maker instance start digest rest) = refl
 
 -- the kind is that of the code
 is_req : (c : Content) → 1 ≡ code c → IsContent c → IsReq c
@@ -72,8 +74,9 @@ is_panic : (c : Content) → 5 ≡ code c → IsContent c → IsPanic c
 is_panic (Panic maker instance) e h = h
 is_panic c e h = absurd (omega (arith, e))
 
-is_abort : (c : Content) → 6 ≡ code c → IsContent c → IsAbort c
+is_abort : (c : Content) → 6 ≡ code c → IsContent c → IsEitherAbort c
 is_abort (Abort maker instance history) e h = h
+is_abort (TrimmedAbort maker instance start digest rest) e h = h
 is_abort c e h = absurd (omega (arith, e))
 
 is_pre_prepare : (c : Content) → 7 ≡ code c → IsContent c → IsPrePrepare c
@@ -121,7 +124,7 @@ own_bytes (Order maker instance n request) y a b e = one _ spell_content IsOrder
 own_bytes (Resp maker instance client stamp n d reply) y a b e = one _ spell_content IsResp resp-format (Resp maker instance client stamp n d reply) y a (is_resp y (same_code (Resp maker instance client stamp n d reply) y e) b) e
 own_bytes (ChainTag maker instance client stamp n d) y a b e = one _ spell_content IsChainTag chain_tag-format (ChainTag maker instance client stamp n d) y a (is_chain_tag y (same_code (ChainTag maker instance client stamp n d) y e) b) e
 own_bytes (Panic maker instance) y a b e = one _ spell_content IsPanic panic-format (Panic maker instance) y a (is_panic y (same_code (Panic maker instance) y e) b) e
-own_bytes (Abort maker instance history) y a b e = one _ spell_content IsAbort abort-format (Abort maker instance history) y a (is_abort y (same_code (Abort maker instance history) y e) b) e
+own_bytes (Abort maker instance history) y a b e = one _ spell_content IsEitherAbort abort-format (Abort maker instance history) y a (is_abort y (same_code (Abort maker instance history) y e) b) e
 own_bytes (PrePrepare maker instance view slot x) y a b e = one _ spell_content IsPrePrepare pre_prepare-format (PrePrepare maker instance view slot x) y a (is_pre_prepare y (same_code (PrePrepare maker instance view slot x) y e) b) e
 own_bytes (Prepare maker instance view slot x) y a b e = one _ spell_content IsPrepare prepare-format (Prepare maker instance view slot x) y a (is_prepare y (same_code (Prepare maker instance view slot x) y e) b) e
 own_bytes (Commit maker instance view slot x) y a b e = one _ spell_content IsCommit commit-format (Commit maker instance view slot x) y a (is_commit y (same_code (Commit maker instance view slot x) y e) b) e
@@ -131,3 +134,4 @@ own_bytes (Checkpoint maker instance n d) y a b e = one _ spell_content IsCheckp
 own_bytes (Spec maker instance client stamp n d reply) y a b e = one _ spell_content IsSpec spec-format (Spec maker instance client stamp n d reply) y a (is_spec y (same_code (Spec maker instance client stamp n d reply) y e) b) e
 own_bytes (LocalCommit maker instance client stamp n d) y a b e = one _ spell_content IsLocalCommit local_commit-format (LocalCommit maker instance client stamp n d) y a (is_local_commit y (same_code (LocalCommit maker instance client stamp n d) y e) b) e
 own_bytes (AbortZ maker instance history zcert) y a b e = one _ spell_content IsAbortZ abort_z-format (AbortZ maker instance history zcert) y a (is_abort_z y (same_code (AbortZ maker instance history zcert) y e) b) e
+own_bytes (TrimmedAbort maker instance start digest rest) y a b e = one _ spell_content IsEitherAbort abort-format (TrimmedAbort maker instance start digest rest) y a (is_abort y (same_code (TrimmedAbort maker instance start digest rest) y e) b) e

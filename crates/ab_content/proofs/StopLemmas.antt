@@ -10,9 +10,9 @@ use Rattle.ab_form.proofs.StepLemmas.{bind_ok, done-fault, fault, fault_is}
 use Rattle.ab_form.proofs.FormatLemmas.{format}
 use Rattle.ab_form.proofs.PartLemmas.{number-format, wide8}
 use Rattle.ab_msg.specs.declared.content.Content.{Content}
-use Rattle.ab_msg.specs.declared.content.Content.TheVariants.{Abort, AbortZ}
-use Rattle.ab_msg.specs.Contents.{IsAbort, IsAbortZ, IsStopContent, spell_content, spell_zcert}
-use Rattle.ab_msg.specs.Fields.{spell_party, spell_history}
+use Rattle.ab_msg.specs.declared.content.Content.TheVariants.{Abort, AbortZ, TrimmedAbort}
+use Rattle.ab_msg.specs.Contents.{IsEitherAbort, IsAbortZ, IsStopContent, spell_content, spell_zcert}
+use Rattle.ab_msg.specs.Fields.{spell_party, spell_history, spell_trimmed}
 use Rattle.ab_content.specs.Rows.{abort_at, abort_z_at, stop_at}
 use Rattle.ab_content.proofs.ContentLemmas.{abort-format, abort_z-format}
 
@@ -41,8 +41,9 @@ either-stays : (b : Bool) → Stays (either b abort_z_at abort_at)
 either-stays true = abort_z-format.stays
 either-stays false = abort-format.stays
 
-plain : (y : Content) → IsAbort y → IsStopContent y
+plain : (y : Content) → IsEitherAbort y → IsStopContent y
 plain (Abort maker instance history) h = h
+plain (TrimmedAbort maker instance start digest rest) h = h
 plain y h = absurd h
 
 kept : (y : Content) → IsAbortZ y → IsStopContent y
@@ -64,6 +65,9 @@ stop-again (Abort maker instance history) rest h =
 stop-again (AbortZ maker instance history zcert) rest h =
     rw (code_first 15 (spell_party maker ++ (u32_bytes instance ++ (spell_history history ++ spell_optional spell_zcert zcert))) rest (lit< tt))
     (abort_z-format.again (AbortZ maker instance history zcert) rest h)
+stop-again (TrimmedAbort maker instance start digest list) rest h =
+    rw (code_first 6 (spell_party maker ++ (u32_bytes instance ++ spell_trimmed (record { start = start; digest = digest; rest = list }))) rest (lit< tt))
+    (abort-format.again (TrimmedAbort maker instance start digest list) rest h)
 stop-again y rest h = absurd h
 
 pub stop-format : IsFormat stop_at spell_content IsStopContent

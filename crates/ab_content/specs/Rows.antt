@@ -1,16 +1,19 @@
 -- Readers of contents, one for each row of the grammar.
-use Rattle.std.specs.Prelude.{ℕ, ◌==◌, List, Option}
+use Rattle.std.specs.Prelude.{ℕ, ◌==◌, true, if◌then◌else◌, List, Option}
 use Rattle.std.specs.Int.{w8, w16, w32}
+use Rattle.ab_num.specs.declared.party.Party.{Party}
 use Rattle.ab_num.specs.declared.party.Party.TheVariants.{Replica, Client}
 use Rattle.ab_hist.specs.declared.request.Request.{Request}
+use Rattle.ab_hist.specs.Trimmed.{Trimmed}
 use Rattle.ab_form.specs.declared.bad.Bad.TheVariants.{BadCode, BadField}
 use Rattle.ab_form.specs.Readers.{◌>>=◌, Reader, number_at, bytes_at, ranged_at, text_at, marked, made, after, both, either}
 use Rattle.ab_form.specs.Lists.{counted, optional_at}
 use Rattle.ab_msg.specs.declared.zcert.Zcert.{Zcert}
 use Rattle.ab_content.specs.Parts.{replica_at, client_at, instance_at, stamp_at, request_at, any_request_at, signer_at}
 use Rattle.ab_content.specs.Histories.{history_at}
+use Rattle.ab_content.specs.TrimmedLists.{trimmed_at}
 use Rattle.ab_msg.specs.declared.content.Content.{Content}
-use Rattle.ab_msg.specs.declared.content.Content.TheVariants.{Req, Order, Resp, ChainTag, Panic, Abort, PrePrepare, Prepare, Commit, ViewChange, NewView, Checkpoint, Spec, LocalCommit, AbortZ}
+use Rattle.ab_msg.specs.declared.content.Content.TheVariants.{Req, Order, Resp, ChainTag, Panic, Abort, PrePrepare, Prepare, Commit, ViewChange, NewView, Checkpoint, Spec, LocalCommit, AbortZ, TrimmedAbort}
 
 -- ---- requests
 
@@ -61,11 +64,17 @@ panic_at bytes = made panic_from (marked 5 BadCode (both client_at instance_at))
 
 -- ---- aborts
 
-abbrev pub abort_from : ℕ × (ℕ × List Request) → Content
-abort_from t = Abort (Replica t.0) t.1.0 t.1.1
+-- of a whole log, or of one of which at least an entry is trimmed
+abbrev pub abort_of : Party → ℕ → Trimmed → Content
+abort_of maker instance t =
+    if t.start == 0 then Abort maker instance t.rest
+    else TrimmedAbort maker instance t.start t.digest t.rest
+
+abbrev pub abort_from : ℕ × (ℕ × Trimmed) → Content
+abort_from t = abort_of (Replica t.0) t.1.0 t.1.1
 
 unfoldable pub abort_at : Reader Content
-abort_at bytes = made abort_from (marked 6 BadCode (both replica_at (both instance_at history_at))) bytes
+abort_at bytes = made abort_from (marked 6 BadCode (both replica_at (both instance_at (trimmed_at true)))) bytes
 
 -- ---- what is stated of a slot
 

@@ -8,7 +8,7 @@ use Rattle.ab_num.specs.Places.{at_position_of, position_in}
 use Rattle.arrayvec.specs.ArrayVec.{ArrayVec}
 use Rattle.ab_hist.specs.declared.request.Request.{Request}
 use Rattle.ab_msg.specs.declared.content.Content.{Content}
-use Rattle.ab_msg.specs.declared.content.Content.TheVariants.{Req, Order, Resp, ChainTag, Panic, Abort, PrePrepare, Prepare, Commit, ViewChange, NewView, Checkpoint, Spec, LocalCommit, AbortZ}
+use Rattle.ab_msg.specs.declared.content.Content.TheVariants.{Req, Order, Resp, ChainTag, Panic, Abort, PrePrepare, Prepare, Commit, ViewChange, NewView, Checkpoint, Spec, LocalCommit, AbortZ, TrimmedAbort}
 use Rattle.ab_msg.specs.declared.message.Msg.{Msg}
 use Rattle.ab_msg.specs.declared.message.Msg.TheVariants as msg
 use Rattle.ab_msg.specs.declared.message.Offer.{Offer}
@@ -34,6 +34,7 @@ maker_of (Checkpoint maker instance n d) = maker
 maker_of (Spec maker instance client stamp n d reply) = maker
 maker_of (LocalCommit maker instance client stamp n d) = maker
 maker_of (AbortZ maker instance history zcert) = maker
+maker_of (TrimmedAbort maker instance start digest rest) = maker
 
 -- the instance of which it speaks
 abbrev pub instance_of : Content → ℕ
@@ -52,6 +53,7 @@ instance_of (Checkpoint maker instance n d) = instance
 instance_of (Spec maker instance client stamp n d reply) = instance
 instance_of (LocalCommit maker instance client stamp n d) = instance
 instance_of (AbortZ maker instance history zcert) = instance
+instance_of (TrimmedAbort maker instance start digest rest) = instance
 
 -- ---- parts of messages
 

@@ -1,13 +1,13 @@
 -- Contents: which are of the grammar, and how they are spelled.
-use Rattle.std.specs.Prelude.{◌≡◌, ℕ, List, ◌++◌, length}
+use Rattle.std.specs.Prelude.{◌≡◌, ℕ, ◌≤◌, List, ◌++◌, length}
 use Rattle.ab_num.specs.declared.party.Party.{Party}
 use Rattle.ab_num.specs.declared.party.Party.TheVariants.{Client}
 use Rattle.ab_form.specs.Formats.{IsWithin, u8_bytes, u16_bytes, u32_bytes, u64_bytes}
 use Rattle.ab_form.specs.Lists.{u8_list, AreCounted, spell_optional, FitsInside}
 use Rattle.ab_msg.specs.declared.zcert.Zcert.{Zcert}
 use Rattle.ab_msg.specs.declared.content.Content.{Content}
-use Rattle.ab_msg.specs.declared.content.Content.TheVariants.{Req, Order, Resp, ChainTag, Panic, Abort, PrePrepare, Prepare, Commit, ViewChange, NewView, Checkpoint, Spec, LocalCommit, AbortZ}
-use Rattle.ab_msg.specs.Fields.{IsReplica, IsClient, spell_party, IsInstance, IsView, IsStamp, IsRequest, spell_request, IsWritten, spell_history, IsReply, spell_reply, IsSigner, spell_signer}
+use Rattle.ab_msg.specs.declared.content.Content.TheVariants.{Req, Order, Resp, ChainTag, Panic, Abort, PrePrepare, Prepare, Commit, ViewChange, NewView, Checkpoint, Spec, LocalCommit, AbortZ, TrimmedAbort}
+use Rattle.ab_msg.specs.Fields.{IsReplica, IsClient, spell_party, IsInstance, IsView, IsStamp, IsRequest, spell_request, IsWritten, spell_history, IsSpellable, spell_trimmed, IsReply, spell_reply, IsSigner, spell_signer}
 
 -- ---- what fits
 
@@ -57,10 +57,23 @@ abbrev pub IsAbortZ : Content → Type 0
 IsAbortZ (AbortZ maker instance history zcert) = IsReplica maker × (IsInstance instance × (IsWritten history × FitsInside IsZcert zcert))
 IsAbortZ _ = ⊥
 
--- what a stopped replica states, with a certificate of answers or without
+-- at least one entry is trimmed
+abbrev pub IsTrimmedAbort : Content → Type 0
+IsTrimmedAbort (TrimmedAbort maker instance start digest rest) =
+    IsReplica maker × (IsInstance instance × ((1 ≤ start) × IsSpellable (record { start = start; digest = digest; rest = rest })))
+IsTrimmedAbort _ = ⊥
+
+-- an ABORT without a certificate of answers, of a whole log or of a trimmed one
+abbrev pub IsEitherAbort : Content → Type 0
+IsEitherAbort (Abort maker instance history) = IsAbort (Abort maker instance history)
+IsEitherAbort (TrimmedAbort maker instance start digest rest) = IsTrimmedAbort (TrimmedAbort maker instance start digest rest)
+IsEitherAbort _ = ⊥
+
+-- what a stopped replica states, with a certificate of answers or without, of a whole log or of a trimmed one
 abbrev pub IsStopContent : Content → Type 0
 IsStopContent (Abort maker instance history) = IsAbort (Abort maker instance history)
 IsStopContent (AbortZ maker instance history zcert) = IsAbortZ (AbortZ maker instance history zcert)
+IsStopContent (TrimmedAbort maker instance start digest rest) = IsTrimmedAbort (TrimmedAbort maker instance start digest rest)
 IsStopContent _ = ⊥
 
 abbrev pub IsCheckpoint : Content → Type 0
@@ -112,6 +125,7 @@ IsContent (Checkpoint maker instance n d) = IsCheckpoint (Checkpoint maker insta
 IsContent (Spec maker instance client stamp n d reply) = IsSpec (Spec maker instance client stamp n d reply)
 IsContent (LocalCommit maker instance client stamp n d) = IsLocalCommit (LocalCommit maker instance client stamp n d)
 IsContent (AbortZ maker instance history zcert) = IsAbortZ (AbortZ maker instance history zcert)
+IsContent (TrimmedAbort maker instance start digest rest) = IsTrimmedAbort (TrimmedAbort maker instance start digest rest)
 
 -- ---- spellings
 
@@ -147,3 +161,5 @@ spell_content (Spec maker instance client stamp n d reply) =
     spell_head 13 maker instance (u16_bytes client ++ (u64_bytes stamp ++ (u16_bytes n ++ (d ++ spell_reply reply))))
 spell_content (LocalCommit maker instance client stamp n d) = spell_head 14 maker instance (u16_bytes client ++ (u64_bytes stamp ++ (u16_bytes n ++ d)))
 spell_content (AbortZ maker instance history zcert) = spell_head 15 maker instance (spell_history history ++ spell_optional spell_zcert zcert)
+spell_content (TrimmedAbort maker instance start digest rest) =
+    spell_head 6 maker instance (spell_trimmed (record { start = start; digest = digest; rest = rest }))

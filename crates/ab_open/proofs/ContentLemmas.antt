@@ -13,7 +13,7 @@ use Rattle.ab_hist.specs.Histories.{IsHistory}
 use Rattle.ab_form.specs.Formats.{IsWithin}
 use Rattle.ab_form.specs.Lists.{FitsInside}
 use Rattle.ab_msg.specs.declared.content.Content.{Content}
-use Rattle.ab_msg.specs.declared.content.Content.TheVariants.{Order, Abort, AbortZ, PrePrepare, Prepare, ViewChange}
+use Rattle.ab_msg.specs.declared.content.Content.TheVariants.{Order, Abort, AbortZ, TrimmedAbort, PrePrepare, Prepare, ViewChange}
 use Rattle.ab_msg.specs.declared.signed.Signed.{Signed}
 use Rattle.ab_msg.specs.declared.change.Proof.{Proof}
 use Rattle.ab_msg.specs.declared.zcert.Zcert.{Zcert}
@@ -48,6 +48,7 @@ specs-content i z hi h =
 
 kept-content : (c : Content) → IsStopContent c → All IsContent (kept_claims c)
 kept-content (Abort maker i h) g = All-nil IsContent
+kept-content (TrimmedAbort maker i start digest rest) g = All-nil IsContent
 kept-content (AbortZ maker i h None) g = All-nil IsContent
 kept-content (AbortZ maker i h (Some z)) g = specs-content i z g.1.0 g.1.1.1
 kept-content c g = absurd g
@@ -63,18 +64,19 @@ signed-claims (s ∷ ss) h =
 
 -- ---- along a chain
 
-each-content-if : (says : ℕ → Content) (k p : ℕ) (b : Bool) → ((q : ℕ) → IsContent (says q)) → All IsContent (each_before k says p)
-    → All IsContent (cond b (says (p - (k + 1)) ∷ each_before k says p) (each_before k says p))
-each-content-if says k p true h more = All-cons IsContent (says (p - (k + 1))) (each_before k says p) (h (p - (k + 1))) more
-each-content-if says k p false h more = more
+each-if : (P : Content → Type 0) (says : ℕ → Content) (k p : ℕ) (b : Bool) → ((q : ℕ) → P (says q)) → All P (each_before k says p)
+    → All P (cond b (says (p - (k + 1)) ∷ each_before k says p) (each_before k says p))
+each-if P says k p true h more = All-cons P (says (p - (k + 1))) (each_before k says p) (h (p - (k + 1))) more
+each-if P says k p false h more = more
 
-each-content : (says : ℕ → Content) (k p : ℕ) → ((q : ℕ) → IsContent (says q)) → All IsContent (each_before k says p)
-each-content says zero p h = All-nil IsContent
-each-content says (suc k) p h = each-content-if says k p (leb (k + 2) p) h (each-content says k p h)
+-- what each position may say holds of all that those before one say
+pub each : (P : Content → Type 0) (says : ℕ → Content) (k p : ℕ) → ((q : ℕ) → P (says q)) → All P (each_before k says p)
+each P says zero p h = All-nil P
+each P says (suc k) p h = each-if P says k p (leb (k + 2) p) h (each P says k p h)
 
-front-content : (i : ℕ) (m : Request) (b : Bool) (xs : List Content) → IsContent (asked i m) → All IsContent xs → All IsContent (cond b (asked i m ∷ xs) xs)
-front-content i m true xs h more = All-cons IsContent (asked i m) xs h more
-front-content i m false xs h more = more
+pub front : (P : Content → Type 0) (i : ℕ) (m : Request) (b : Bool) (xs : List Content) → P (asked i m) → All P xs → All P (cond b (asked i m ∷ xs) xs)
+front P i m true xs h more = All-cons P (asked i m) xs h more
+front P i m false xs h more = more
 
 position-few : (f i q : ℕ) → f ≤ 2 → IsWithin 0 6 (at_position_of f i q)
 position-few f i q few =
@@ -85,11 +87,11 @@ position-few f i q few =
 chain-content : (f : ℕ) (me : Party) (i : ℕ) (m : Request) (n : ℕ) (d : List ℕ) (reply : Option (ArrayVec ℕ)) → f ≤ 2 → IsInstance i → IsRequest 0 15 m → IsWithin 1 65535 n → length d ≡ 32
     → FitsInside IsReply reply → All IsContent (chain_claims f me i m n d reply)
 chain-content f (Replica r) i m n d reply few hi hm hn hd hr =
-    front-content i m (leb (position_in f i r) (f + 1)) (each_before (f + 1) (tag_of_position f i m n d) (position_in f i r)) (request-content i m hi hm)
-    (each-content (tag_of_position f i m n d) (f + 1) (position_in f i r) (λ q. (position-few f i q few, (hi, (hm.0, (hm.1.0, (hn, hd)))))))
+    front IsContent i m (leb (position_in f i r) (f + 1)) (each_before (f + 1) (tag_of_position f i m n d) (position_in f i r)) (request-content i m hi hm)
+    (each IsContent (tag_of_position f i m n d) (f + 1) (position_in f i r) (λ q. (position-few f i q few, (hi, (hm.0, (hm.1.0, (hn, hd)))))))
 chain-content f (Client c) i m n d None few hi hm hn hd hr = All-nil IsContent
 chain-content f (Client c) i m n d (Some reply) few hi hm hn hd hr =
-    each-content _ (f + 1) (3 * f + 2) (λ q. (position-few f i q few, (hi, (hm.0, (hm.1.0, (hn, (hd, hr)))))))
+    each IsContent _ (f + 1) (3 * f + 2) (λ q. (position-few f i q few, (hi, (hm.0, (hm.1.0, (hn, (hd, hr)))))))
 
 -- ---- view changes
 

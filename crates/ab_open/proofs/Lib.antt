@@ -5,4 +5,5 @@ pub mod ReadLemmas
 pub mod NamedLemmas
 pub mod OpenLemmas
 pub mod ContentLemmas
+pub mod TrimmedLemmas
 pub mod ByteLemmas

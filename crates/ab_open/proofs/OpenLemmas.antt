@@ -1,5 +1,5 @@
 -- When a message opens.
-use Rattle.std.proofs.Common.{◌≡◌, ◌≢◌, ℕ, suc, ◌+◌, ◌*◌, Bool, true, false, cond, IsTrue, List, [], ◌∷◌, map, Option, Result, Ok, Err, refl, sym, ap, ◌∙◌, All}
+use Rattle.std.proofs.Common.{◌≡◌, ◌≢◌, ℕ, suc, ◌+◌, ◌*◌, Bool, true, false, ◌==◌, ◌&&◌, cond, IsTrue, List, [], ◌∷◌, map, Option, Result, Ok, Err, refl, sym, ap, ◌∙◌, All}
 use Rattle.std.specs.List.{AllByRecursion, Contains}
 use Rattle.std.proofs.lemmas.Bool.{false≢true, ltb-true}
 use Rattle.std.proofs.lemmas.List.Elements.{All-from_recursion, All-contains}
@@ -9,6 +9,7 @@ use Rattle.ab_num.specs.Parties.{party_eq}
 use Rattle.ab_num.proofs.PartyLemmas.{party_eq-refl}
 use Rattle.ab_keys.specs.Keys.{is_party}
 use Rattle.ab_form.specs.declared.bad.Bad.{Bad}
+use Rattle.ab_form.specs.declared.bad.Bad.TheVariants.{BadLength}
 use Rattle.ab_form.specs.Formats.{IsBytes}
 use Rattle.ab_msg.specs.declared.content.Content.{Content}
 use Rattle.ab_msg.specs.declared.message.Msg.{Msg}
@@ -25,6 +26,7 @@ use Rattle.ab_open.specs.declared.fault.OpenFault.TheVariants as fault
 use Rattle.ab_check.proofs.ClaimLemmas.{checked-claims}
 use Rattle.ab_open.specs.Claimed.{by_maker, claims_by_maker}
 use Rattle.ab_open.specs.Opening.{takes, verdict, judged, opening}
+use Rattle.ab_open.specs.Trimmed.{allowed, holds_trimmed}
 
 -- a party of a cluster has a place
 pub placed : (f clients : ℕ) (me : Party) → IsTrue (is_party f clients me) → IsPlaced f me
@@ -49,8 +51,25 @@ judged_well judge f clients me (Ok x) m e =
     record { read = ap Ok p.0; taken = ap (takes f clients me) (sym p.0) ∙ p.1; checked = ap (checks judge f me) (sym p.0) ∙ p.2 }
 judged_well judge f clients me (Err bad) m e = absurd (cc)
 
-pub opened : (judge : Judge) (f clients : ℕ) (me : Party) (bytes : List ℕ) (m : Msg) → opening judge f clients me bytes ≡ Ok m → Facts judge f clients me (message_of bytes) m
-opened judge f clients me bytes m e = judged_well judge f clients me (message_of bytes) m e
+allowed-one : (b : Bool) (x m : Msg) → cond {A = Result Msg Bad} b (Err BadLength) (Ok x) ≡ Ok m → (x ≡ m) × (b ≡ false)
+allowed-one true x m e = absurd (cc)
+allowed-one false x m e = (cc, refl)
+
+-- a message that the cluster allows is read
+allowed-read : (every : ℕ) (r : Result Msg Bad) (m : Msg) → allowed every r ≡ Ok m → (r ≡ Ok m) × ((every == 0 && holds_trimmed m) ≡ false)
+allowed-read every (Ok x) m e =
+    let p = allowed-one (every == 0 && holds_trimmed x) x m e in
+    (ap Ok p.0, ap (λ (y : Msg). every == 0 && holds_trimmed y) (sym p.0) ∙ p.1)
+allowed-read every (Err bad) m e = absurd (cc)
+
+pub opened : (judge : Judge) (f clients every : ℕ) (me : Party) (bytes : List ℕ) (m : Msg) → opening judge f clients every me bytes ≡ Ok m → Facts judge f clients me (message_of bytes) m
+opened judge f clients every me bytes m e =
+    let o = judged_well judge f clients me (allowed every (message_of bytes)) m e in
+    record { read = (allowed-read every (message_of bytes) m o.read).0; taken = o.taken; checked = o.checked }
+
+-- without checkpoints it holds no trimmed list
+pub opened_whole : (judge : Judge) (f clients : ℕ) (me : Party) (bytes : List ℕ) (m : Msg) → opening judge f clients 0 me bytes ≡ Ok m → holds_trimmed m ≡ false
+opened_whole judge f clients me bytes m e = (allowed-read 0 (message_of bytes) m (judged_well judge f clients me (allowed 0 (message_of bytes)) m e).read).1
 
 -- ---- each check was right
 
@@ -69,34 +88,34 @@ all_right judge n m (k ∷ ks) e =
     let p = first_right (is_right judge k) (checked_from judge (suc n) ks) n m e in
     (p.0, all_right judge (suc n) m ks p.1)
 
-pub opened_right : (judge : Judge) (f clients : ℕ) (me : Party) (bytes : List ℕ) (m : Msg) → opening judge f clients me bytes ≡ Ok m → All (λ k. IsTrue (is_right judge k)) (checks_of f me m)
-opened_right judge f clients me bytes m e =
-    let p = not_refused (is_refused me m) (checked_from judge 0 (checks_of f me m)) (opened judge f clients me bytes m e).checked in
+pub opened_right : (judge : Judge) (f clients every : ℕ) (me : Party) (bytes : List ℕ) (m : Msg) → opening judge f clients every me bytes ≡ Ok m → All (λ k. IsTrue (is_right judge k)) (checks_of f me m)
+opened_right judge f clients every me bytes m e =
+    let p = not_refused (is_refused me m) (checked_from judge 0 (checks_of f me m)) (opened judge f clients every me bytes m e).checked in
     All-from_recursion (λ k. IsTrue (is_right judge k)) (checks_of f me m) (all_right judge 0 p.1.0 (checks_of f me m) p.1.1)
 
-pub opened_not_refused : (judge : Judge) (f clients : ℕ) (me : Party) (bytes : List ℕ) (m : Msg) → opening judge f clients me bytes ≡ Ok m → is_refused me m ≡ false
-opened_not_refused judge f clients me bytes m e = (not_refused (is_refused me m) (checked_from judge 0 (checks_of f me m)) (opened judge f clients me bytes m e).checked).0
+pub opened_not_refused : (judge : Judge) (f clients every : ℕ) (me : Party) (bytes : List ℕ) (m : Msg) → opening judge f clients every me bytes ≡ Ok m → is_refused me m ≡ false
+opened_not_refused judge f clients every me bytes m e = (not_refused (is_refused me m) (checked_from judge 0 (checks_of f me m)) (opened judge f clients every me bytes m e).checked).0
 
 -- ---- statements of oneself
 
-pub own_tags : (judge : Judge) (f clients : ℕ) (me : Party) (bytes : List ℕ) (m : Msg) → ((text : List ℕ) (tag : Option (List ℕ)) → judge me text (by_tag tag) ≡ false)
-    → opening judge f clients me bytes ≡ Ok m → (k : Check) (tag : Option (List ℕ)) → Contains (checks_of f me m) k → k.token ≡ by_tag tag → maker_of k.content ≢ me
-own_tags judge f clients me bytes m none e k tag here is own =
-    let right = All-contains (λ x. IsTrue (is_right judge x)) (checks_of f me m) k (opened_right judge f clients me bytes m e) here in
+pub own_tags : (judge : Judge) (f clients every : ℕ) (me : Party) (bytes : List ℕ) (m : Msg) → ((text : List ℕ) (tag : Option (List ℕ)) → judge me text (by_tag tag) ≡ false)
+    → opening judge f clients every me bytes ≡ Ok m → (k : Check) (tag : Option (List ℕ)) → Contains (checks_of f me m) k → k.token ≡ by_tag tag → maker_of k.content ≢ me
+own_tags judge f clients every me bytes m none e k tag here is own =
+    let right = All-contains (λ x. IsTrue (is_right judge x)) (checks_of f me m) k (opened_right judge f clients every me bytes m e) here in
     let so : judge me (spell_content k.content) (by_tag tag) ≡ true =
     ap (λ (t : Token). judge me (spell_content k.content) t) (sym is) ∙ (ap (λ (p : Party). judge p (spell_content k.content) k.token) (sym own) ∙ right) in
     false≢true (sym (none (spell_content k.content) tag) ∙ so)
 
-pub own_prepares : (judge : Judge) (f clients : ℕ) (me : Party) (bytes : List ℕ) (s : Signed) → opening judge f clients me bytes ≡ Ok (msg.Prepare s) → maker_of s.content ≢ me
-own_prepares judge f clients me bytes s e own =
-    false≢true (sym (opened_not_refused judge f clients me bytes (msg.Prepare s) e) ∙ (ap (λ (p : Party). party_eq p me) own ∙ party_eq-refl me))
+pub own_prepares : (judge : Judge) (f clients every : ℕ) (me : Party) (bytes : List ℕ) (s : Signed) → opening judge f clients every me bytes ≡ Ok (msg.Prepare s) → maker_of s.content ≢ me
+own_prepares judge f clients every me bytes s e own =
+    false≢true (sym (opened_not_refused judge f clients every me bytes (msg.Prepare s) e) ∙ (ap (λ (p : Party). party_eq p me) own ∙ party_eq-refl me))
 
 -- ---- the grammar
 
-pub opened_message : (judge : Judge) (f clients : ℕ) (me : Party) (bytes : List ℕ) (m : Msg) → IsBytes bytes → opening judge f clients me bytes ≡ Ok m
+pub opened_message : (judge : Judge) (f clients every : ℕ) (me : Party) (bytes : List ℕ) (m : Msg) → IsBytes bytes → opening judge f clients every me bytes ≡ Ok m
     → IsMessage m × (bytes ≡ spell_message m) × IsTrue (takes f clients me m)
-opened_message judge f clients me bytes m fits e =
-    let o = opened judge f clients me bytes m e in
+opened_message judge f clients every me bytes m fits e =
+    let o = opened judge f clients every me bytes m e in
     let t = message-law.takes bytes m fits o.read in
     (t.1, t.0, o.taken)
 

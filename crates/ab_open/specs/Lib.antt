@@ -2,4 +2,5 @@
 pub mod Messages
 pub mod Named
 pub mod Claimed
+pub mod Trimmed
 pub mod Opening

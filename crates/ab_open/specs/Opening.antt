@@ -7,6 +7,7 @@ use Rattle.ab_keys.specs.Keys.{is_party}
 use Rattle.ab_msg.specs.declared.message.Msg.{Msg}
 use Rattle.ab_msg.specs.Carried.{goes_to, parties_of}
 use Rattle.ab_open.specs.Messages.{message_of}
+use Rattle.ab_open.specs.Trimmed.{allowed}
 use Rattle.ab_check.specs.Checks.{Judge, checks}
 use Rattle.ab_open.specs.declared.fault.OpenFault.{OpenFault}
 use Rattle.ab_open.specs.declared.fault.OpenFault.TheVariants as fault
@@ -23,9 +24,9 @@ abbrev pub judged : Judge → ℕ → ℕ → Party → Result Msg Bad → Resul
 judged judge f clients me (Ok m) = if takes f clients me m then verdict m (checks judge f me m) else Err fault.NotMine
 judged judge f clients me (Err bad) = Err (fault.Bad bad)
 
--- the message that bytes spell, if the party takes it and each claim has what stands for it
-abbrev pub opening : Judge → ℕ → ℕ → Party → List ℕ → Result Msg OpenFault
-opening judge f clients me bytes = judged judge f clients me (message_of bytes)
+-- the message that bytes spell, if the cluster allows it, the party takes it and each claim has what stands for it
+abbrev pub opening : Judge → ℕ → ℕ → ℕ → Party → List ℕ → Result Msg OpenFault
+opening judge f clients every me bytes = judged judge f clients me (allowed every (message_of bytes))
 
 -- a message that was opened, and by whom
 pub record Opened : Type 0 where

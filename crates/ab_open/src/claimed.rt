@@ -32,6 +32,7 @@ fn last_history(claims: &[(Party, Content)]) -> Option<&History> {
     match &claims.last()?.1 {
         Content::Abort { history, .. } => Some(history),
         Content::AbortZ { history, .. } => Some(history),
+        Content::TrimmedAbort { rest, .. } => Some(rest),
         _ => None,
     }
 }

@@ -11,6 +11,7 @@ mod opening;
 mod owning;
 mod reading;
 mod taking;
+mod trimmed;
 
 pub use ab_form::Bad;
 pub use ab_wire::MsgRef;
@@ -20,6 +21,7 @@ pub use fault::OpenFault;
 pub use formats::messages_are_formats;
 pub use laws::{
     opened_messages_are_checked, opened_messages_are_of_the_grammar, own_statements_are_refused,
+    trimmed_lists_need_checkpoints,
 };
 pub use opening::open;
 pub use owning::claims;

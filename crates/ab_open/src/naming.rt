@@ -71,6 +71,9 @@ pub(crate) fn has_parties(k: &Cluster, content: &ContentRef<'_>) -> bool
         ContentRef::AbortZ { maker, history, .. } => {
             is_party(k, *maker) && has_history(k, history)
         }
+        ContentRef::TrimmedAbort { maker, rest, .. } => {
+            is_party(k, *maker) && has_history(k, rest)
+        }
     }
 }
 
