@@ -1,5 +1,5 @@
 -- What shows that a rule table keeps to what it has to.
-use Rattle.std.proofs.Common.{◌≡◌, ℕ, zero, suc, Bool, true, false, Option, None, Some, List, [], ◌∷◌, ◌⊎◌, length, take, refl, sym, ap, ◌∙◌, subst, inl, inr}
+use Rattle.std.proofs.Common.{◌≡◌, ℕ, zero, suc, ◌≤◌, Bool, true, false, Option, None, Some, List, [], ◌∷◌, ◌⊎◌, length, take, refl, sym, ap, ◌∙◌, subst, inl, inr}
 use Rattle.std.specs.Prelude.{Contains, IsTrue, slice_get, replicate, not, ◌||◌, if◌then◌else◌}
 use Rattle.std.proofs.lemmas.Bool.{cases_Bool}
 use mathlib.Core.List.{IsPrefix}
@@ -18,20 +18,21 @@ use Rattle.ab_msg.specs.declared.message.Out.{Out}
 use Rattle.ab_msg.specs.Claims.{fresh}
 use Rattle.ab_abs.specs.declared.vote.Vote.{Vote}
 use Rattle.ab_abs.specs.Acts.{State}
-use Rattle.ab_abs.specs.Answers.{answer_to, logged}
+use Rattle.ab_abs.specs.Answers.{answer_from, logged_from}
 use Rattle.ab_abs.specs.Kinds.{is_backup}
 use Rattle.ab_abs.specs.Messages.{Call, took, request_in}
 use Rattle.ab_abs.specs.Ensembles.{Proto}
-use Rattle.ab_abs.specs.FormLaws.{Belongs, begun, called, halted}
+use Rattle.ab_abs.specs.FormLaws.{Belongs, begun, called, halted, trimmed}
 use Rattle.ab_abs.specs.Members.{respond}
 use Rattle.ab_abs.specs.RuleLaws.{IsLogged, IsBackedBy, KeepsRules, log_at_start, speaks_of_call, may_take}
 use Rattle.ab_abs.proofs.Steps.{IsVoteOn, vote_on}
 
 -- the kind of a value is served
 pub served : {P : Type 0} (proto : Proto P) (serves : Kind → Bool) (c : Cluster) (i r : ℕ) (p : P) → Belongs proto serves c i r p → IsTrue (serves (kind_of c.plan i))
-served proto serves c i r p (begun e is) = is
+served proto serves c i r p (begun e is low) = is
 served proto serves c i r p (called pen q call was) = served proto serves c i r q was
 served proto serves c i r p (halted q was) = served proto serves c i r q was
+served proto serves c i r p (trimmed n q low high was) = served proto serves c i r q was
 
 -- a call that no rule takes is one that comes after a stop, or of which none speaks
 pub untaken : (k : Kind) (stopped : Bool) (call : Call) → may_take k stopped call ≡ false → (stopped ≡ true) ⊎ (speaks_of_call k call ≡ false)
@@ -79,10 +80,10 @@ module _ {S : Type 0} (machine : Machine S) where
   response_backed at m vote i r is = (m, logged_by at m vote is, is.replied)
 
   -- the answer of a replica, if it isn't stopped
-  pub voted_unless : (stopped : Bool) (base log : List Request) (m : Request) (vote : Vote) → IsPrefix base log → (if stopped then None else answer_to machine (length base) log m) ≡ Some vote
-      → IsVoteOn machine base (if stopped then log else logged log m) m vote
-  voted_unless true base log m vote begins is = absurd (cc (is))
-  voted_unless false base log m vote begins is = vote_on machine base log m vote begins is
+  pub voted_unless : (stopped : Bool) (n : ℕ) (base log : List Request) (m : Request) (vote : Vote) → IsPrefix base log → n ≤ length log → (if stopped then None else answer_from machine n (length base) log m) ≡ Some vote
+      → IsVoteOn machine base (if stopped then log else logged_from n log m) m vote
+  voted_unless true n base log m vote begins low is = absurd (cc (is))
+  voted_unless false n base log m vote begins low is = vote_on machine n base log m vote begins low is
 
   -- what stands in a response
   pub responds_backed : (f r i me : ℕ) (m : Request) (answer : Option Vote) (at : State) (o : Out) (s : Content) → ((vote : Vote) → answer ≡ Some vote → IsVoteOn machine at.base at.log m vote)

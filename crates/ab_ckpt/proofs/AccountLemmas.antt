@@ -13,7 +13,7 @@ use Rattle.ab_abs.specs.declared.vote.Vote.{Vote}
 use Rattle.ab_abs.specs.Books.{replies_from}
 use Rattle.ab_abs.proofs.BookLemmas.{take_next}
 use Rattle.ab_abs.proofs.Steps.{found_at}
-use Rattle.ab_trim.specs.Trimmed.{Trimmed, end_of, digest_at, holds}
+use Rattle.ab_hist.specs.Trimmed.{Trimmed, end_of, digest_at, holds}
 use Rattle.ab_trim.specs.Known.{Last, place_of_last, place_behind, place_by, can_push_by}
 use Rattle.ab_trim.specs.Logs.{TrimmedLog, IsFull, log_of, last_at, noted, follows_by, begun_log, push_log, cut_log, trim_log, lasts_to, with_lasts, grounded_log}
 use Rattle.ab_trim.proofs.LastLemmas.{length-noted}

@@ -15,15 +15,16 @@ use Rattle.ab_abs.specs.Answers.{answer_at as whole_answer_at}
 use Rattle.ab_abs.specs.Books.{replies_from, replies_of}
 use Rattle.ab_abs.proofs.BookLemmas.{length-replies_from, reply_from}
 use Rattle.ab_abs.proofs.Steps.{found_at}
-use Rattle.ab_trim.specs.Trimmed.{Trimmed, StandsFor, end_of, digest_at}
-use Rattle.ab_trim.specs.Known.{Last, Log, IsLogOf, known_place, can_push_after, is_latest, last_from, last_of, place_of_last, place_behind, place_by, can_push_by, forget_log}
+use Rattle.ab_hist.specs.Trimmed.{Trimmed, StandsFor, end_of, digest_at}
+use Rattle.ab_hist.specs.Known.{known_place, can_push_after, is_latest}
+use Rattle.ab_trim.specs.Known.{Last, Log, IsLogOf, last_from, last_of, place_of_last, place_behind, place_by, can_push_by, forget_log}
 use Rattle.ab_trim.specs.Logs.{log_of, last_at, trim_log, noted}
 use Rattle.ab_trim.proofs.ChunkLemmas.{slice_get-drop}
 use Rattle.ab_trim.proofs.Stands.{ends, digests, cuts, pushes, front_split, whole_stands}
 use Rattle.ab_trim.proofs.KnownPlaces.{places_agree, pushes_agree, log_forgets}
 use Rattle.ab_trim.proofs.LastLemmas.{length-noted, last_noted}
-use Rattle.ab_stable.specs.Answers.{answer_from, logged_from}
-use Rattle.ab_stable.proofs.AnswerLaws.{rises}
+use Rattle.ab_abs.specs.Answers.{answer_from, logged_from}
+use Rattle.ab_abs.proofs.Steps.{logged_more}
 use Rattle.ab_ckpt.specs.Ledgers.{Account, IsLedgerOf, new_account, reply_by, vote_by, executed, answer_at, answer_of, answered_at, answered, noted_replies, forgotten, cut_account, continued}
 use Rattle.ab_stable.specs.Checkpoints.{Mark}
 use Rattle.ab_stable.proofs.DueMarks.{stable_front, stable_marks}
@@ -96,7 +97,7 @@ module _ {S : Type 0} (machine : Machine S) where
         let front : take start (h ++ m ∷ []) ≡ take start h = take-append-le start h (m ∷ []) is.log.stands.reaches in
         record {
           log = record { stands = pushes l.log.list h is.log.stands m; lasts = λ c. is.log.lasts c ∙ ap (λ (k : List Request). last_of k c) (sym front) };
-          history = subst IsHistory ((λ i. logged_at h m (absent i) (can_push_after start h m)) ∙ ap (logged_at h m None) next) (rises start h m is.history);
+          history = subst IsHistory ((λ i. logged_at h m (absent i) (can_push_after start h m)) ∙ ap (logged_at h m None) next) (logged_more start h m is.history).1;
           clients = All-push (λ e. e.client < 16) h m is.clients client;
           places = is.places;
           last = λ c x at.

@@ -6,7 +6,7 @@ use Rattle.std.proofs.lemmas.Bool.{cases_Bool, cases_order, and_parts}
 use Rattle.std.proofs.lemmas.Bool.Decides.{nat_tests}
 use Rattle.std.proofs.lemmas.Slice.Eq.{bytes_eq-Decides}
 use Rattle.std.proofs.Math.Bool.{and-false}
-use Rattle.ab_trim.specs.Trimmed.{Trimmed, holds}
+use Rattle.ab_hist.specs.Trimmed.{Trimmed, holds}
 use Rattle.ab_stable.specs.Checkpoints.{Mark, has_mark, all_have, is_stable}
 use Rattle.ab_ckpt.specs.Marks.{AreByReplica, mark_by, later_mark, keep_mark, later_of, stable_by, stable_of, marks_from, is_more, is_point}
 

@@ -6,7 +6,7 @@ use Rattle.ab_hist.specs.Histories.{IsHistory}
 use Rattle.ab_svc.specs.Machines.{Machine, Reply, serve}
 use Rattle.ab_abs.specs.declared.vote.Vote.{Vote}
 use Rattle.ab_abs.specs.Books.{replies_from, replies_of}
-use Rattle.ab_trim.specs.Trimmed.{Trimmed, end_of, digest_at}
+use Rattle.ab_hist.specs.Trimmed.{Trimmed, end_of, digest_at}
 use Rattle.ab_trim.specs.Known.{Last, IsLogOf, place_by, can_push_by}
 use Rattle.ab_trim.specs.Logs.{TrimmedLog, log_of, last_at, begun_log, push_log, cut_log, trim_log}
 

@@ -2,7 +2,7 @@
 use Rattle.std.specs.Prelude.{◌≡◌, ℕ, ◌+◌, ◌<◌, ◌≤◌, Bool, true, false, ◌&&◌, nat_eq, nat_lt, if◌then◌else◌, Option, None, Some, List, [], ◌∷◌, Contains}
 use Rattle.std.specs.Str.{bytes_eq}
 use Rattle.ab_hist.specs.declared.request.Request.{Request}
-use Rattle.ab_trim.specs.Trimmed.{Trimmed}
+use Rattle.ab_hist.specs.Trimmed.{Trimmed}
 use Rattle.ab_stable.specs.Checkpoints.{Mark, is_stable}
 use Rattle.ab_stable.specs.Stable.{HasFront}
 

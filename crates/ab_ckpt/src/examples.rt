@@ -1,7 +1,7 @@
 //! A small ledger on which the definitions are tried.
 
 ghost use Rattle.std.specs.Prelude.{◌≡◌, None, Some, [], ◌∷◌};
-ghost use Rattle.ab_trim.specs.Trimmed.{digest_at};
+ghost use Rattle.ab_hist.specs.Trimmed.{digest_at};
 ghost use Rattle.ab_svc.specs.Machines.{serve};
 ghost use Rattle.ab_ckpt.specs.Ledgers.{IsLedgerOf, answer_of, answered};
 ghost use Rattle.ab_ckpt.specs.SmallLedgers.{early, late, other, small_ledger};

@@ -3,9 +3,9 @@
 ghost use Rattle.std.specs.Prelude.{◌≡◌, ℕ, ◌<◌, ◌≤◌, Some, [], List, All, length, take};
 ghost use Rattle.ab_hist.specs.declared.request.Request.{Request};
 ghost use Rattle.ab_hist.specs.Histories.{IsHistory};
-ghost use Rattle.ab_trim.specs.Trimmed.{Trimmed, StandsFor};
+ghost use Rattle.ab_hist.specs.Trimmed.{Trimmed, StandsFor};
 ghost use Rattle.ab_abs.specs.declared.vote.Vote.{Vote as VoteOf};
-ghost use Rattle.ab_stable.specs.Answers.{answer_from, logged_from, IsVoteFrom};
+ghost use Rattle.ab_abs.specs.Answers.{answer_from, logged_from, IsVoteFrom};
 ghost use Rattle.ab_stable.specs.Checkpoints.{Mark};
 ghost use Rattle.ab_ckpt.specs.Marks.{AreByReplica, keep_mark, stable_of, AreStable};
 ghost use Rattle.ab_ckpt.specs.Ledgers.{Account, IsLedgerOf, new_account, answer_of, answered, forgotten, continued, cut_account};
@@ -18,7 +18,7 @@ pub fn ledgers_begin<S: Service>()
 {}
 
 /// A ledger answers a request as the whole log does by the rule of a replica that forgot, and is then the ledger of the log after the
-/// answer. So its answers are right (`ab_stable::answers_are_right`).
+/// answer. So its answers are right (`ab_abs::answers_are_right`).
 pub fn ledgers_answer_as_books<S: Service>()
     ensures keeps { (l : Account S) (h : List Request) (m : Request) → IsLedgerOf S.machine l h → m.client < 16 → IsLedgerOf S.machine (answered S.machine l m) (logged_from l.log.list.start h m) }
     ensures answers { (l : Account S) (h : List Request) (m : Request) (b : ℕ) → IsLedgerOf S.machine l h → m.client < 16 → answer_of S.machine l b m ≡ answer_from S.machine l.log.list.start b h m }

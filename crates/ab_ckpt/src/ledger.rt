@@ -2,7 +2,7 @@
 
 ghost use Rattle.std.specs.Prelude.{◌≡◌, ◌+◌, ◌-◌, ◌<◌, ◌≤◌, true, None, Some, length, take, replicate, fold, IfOk, OnOk, OnErr};
 ghost use Rattle.ab_abs.specs.Books.{replies_from};
-ghost use Rattle.ab_trim.specs.Trimmed.{end_of, digest_at};
+ghost use Rattle.ab_hist.specs.Trimmed.{end_of, digest_at};
 ghost use Rattle.ab_trim.specs.Known.{place_by, can_push_by};
 ghost use Rattle.ab_trim.specs.Logs.{log_of, push_log};
 ghost use Rattle.ab_ckpt.specs.Ledgers.{new_account, reply_by, vote_by, executed, answer_of, answered, noted_replies, forgotten, continued, cut_account};

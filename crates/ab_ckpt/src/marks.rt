@@ -1,7 +1,7 @@
 //! The CHECKPOINTs that a replica keeps.
 
 ghost use Rattle.std.specs.Prelude.{◌≡◌, ℕ, ◌<◌, ◌≤◌, ◌↔◌, true, nat_eq, if◌then◌else◌, None, Some, List};
-ghost use Rattle.ab_trim.specs.Trimmed.{Trimmed as TrimmedList};
+ghost use Rattle.ab_hist.specs.Trimmed.{Trimmed as TrimmedList};
 ghost use Rattle.ab_stable.specs.Checkpoints.{Mark, has_mark, all_have as all_have_mark, is_stable as are_stable, due_of};
 ghost use Rattle.ab_ckpt.specs.Marks.{AreByReplica, no_marks, mark_by, keep_mark, later_of, stable_of, is_more, is_point};
 

@@ -8,7 +8,7 @@ use Rattle.ab_num.specs.declared.party.Party.TheVariants.{Replica}
 use Rattle.ab_num.proofs.Lists.{Contains-map, Contains-map_cases}
 use Rattle.ab_hist.specs.declared.request.Request.{Request}
 use Rattle.ab_msg.specs.declared.content.Content.TheVariants.{Abort}
-use Rattle.ab_trim.specs.Trimmed.{Trimmed}
+use Rattle.ab_hist.specs.Trimmed.{Trimmed}
 use Rattle.ab_trim.proofs.Counts.{count_fewer}
 use Rattle.ab_abs.specs.Faults.{is_faulty}
 use Rattle.ab_abs.specs.Acts.{Setting}

@@ -7,7 +7,7 @@ use Rattle.std.proofs.lemmas.Bool.Decides.{nat_tests}
 use Rattle.std.proofs.lemmas.Slice.Eq.{bytes_eq-Decides}
 use Rattle.std.proofs.Math.Nat.{mul-div-le}
 use Rattle.ab_hist.specs.declared.request.Request.{Request}
-use Rattle.ab_trim.specs.Trimmed.{Trimmed, StandsFor, end_of, digest_at, holds}
+use Rattle.ab_hist.specs.Trimmed.{Trimmed, StandsFor, end_of, digest_at, holds}
 use Rattle.ab_stable.specs.Stable.{HasFront}
 use Rattle.ab_stable.specs.Checkpoints.{Mark, has_mark, all_have, is_stable, due_of}
 use Rattle.ab_num.proofs.Lists.{Contains-head, Contains-tail}

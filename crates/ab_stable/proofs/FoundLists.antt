@@ -5,7 +5,7 @@ use Rattle.std.specs.Option.{option_map}
 use Rattle.std.proofs.lemmas.Bool.{cases_Bool, cases_lt, and_parts, le-leb, leb-true, ltb-true}
 use Rattle.std.proofs.lemmas.Bool.Decides.{nat_tests}
 use Rattle.ab_num.proofs.Lists.{Contains-cons_cases}
-use Rattle.ab_trim.specs.Trimmed.{Trimmed, digest_at, holds, cut}
+use Rattle.ab_hist.specs.Trimmed.{Trimmed, digest_at, holds, cut}
 use Rattle.ab_trim.specs.Points.{point_holders, least_holder, IsAgreedList}
 use Rattle.ab_trim.proofs.Stands.{holds-Decides}
 use Rattle.ab_trim.proofs.Counts.{some_passes}

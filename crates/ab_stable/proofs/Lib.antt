@@ -10,7 +10,6 @@ pub mod LaterInstances
 pub mod Reasons
 pub mod NamedLists
 pub mod DueMarks
-pub mod AnswerLaws
 pub mod SmallPoints
 pub mod SmallVotes
 pub mod SmallMarked

@@ -8,7 +8,7 @@ use Rattle.ab_abs.specs.Acts.{State}
 use Rattle.ab_abs.specs.Faults.{is_faulty}
 use Rattle.ab_abs.specs.Observations.{history_at, longest}
 use Rattle.ab_abs.proofs.Fronts.{named_front, front_is}
-use Rattle.ab_trim.specs.Trimmed.{Trimmed, StandsFor, untrimmed}
+use Rattle.ab_hist.specs.Trimmed.{Trimmed, StandsFor, untrimmed}
 use Rattle.ab_trim.specs.Links.{AreApart, IsAmong}
 use Rattle.ab_stable.specs.Stable.{HasFront}
 use Rattle.ab_stable.specs.Wholes.{Place, own_list, whole_first, next_state, whole_of}

@@ -6,7 +6,7 @@ use Rattle.arrayvec.specs.ArrayVec.{ArrayVec}
 use Rattle.ab_num.proofs.Lists.{Contains-none, Contains-cons_cases, count_by-yes, count_by-no}
 use Rattle.ab_hist.specs.declared.request.Request.{Request}
 use Rattle.ab_hist.specs.Digests.{digest_of, link, NoCollision}
-use Rattle.ab_trim.specs.Trimmed.{Trimmed, untrimmed, digest_at, Holds, holds}
+use Rattle.ab_hist.specs.Trimmed.{Trimmed, untrimmed, digest_at, Holds, holds}
 use Rattle.ab_trim.specs.Points.{point_holders, least_holder, IsAgreedList}
 use Rattle.ab_trim.proofs.Chains.{digest_is}
 use Rattle.ab_trim.proofs.Stands.{holds-Decides}

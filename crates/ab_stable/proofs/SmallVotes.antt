@@ -6,7 +6,7 @@ use mathlib.Core.List.{IsPrefix}
 use Rattle.ab_num.proofs.Lists.{Contains-none, Contains-cons_cases}
 use Rattle.ab_hist.specs.declared.request.Request.{Request}
 use Rattle.ab_hist.specs.Digests.{digest_of, link}
-use Rattle.ab_trim.specs.Trimmed.{StandsFor, untrimmed, trim, Holds}
+use Rattle.ab_hist.specs.Trimmed.{StandsFor, untrimmed, trim, Holds}
 use Rattle.ab_trim.specs.Links.{AreApart, links_of, links_of_all}
 use Rattle.ab_trim.specs.Points.{IsAgreedList}
 use Rattle.ab_trim.proofs.Chains.{digest_is, nothing, all_among}

@@ -9,7 +9,7 @@ use Rattle.ab_num.proofs.Lists.{Contains-head, Contains-tail, Contains-cons_case
 use Rattle.ab_hist.specs.declared.request.Request.{Request}
 use Rattle.ab_hist.specs.Requests.{request_eq}
 use Rattle.ab_hist.specs.Digests.{digest_of}
-use Rattle.ab_trim.specs.Trimmed.{Trimmed, StandsFor, end_of, linked_from, Holds, holds, cut}
+use Rattle.ab_hist.specs.Trimmed.{Trimmed, StandsFor, end_of, linked_from, Holds, holds, cut}
 use Rattle.ab_trim.specs.Links.{links_from, links_of, links_of_all}
 use Rattle.ab_abs.specs.Extraction.{IsExtract}
 use Rattle.ab_trim.specs.Points.{point_holders, IsLastPoint, least_holder, IsAgreedList}

@@ -8,7 +8,7 @@ use Rattle.ab_num.proofs.Lists.{Contains-map, Contains-map_cases}
 use Rattle.ab_hist.specs.declared.request.Request.{Request}
 use Rattle.ab_hist.specs.Requests.{request_eq}
 use Rattle.ab_hist.specs.Digests.{digest_of, NoCollision}
-use Rattle.ab_trim.specs.Trimmed.{Trimmed, untrimmed, digest_at, Holds, holds, cut}
+use Rattle.ab_hist.specs.Trimmed.{Trimmed, untrimmed, digest_at, Holds, holds, cut}
 use Rattle.ab_trim.specs.Links.{links_from, links_of_all}
 use Rattle.ab_trim.specs.Points.{point_holders, IsLastPoint, IsAgreedList}
 use Rattle.ab_trim.proofs.Chains.{nothing, AreAmong, same_history, front_among, histories_apart}

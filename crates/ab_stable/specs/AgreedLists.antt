@@ -1,7 +1,7 @@
 -- The list that enough lists agree on, computed: the points of each list are walked, and the one that stands behind most entries is kept.
 use Rattle.std.specs.Prelude.{ℕ, zero, suc, ◌+◌, Bool, true, ◌&&◌, nat_le, nat_lt, if◌then◌else◌, Option, None, Some, List, [], ◌∷◌, length}
 use Rattle.std.specs.Option.{option_map}
-use Rattle.ab_trim.specs.Trimmed.{Trimmed, digest_at, cut}
+use Rattle.ab_hist.specs.Trimmed.{Trimmed, digest_at, cut}
 use Rattle.ab_trim.specs.Points.{point_holders, least_holder}
 
 -- a number of entries, and their digest

@@ -7,7 +7,7 @@ use Rattle.ab_hist.specs.declared.request.Request.{Request}
 use Rattle.ab_msg.specs.declared.content.Content.{Content}
 use Rattle.ab_msg.specs.declared.content.Content.TheVariants.{Abort}
 use Rattle.ab_msg.specs.Carried.{is_replica}
-use Rattle.ab_trim.specs.Trimmed.{Trimmed, StandsFor}
+use Rattle.ab_hist.specs.Trimmed.{Trimmed, StandsFor}
 use Rattle.ab_trim.specs.Points.{IsAgreedList}
 use Rattle.ab_abs.specs.Faults.{is_faulty}
 use Rattle.ab_abs.specs.Acts.{Setting}

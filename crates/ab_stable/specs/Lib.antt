@@ -2,7 +2,6 @@
 pub mod Stable
 pub mod AgreedLists
 pub mod Certs
-pub mod Answers
 pub mod Checkpoints
 pub mod Leaving
 pub mod CertActs

@@ -1,7 +1,7 @@
 -- A certificate of three lists, one of which is a faulty replica's, to try the definitions on.
 use Rattle.std.specs.Prelude.{ℕ, zero, suc, Bool, nat_eq, List, [], ◌∷◌}
 use Rattle.ab_hist.specs.declared.request.Request.{Request}
-use Rattle.ab_trim.specs.Trimmed.{untrimmed, trim}
+use Rattle.ab_hist.specs.Trimmed.{untrimmed, trim}
 use Rattle.ab_trim.specs.Links.{links_of_all}
 use Rattle.ab_stable.specs.Certs.{Stated}
 

@@ -5,7 +5,7 @@ ghost use mathlib.Core.List.{IsPrefix};
 ghost use Rattle.ab_num.specs.declared.party.Party.{Party};
 ghost use Rattle.ab_hist.specs.declared.request.Request.{Request};
 ghost use Rattle.ab_msg.specs.declared.content.Content.{Content};
-ghost use Rattle.ab_trim.specs.Trimmed.{Trimmed};
+ghost use Rattle.ab_hist.specs.Trimmed.{Trimmed};
 ghost use Rattle.ab_abs.specs.declared.seen.Seen.TheVariants.{Cert};
 ghost use Rattle.ab_abs.specs.Backing.{IsBacked, IsCorrect, IsStopped};
 ghost use Rattle.ab_abs.specs.Acts.{Setting, Act, Premises, observations, state_of, log_of, named_in};

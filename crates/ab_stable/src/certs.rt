@@ -4,7 +4,7 @@ ghost use Rattle.std.specs.Prelude.{◌≡◌, ℕ, ◌+◌, ◌*◌, ◌<◌, �
 ghost use mathlib.Core.List.{IsPrefix};
 ghost use Rattle.ab_hist.specs.declared.request.Request.{Request};
 ghost use Rattle.ab_hist.specs.Digests.{NoCollision, digest_of};
-ghost use Rattle.ab_trim.specs.Trimmed.{Trimmed, StandsFor};
+ghost use Rattle.ab_hist.specs.Trimmed.{Trimmed, StandsFor};
 ghost use Rattle.ab_trim.specs.Links.{AreApart, IsAmong};
 ghost use Rattle.ab_trim.specs.Points.{IsAgreedList, point_holders};
 ghost use Rattle.ab_stable.specs.Certs.{Stated, lists_of, IsFair, AreKnown, AreTold, IsWholeCert, IsEqualWhole, HaveOneEnd};

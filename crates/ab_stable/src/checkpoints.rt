@@ -2,7 +2,7 @@
 
 ghost use Rattle.std.specs.Prelude.{◌≡◌, ℕ, ◌<◌, ◌≤◌, Bool, true, None, Some, List, Contains, length};
 ghost use Rattle.ab_hist.specs.declared.request.Request.{Request};
-ghost use Rattle.ab_trim.specs.Trimmed.{Trimmed, StandsFor, digest_at};
+ghost use Rattle.ab_hist.specs.Trimmed.{Trimmed, StandsFor, digest_at};
 ghost use Rattle.ab_stable.specs.Stable.{HasFront};
 ghost use Rattle.ab_stable.specs.Checkpoints.{Mark, due_of, is_stable};
 

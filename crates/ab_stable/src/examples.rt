@@ -5,7 +5,7 @@ ghost use Rattle.arrayvec.specs.ArrayVec.{ArrayVec};
 ghost use Rattle.ab_hist.specs.declared.request.Request.{Request};
 ghost use Rattle.ab_hist.specs.Digests.{NoCollision, digest_of, link};
 ghost use Rattle.ab_svc.specs.Machines.{Reply};
-ghost use Rattle.ab_trim.specs.Trimmed.{untrimmed};
+ghost use Rattle.ab_hist.specs.Trimmed.{untrimmed};
 ghost use Rattle.ab_trim.specs.Links.{AreApart};
 ghost use Rattle.ab_trim.specs.Points.{IsAgreedList};
 ghost use Rattle.ab_abs.specs.declared.seen.Seen.TheVariants.{Committed};

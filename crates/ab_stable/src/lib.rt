@@ -4,7 +4,6 @@
 #![tactic(auto)]
 
 mod acts;
-mod answers;
 mod certs;
 mod checkpoints;
 mod examples;
@@ -16,7 +15,6 @@ pub use acts::{
     checkpoints_can_be_left_out, common_beginnings_are_certified, stable_beginnings_are_certified,
     stable_beginnings_are_kept, stable_beginnings_stay, trimmed_certificates_are_valid,
 };
-pub use answers::answers_are_right;
 pub use certs::{
     certificates_are_whole, enough_lists_share_a_point, equal_lists_are_whole,
     stable_fronts_are_common,

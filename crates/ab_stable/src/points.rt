@@ -3,7 +3,7 @@
 ghost use Rattle.std.specs.Prelude.{◌≡◌, ℕ, ◌+◌, ◌<◌, ◌≤◌, ◌↔◌, None, Some, List, length, map};
 ghost use Rattle.ab_hist.specs.declared.request.Request.{Request};
 ghost use Rattle.ab_hist.specs.Digests.{NoCollision};
-ghost use Rattle.ab_trim.specs.Trimmed.{Trimmed, untrimmed};
+ghost use Rattle.ab_hist.specs.Trimmed.{Trimmed, untrimmed};
 ghost use Rattle.ab_trim.specs.Points.{IsAgreedList, point_holders};
 ghost use Rattle.ab_abs.specs.Extraction.{IsExtract};
 ghost use Rattle.ab_stable.specs.AgreedLists.{agreed_list};

@@ -7,7 +7,7 @@ ghost use Rattle.ab_hist.specs.declared.request.Request.{Request};
 ghost use Rattle.ab_abs.specs.Acts.{State};
 ghost use Rattle.ab_abs.specs.Faults.{is_faulty};
 ghost use Rattle.ab_abs.specs.Observations.{history_at};
-ghost use Rattle.ab_trim.specs.Trimmed.{Trimmed, StandsFor, untrimmed};
+ghost use Rattle.ab_hist.specs.Trimmed.{Trimmed, StandsFor, untrimmed};
 ghost use Rattle.ab_trim.specs.Links.{AreApart, IsAmong};
 ghost use Rattle.ab_stable.specs.Stable.{HasFront};
 ghost use Rattle.ab_stable.specs.Wholes.{Place, next_state, whole_of};

@@ -1,5 +1,5 @@
 use Rattle.std.proofs.Common.{sym, ◌∙◌}
-use Rattle.ab_stable.proofs.AnswerLaws.{right}
+use Rattle.ab_abs.proofs.Steps.{vote_from}
 use Rattle.ab_ckpt.proofs.LedgerLaws.{answers}
 use Rattle.ab_ckpt.proofs.laws.ledgers_answer_as_books.Goals as goal
 
@@ -9,5 +9,5 @@ returns g c =
     record {
       keeps = λ l h m is client. (answers machine l h m 0 is client).0;
       answers = λ l h m b is client. (answers machine l h m b is client).1;
-      right = λ l h m b vote is client le says. right machine l.log.list.start b h m vote le is.log.stands.reaches (sym (answers machine l h m b is client).1 ∙ says);
+      right = λ l h m b vote is client le says. vote_from machine l.log.list.start b h m vote le is.log.stands.reaches (sym (answers machine l h m b is client).1 ∙ says);
     }

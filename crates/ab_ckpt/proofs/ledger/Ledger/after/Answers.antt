@@ -1,7 +1,7 @@
 use Rattle.std.proofs.Common.{◌≡◌, ◌-◌, length, take, ap, sym, ◌∙◌, refl, arith}
 use Rattle.std.proofs.lemmas.Option.{same_Some}
 use Rattle.ab_abs.proofs.BookLemmas.{length-replies_from}
-use Rattle.ab_trim.specs.Trimmed.{end_of, digest_at}
+use Rattle.ab_hist.specs.Trimmed.{end_of, digest_at}
 use Rattle.ab_trim.specs.Logs.{lasts_to}
 use Rattle.ab_ckpt.specs.Ledgers.{noted_replies}
 use Rattle.ab_ckpt.proofs.AccountLemmas.{continued_is, same_account, goes_on}

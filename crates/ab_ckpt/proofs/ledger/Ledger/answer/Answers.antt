@@ -1,5 +1,5 @@
 use Rattle.std.proofs.Common.{◌≡◌, Some, None, true, ap, sym, ◌∙◌, arith}
-use Rattle.ab_trim.specs.Trimmed.{end_of}
+use Rattle.ab_hist.specs.Trimmed.{end_of}
 use Rattle.ab_trim.specs.Known.{place_by, can_push_by}
 use Rattle.ab_trim.specs.Logs.{log_of}
 use Rattle.ab_ckpt.proofs.AccountLemmas.{place_within, pushed_place, answered_new}

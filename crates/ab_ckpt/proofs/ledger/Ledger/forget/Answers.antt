@@ -1,5 +1,5 @@
 use Rattle.std.proofs.Common.{◌-◌, ◌≤◌, take, drop, ap, ◌∙◌, arith}
-use Rattle.ab_trim.specs.Trimmed.{end_of}
+use Rattle.ab_hist.specs.Trimmed.{end_of}
 use Rattle.ab_ckpt.specs.Ledgers.{noted_replies}
 use Rattle.ab_ckpt.proofs.AccountLemmas.{forgot_is, same_account, rotated}
 use Rattle.ab_ckpt.proofs.ledger.Ledger.forget.Goals as goal
