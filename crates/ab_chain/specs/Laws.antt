@@ -16,7 +16,7 @@ use Rattle.ab_num.specs.declared.party.Party.TheVariants.{Replica, Client}
 use Rattle.ab_num.specs.Places.{at_position_of, position_in}
 use Rattle.ab_num.proofs.Lists.{Contains-head, Contains-tail, Contains-cons_cases, Contains-filter_cases, flat_map_cases, Contains-one, Contains-none, Contains-filter}
 use Rattle.ab_hist.specs.declared.request.Request.{Request}
-use Rattle.ab_hist.specs.Histories.{place_in, can_push}
+use Rattle.ab_hist.specs.Known.{known_place, can_push_after}
 use Rattle.ab_svc.specs.Machines.{Machine, Reply, IsReply, serve}
 use Rattle.ab_form.specs.Formats.{EachFits}
 use Rattle.ab_form.specs.Lists.{FitsInside}
@@ -28,7 +28,7 @@ use Rattle.ab_msg.specs.declared.message.Msg.TheVariants as msg
 use Rattle.ab_msg.specs.declared.message.Out.{Out}
 use Rattle.ab_msg.specs.declared.signed.Signed.{Signed}
 use Rattle.ab_msg.specs.Claims.{maker_of, instance_of, passed_at, fresh, stated, signed_in}
-use Rattle.ab_msg.specs.Fields.{IsRequest, IsReply as FitsReply, IsTag, IsBetween, IsWritten, above}
+use Rattle.ab_msg.specs.Fields.{IsRequest, IsReply as FitsReply, IsTag, IsBetween, IsWrittenLog, above}
 use Rattle.ab_msg.specs.Messages.{IsDraft}
 use Rattle.ab_msg.specs.Pens.{Pen}
 use Rattle.ab_abs.specs.declared.seen.Seen.{Seen}
@@ -38,18 +38,19 @@ use Rattle.ab_abs.specs.declared.rule.ReplyRule.{ReplyRule}
 use Rattle.ab_abs.specs.declared.rule.ReplyRule.TheVariants as rules
 use Rattle.ab_abs.specs.Faults.{is_faulty}
 use Rattle.ab_abs.specs.Acts.{Act, Setting, State, IsNoted, unmarked, MayStart, state_of, call_of}
-use Rattle.ab_abs.specs.Answers.{answer_to, logged, logged_at}
+use Rattle.ab_abs.specs.Answers.{answer_from, logged_from, logged_at}
 use Rattle.ab_abs.specs.Kinds.{kind_in, rule_of}
 use Rattle.ab_abs.specs.Rules.{IsOther, IsOtherBy}
 use Rattle.ab_abs.specs.TailRules.{IsPassed, IsTailContent, for_positions, for_client}
 use Rattle.ab_abs.specs.Messages.{Call, took, call_claims, call_values, claims_in, IsFor, IsFormed}
 use Rattle.ab_abs.specs.Ensembles.{begin_of, asked_of, halt_of, statements_of, MayTake}
-use Rattle.ab_abs.specs.FormLaws.{KeepsForm, Belongs, begun, called, halted, Arises, from_entry, by_call, by_stop}
+use Rattle.ab_abs.specs.FormLaws.{KeepsForm, Belongs, begun, called, halted, trimmed, Arises, from_entry, by_call, by_stop, by_trim}
 use Rattle.ab_abs.specs.Members.{Member, member_state, respond, IsAt}
 use Rattle.ab_abs.proofs.Positions.{position_here, position_there}
 use Rattle.ab_abs.proofs.ChainClaims.{tags_checked, request_checked}
-use Rattle.ab_abs.proofs.Drafts.{IsBounded, written_logged, few_replicas, drafts_answer}
-use Rattle.ab_abs.proofs.Steps.{vote_on, logged_more}
+use Rattle.ab_abs.proofs.Prefixes.{prefix_length}
+use Rattle.ab_abs.proofs.Drafts.{IsBounded, written_from, written_there, written_trimmed, few_replicas, drafts_answer}
+use Rattle.ab_abs.proofs.Steps.{vote_on, logged_more, trims_at}
 use Rattle.ab_abs.proofs.TailSteps.{KeepsTail, tail_calls, tail_rests, tail_starts, tail_others}
 use Rattle.ab_chain.specs.Tags.{by_client}
 use Rattle.ab_chain.specs.Passing.{firsts-all, few_passed}
@@ -114,9 +115,13 @@ grows_at log m (Some x) next = prefix_refl log
 grows_at log m None true = (m ∷ [], refl)
 grows_at log m None false = prefix_refl log
 
-pub grows_with : (log : List Request) (t : Task) → IsPrefix log (log_after log t)
-grows_with log idle = prefix_refl log
-grows_with log (passes m vote reply tags) = grows_at log m (place_in log m) (can_push log m)
+pub grows_with : (q : Member) (t : Task) → IsPrefix q.log (log_after q t)
+grows_with q idle = prefix_refl q.log
+grows_with q (passes m vote reply tags) = grows_at q.log m (known_place q.trimmed q.log m) (can_push_after q.trimmed q.log m)
+
+-- so what is trimmed of it stays in it
+pub keeps_trimmed : (q : Member) (t : Task) → q.trimmed ≤ length q.log → q.trimmed ≤ length (log_after q t)
+keeps_trimmed q t low = let longer = prefix_length q.log (log_after q t) (grows_with q t) in omega (arith, low, longer)
 
 -- ---- what is stated is its own
 
@@ -206,21 +211,21 @@ module _ {S : Type 0} (machine : Machine S) where
       }
   has_form q _ formed m vote reply tags is = absurd (cc (is))
 
-  written_with : (log : List Request) (t : Task) → ((m : Request) (vote : Vote) (reply : Option Reply) (tags : List TagBetween) → t ≡ passes m vote reply tags → IsRequest 0 15 m) → IsWritten log → IsWritten (log_after log t)
-  written_with log idle fits was = was
-  written_with log (passes m vote reply tags) fits was = written_logged log m (fits m vote reply tags refl) was
+  written_with : (q : Member) (t : Task) → ((m : Request) (vote : Vote) (reply : Option Reply) (tags : List TagBetween) → t ≡ passes m vote reply tags → IsRequest 0 15 m) → IsWrittenLog q.trimmed q.log → IsWrittenLog q.trimmed (log_after q t)
+  written_with q idle fits was = was
+  written_with q (passes m vote reply tags) fits was = written_from q.trimmed q.log m (fits m vote reply tags refl) was
 
   -- a stopped replica does nothing
   pub no_pass : (q : ChainState) (call : Call) → q.at.stopped ≡ true → task machine q call ≡ idle
   no_pass q (took (msg.Req (Req maker i m) tags)) stopped =
-      let none : answer_of machine q.at m ≡ None = ap (λ b. if b then None else answer_to machine (length q.at.base) q.at.log m) stopped in
+      let none : answer_of machine q.at m ≡ None = ap (λ b. if b then None else answer_from machine q.at.trimmed (length q.at.base) q.at.log m) stopped in
       rw none (either_idle (position_at q == 1))
     where
       either_idle : (b : Bool) → (if b then idle else idle) ≡ idle
       either_idle true = refl
       either_idle false = refl
   no_pass q (took (msg.Chain i m n d reply tags)) stopped =
-      let none : answer_of machine q.at m ≡ None = ap (λ b. if b then None else answer_to machine (length q.at.base) q.at.log m) stopped in
+      let none : answer_of machine q.at m ≡ None = ap (λ b. if b then None else answer_from machine q.at.trimmed (length q.at.base) q.at.log m) stopped in
       rw none (either_idle (position_at q == 1))
     where
       either_idle : (b : Bool) → (if b then idle else idle) ≡ idle
@@ -235,9 +240,10 @@ module _ {S : Type 0} (machine : Machine S) where
     pub owned : q.at.me ≡ r
 
   pub here : (c : Cluster) (i r : ℕ) (q : ChainState) → Belongs (chain machine) is_chain c i r q → IsHere c.f i r q
-  here c i r q (begun e served) = record { sized = refl; placed = refl; owned = refl }
+  here c i r q (begun e served fits) = record { sized = refl; placed = refl; owned = refl }
   here c i r q (called pen p call was) = let h = here c i r p was in record { sized = h.sized; placed = h.placed; owned = h.owned }
   here c i r q (halted p was) = let h = here c i r p was in record { sized = h.sized; placed = h.placed; owned = h.owned }
+  here c i r q (trimmed n p low high was) = let h = here c i r p was in record { sized = h.sized; placed = h.placed; owned = h.owned }
 
   own_law : (c : Cluster) (i r : ℕ) (pen : Pen) (q : ChainState) (call : Call) (o : Out) (s : Content) → Belongs (chain machine) is_chain c i r q → Contains ((chain machine).sends pen q call) o → Contains (fresh c.f (Replica r) o.msg) s → (maker_of s ≡ Replica r) × (instance_of s ≡ i)
   own_law c i r pen q call o s was sent has =
@@ -251,14 +257,18 @@ module _ {S : Type 0} (machine : Machine S) where
 
   bounded : (c : Cluster) (i r : ℕ) (q : ChainState) → Arises (chain machine) is_chain c i r q → IsBoundedLink c i r q
   bounded c i r q (from_entry e served placed lt entry) =
-      record { is = record { sized = refl; placed = refl; owned = refl }; within = lt; at = record { placed = placed; owned = few_replicas c r lt; based = entry.base.0.1; written = entry.base } }
+      record { is = record { sized = refl; placed = refl; owned = refl }; within = lt; at = record { placed = placed; owned = few_replicas c r lt; based = entry.base.few; written = entry.base } }
   bounded c i r q (by_call pen p call signs formed was) =
       let b = bounded c i r p was in
-      let written = written_with p.at.log (task machine p call) (λ m vote reply tags is. (has_form p call formed m vote reply tags is).fits) b.at.written in
+      let written = written_with p.at (task machine p call) (λ m vote reply tags is. (has_form p call formed m vote reply tags is).fits) b.at.written in
       record { is = record { sized = b.is.sized; placed = b.is.placed; owned = b.is.owned }; within = b.within; at = record { placed = b.at.placed; owned = b.at.owned; based = b.at.based; written = written } }
   bounded c i r q (by_stop p was) =
       let b = bounded c i r p was in
       record { is = record { sized = b.is.sized; placed = b.is.placed; owned = b.is.owned }; within = b.within; at = record { placed = b.at.placed; owned = b.at.owned; based = b.at.based; written = b.at.written } }
+  bounded c i r q (by_trim n p low high was) =
+      let b = bounded c i r p was in
+      let written = written_trimmed p.at.trimmed n p.at.log low high b.at.written in
+      record { is = record { sized = b.is.sized; placed = b.is.placed; owned = b.is.owned }; within = b.within; at = record { placed = b.at.placed; owned = b.at.owned; based = b.at.based; written = written } }
 
   module _ (short : (h : List Request) (m : Request) → length (machine.answer (serve machine h) m).items ≤ 72) where
     -- an answer has bytes as it has in a response
@@ -298,13 +308,18 @@ module _ {S : Type 0} (machine : Machine S) where
     pub form_law : KeepsForm (chain machine) is_chain
     form_law = record {
       starts = λ c r. record { logged = refl; entered = refl; first = refl };
-      grows = λ pen q call. grows_with q.at.log (task machine q call);
-      frozen = λ c i r pen q call was stopped. (ap (λ (t : Task). log_after q.at.log t) (no_pass q call stopped), stopped);
+      grows = λ pen q call. grows_with q.at (task machine q call);
+      frozen = λ c i r pen q call was stopped. (ap (λ (t : Task). log_after q.at t) (no_pass q call stopped), stopped);
       halts = λ q. (refl, inl refl);
       begins = λ c i r e. (inl refl, refl);
       enters = λ c i r e. refl;
       entered_stays = λ pen q call. refl;
       entered_rests = λ q. refl;
+      trim_rests = λ n q. refl;
+      trims = λ n q. refl;
+      begins_trimmed = λ c i r e. refl;
+      trimmed_stays = λ pen q call. refl;
+      trimmed_rests = λ q. refl;
       zcert_stays = λ c i r pen q call was stopped. refl;
       zcert_rests = λ q. refl;
       zcert_beside = λ c i r q was. refl;
@@ -313,7 +328,7 @@ module _ {S : Type 0} (machine : Machine S) where
       signed = λ pen q call o v sent has. absurd (sends_unsigned q.f q.at.instance (position_at q) (task machine q call) o v sent has);
       sent = λ pen q call s has. absurd (Contains-none s has);
       settles = λ c i r pen q call cert was is formed. inl refl;
-      written = λ c i r q was. (bounded c i r q was).at.written;
+      written = λ c i r q was. written_there q.at.trimmed q.at.log (bounded c i r q was).at.written;
       zcert_written = λ c i r q was. tt;
       drafts = λ c i r pen q call signs was formed o sent. drafts_law c i r q call (bounded c i r q was) formed o sent;
     }
@@ -329,7 +344,7 @@ contains_at (y ∷ ys) (suc k) x is = Contains-tail y x ys (contains_at ys k x i
 -- what a position may pass on: the answer is its own, and is as those before it stated
 record MayPass {S : Type 0} (machine : Machine S) (x : Setting) (claims : List Content) (p : ℕ) (q : Member) (m : Request) (vote : Vote) (reply : Option Reply) : Type 0 where
   open' : q.stopped ≡ false
-  answers : answer_to machine (length q.base) q.log m ≡ Some vote
+  answers : answer_from machine q.trimmed (length q.base) q.log m ≡ Some vote
   reply_is : 2 * x.cluster.f < p → reply ≡ Some vote.reply
   asked : p ≤ x.cluster.f + 1 → Contains claims (Req (Client m.client) x.i m)
   stated' : (r : ℕ) → 1 ≤ r → r < p → p ≤ r + x.cluster.f + 1 → Contains claims (ChainTag (Replica (at_position_of x.cluster.f x.i r)) x.i m.client m.stamp vote.n vote.d)
@@ -377,16 +392,16 @@ module _ {S : Type 0} (machine : Machine S) (x : Setting) where
         let p = position_here x.cluster.f x.i me was.stands.within in
         let s = member_state q in
         let next = tail_rests machine x acts me (position_in x.cluster.f x.i me) claims values seen s s noted p.0 p.1 p.2 refl refl (λ halt. halt) was.stands in
-        (record { placed = was.placed; owned = was.owned; stands = next.0 }, next.1)
+        (record { placed = was.placed; owned = was.owned; trimmed = was.trimmed; stands = next.0 }, next.1)
     on_with me q (passes m vote reply tags) claims values seen may noted was =
         let p = position_in x.cluster.f x.i me in
         let here = position_here x.cluster.f x.i me was.stands.within in
         let ok = may m vote reply tags refl in
         let new = member_state (moved q (passes m vote reply tags)) in
-        let v = vote_on machine q.base q.log m vote was.stands.begins ok.answers in
-        let more = logged_more q.log m was.stands.rises in
+        let v = vote_on machine q.trimmed q.base q.log m vote was.stands.begins was.trimmed ok.answers in
+        let more = logged_more q.trimmed q.log m was.stands.rises in
         let passed : IsPassed x claims new p m vote.n vote.d = record {
-          stands = contains_at (take vote.n (logged q.log m)) v.replied.before m v.replied.stands;
+          stands = contains_at (take vote.n (logged_from q.trimmed q.log m)) v.replied.before m v.replied.stands;
           digest = v.digest;
           above = v.above;
           reaches = v.reaches;
@@ -414,7 +429,7 @@ module _ {S : Type 0} (machine : Machine S) (x : Setting) where
               states_passed claims new p me m vote.n vote.d vote.reply reply passed v.replied ok.reply_is s
               (Contains-filter_cases (λ t. party_eq (maker_of t) (Replica me)) (passed_at x.cluster.f x.i m vote.n vote.d reply me p) s has').0;
         }) noted in
-        (record { placed = was.placed; owned = was.owned; stands = next.0 }, next.1)
+        (record { placed = was.placed; owned = was.owned; trimmed = keeps_trimmed q (passes m vote reply tags) was.trimmed; stands = next.0 }, next.1)
 
     -- a call, where it is known that the value is this replica's
     may_pass : (me : ℕ) (q : ChainState) (call : Call) → q.f ≡ x.cluster.f → q.at.instance ≡ x.i → q.at.me ≡ me → IsFor x.i call
@@ -429,13 +444,13 @@ module _ {S : Type 0} (machine : Machine S) (x : Setting) where
         let at_one : position_in x.cluster.f x.i me ≡ 1 = sym p_is ∙ one in
         let found = passing_is q.f p n m None given (answer_of machine q.at n) vote reply tags first.1 in
         let n_is : n ≡ m = found.same in
-        let ans = answered machine q.at n q.at.stopped (answer_to machine (length q.at.base) q.at.log n) vote found.answers in
+        let ans = answered machine q.at n q.at.stopped (answer_from machine q.at.trimmed (length q.at.base) q.at.log n) vote found.answers in
         let some = x.cluster.in_bounds.some_faulty in
         let here : i ≡ x.i = cc (for) in
         let own : maker ≡ Client n.client = formed.0.0 in
         record {
           open' = ans.0;
-          answers = subst (λ (z : Request). answer_to machine (length q.at.base) q.at.log z ≡ Some vote) n_is ans.1;
+          answers = subst (λ (z : Request). answer_from machine q.at.trimmed (length q.at.base) q.at.log z ≡ Some vote) n_is ans.1;
           reply_is = λ lt. absurd (omega (arith, lt, at_one, some));
           asked = λ near.
               let s : Content = Req maker i n in
@@ -452,7 +467,7 @@ module _ {S : Type 0} (machine : Machine S) (x : Setting) where
         let found = passing_is q.f p n m came given o vote reply tags (if_false (p == 1) (passing q.f p n came given o) m vote reply tags is) in
         let n_is : n ≡ m = found.same in
         let agree = agreed_is q.f p k d came (answer_of machine q.at n) vote found.answers in
-        let ans = answered machine q.at n q.at.stopped (answer_to machine (length q.at.base) q.at.log n) vote agree.0 in
+        let ans = answered machine q.at n q.at.stopped (answer_from machine q.at.trimmed (length q.at.base) q.at.log n) vote agree.0 in
         let both = and_parts (is_numbered k d vote) (nat_le p (2 * q.f + 1) || same_reply came vote.reply) agree.1 in
         let nd = and_parts (vote.n == k) (bytes_eq vote.d d) both.0 in
         let k_is : vote.n ≡ k = eqb-true vote.n k nd.0 in
@@ -461,7 +476,7 @@ module _ {S : Type 0} (machine : Machine S) (x : Setting) where
         let pos_i : position_in x.cluster.f x.i me ≡ position_in x.cluster.f i me = ap (λ z. position_in x.cluster.f z me) (sym here) in
         record {
           open' = ans.0;
-          answers = subst (λ (z : Request). answer_to machine (length q.at.base) q.at.log z ≡ Some vote) n_is ans.1;
+          answers = subst (λ (z : Request). answer_from machine q.at.trimmed (length q.at.base) q.at.log z ≡ Some vote) n_is ans.1;
           reply_is = λ lt. found.replies ∙ late_reply q.f p came vote.reply (omega (arith, lt, p_is, same));
           asked = λ near.
               let s : Content = Req (Client n.client) i n in
@@ -480,16 +495,19 @@ module _ {S : Type 0} (machine : Machine S) (x : Setting) where
     abbrev pub LinkStands : ChainState → ℕ → Type 0
     LinkStands q me = IsAt x q.at me (state_of acts me) × (q.f ≡ x.cluster.f)
 
-    pub start_law : (me : ℕ) (e : Entry) → MayStart x acts me e.base → LinkGoes me ((chain machine).begin x.cluster x.i me e).at (begin_of (chain machine) x me e)
-    start_law me e may =
+    pub start_law : (me : ℕ) (e : Entry) → e.trimmed ≤ length e.base → MayStart x acts me e.base → LinkGoes me ((chain machine).begin x.cluster x.i me e).at (begin_of (chain machine) x me e)
+    start_law me e low may =
         let next = tail_starts machine x acts me e.base (member_state ((chain machine).begin x.cluster x.i me e).at) (record { based = refl; logged = refl }) may in
-        (record { placed = refl; owned = refl; stands = next.0 }, next.1)
+        (record { placed = refl; owned = refl; trimmed = low; stands = next.0 }, next.1)
 
     pub stop_law : (me : ℕ) (q : ChainState) → LinkStands q me → LinkGoes me ((chain machine).halt q).at (halt_of (chain machine) me q)
     stop_law me q was =
         let p = position_there x.cluster.f x.i me was.0.stands.within in
         let next = tail_rests machine x acts me p.0 [] [] [] (member_state q.at) (member_state ((chain machine).halt q).at) (unmarked refl) p.1 p.2 p.3 refl refl (λ _. refl) was.0.stands in
-        (record { placed = was.0.placed; owned = was.0.owned; stands = next.0 }, next.1)
+        (record { placed = was.0.placed; owned = was.0.owned; trimmed = was.0.trimmed; stands = next.0 }, next.1)
+
+    pub trim_law : (me n : ℕ) (q : ChainState) → n ≤ length q.at.log → LinkStands q me → LinkStands ((chain machine).trim n q) me
+    trim_law me n q high was = (trims_at x me q.at ((chain machine).trim n q).at (state_of acts me) refl refl refl high was.0, was.1)
 
     pub on_law : (me : ℕ) (pen : Pen) (q : ChainState) (call : Call) (seen : List Seen) → MayTake (chain machine) x acts me pen q call seen → LinkStands q me
         → LinkGoes me ((chain machine).after pen q call).at (asked_of (chain machine) x me pen q call seen)

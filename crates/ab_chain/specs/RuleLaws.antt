@@ -1,5 +1,5 @@
 -- Chain keeps to what a rule table has to.
-use Rattle.std.proofs.Common.{◌≡◌, ℕ, ◌+◌, ◌*◌, ◌<◌, Bool, true, false, Option, None, Some, List, [], ◌∷◌, length, map, refl, sym, ap, ◌∙◌, subst, inl, inr, arith, if◌then◌else◌}
+use Rattle.std.proofs.Common.{◌≡◌, ℕ, ◌+◌, ◌*◌, ◌<◌, ◌≤◌, Bool, true, false, Option, None, Some, List, [], ◌∷◌, length, map, refl, sym, ap, ◌∙◌, subst, inl, inr, arith, if◌then◌else◌}
 use Rattle.std.specs.Prelude.{Contains, IsTrue, ◌==◌, nat_le, nat_lt}
 use Rattle.std.proofs.lemmas.Bool.{cases_Bool}
 use mathlib.Core.List.{IsPrefix}
@@ -20,17 +20,17 @@ use Rattle.ab_msg.specs.declared.message.Out.{Out}
 use Rattle.ab_msg.specs.Claims.{passed_at, fresh}
 use Rattle.ab_abs.specs.declared.vote.Vote.{Vote}
 use Rattle.ab_abs.specs.Acts.{State}
-use Rattle.ab_abs.specs.Answers.{answer_to}
+use Rattle.ab_abs.specs.Answers.{answer_from}
 use Rattle.ab_abs.specs.Kinds.{is_backup}
-use Rattle.ab_abs.specs.Members.{member_state}
+use Rattle.ab_abs.specs.Members.{Member, member_state}
 use Rattle.ab_abs.specs.Messages.{Call, took}
-use Rattle.ab_abs.specs.FormLaws.{Belongs, begun, called, halted}
+use Rattle.ab_abs.specs.FormLaws.{Belongs, begun, called, halted, trimmed}
 use Rattle.ab_abs.specs.RuleLaws.{KeepsRules, IsBackedBy, speaks_of_call, may_take}
 use Rattle.ab_abs.proofs.Steps.{IsVoteOn, vote_on}
 use Rattle.ab_abs.proofs.TableLemmas.{served, untaken, begins_there, not_both, logged_by, response_backed}
 use Rattle.ab_chain.specs.Tags.{by_client}
 use Rattle.ab_chain.specs.Rules.{ChainState, is_chain, position_at, Task, idle, passes, agreed, passing, answer_of, kept_of, task, log_after, sends_with, moved, goes, sent_by, chain}
-use Rattle.ab_chain.specs.Laws.{answered, if_true, if_false, passing_is, agreed_is, late_reply, grows_with, no_pass, here}
+use Rattle.ab_chain.specs.Laws.{answered, if_true, if_false, passing_is, agreed_is, late_reply, grows_with, no_pass, here, keeps_trimmed}
 
 no_backup : (k : Kind) → IsTrue (is_chain k) → is_backup k ≡ false
 no_backup kind.Quorum is = refl
@@ -41,6 +41,17 @@ no_backup kind.ZCert is = refl
 
 over : (a b : ℕ) → nat_le a b ≡ false → b < a
 over a b no' = grind (arith, no')
+
+-- the log goes on from its base, and the entries that are trimmed stay in it
+record IsRooted (q : Member) : Type 0 where
+  begins : IsPrefix q.base q.log
+  within : q.trimmed ≤ length q.log
+
+rooted_with : (q : Member) (t : Task) → IsRooted q → IsRooted (moved q t)
+rooted_with q t was = record {
+  begins = prefix_trans q.base q.log (log_after q t) was.begins (grows_with q t);
+  within = keeps_trimmed q t was.within;
+}
 
 module _ {S : Type 0} (machine : Machine S) where
   -- a call of which no rule speaks asks for nothing
@@ -78,10 +89,11 @@ module _ {S : Type 0} (machine : Machine S) where
       }
   passes_own q _ m vote reply tags is = absurd (cc (is))
 
-  based : (c : Cluster) (i r : ℕ) (q : ChainState) → Belongs (chain machine) is_chain c i r q → IsPrefix q.at.base q.at.log
-  based c i r q (begun e is) = prefix_refl e.base
-  based c i r q (called pen p call was) = prefix_trans p.at.base p.at.log (log_after p.at.log (task machine p call)) (based c i r p was) (grows_with p.at.log (task machine p call))
-  based c i r q (halted p was) = based c i r p was
+  rooted : (c : Cluster) (i r : ℕ) (q : ChainState) → Belongs (chain machine) is_chain c i r q → IsRooted q.at
+  rooted c i r q (begun e is low) = record { begins = prefix_refl e.base; within = low }
+  rooted c i r q (called pen p call was) = rooted_with p.at (task machine p call) (rooted c i r p was)
+  rooted c i r q (halted p was) = let h = rooted c i r p was in record { begins = h.begins; within = h.within }
+  rooted c i r q (trimmed n p low high was) = let h = rooted c i r p was in record { begins = h.begins; within = high }
 
   -- what position p states as it passes a vote on
   passed_backed : (at : State) (f i : ℕ) (m : Request) (vote : Vote) (reply : Option Reply) (r p : ℕ) (s : Content) → IsVoteOn machine at.base at.log m vote → (2 * f < p → reply ≡ Some vote.reply)
@@ -111,18 +123,18 @@ module _ {S : Type 0} (machine : Machine S) where
             ]
       ]
 
-  backed_with : (f r : ℕ) (q : ChainState) (t : Task) (o : Out) (s : Content) → q.f ≡ f → q.at.me ≡ r → IsPrefix q.at.base q.at.log
+  backed_with : (f r : ℕ) (q : ChainState) (t : Task) (o : Out) (s : Content) → q.f ≡ f → q.at.me ≡ r → IsRooted q.at
       → ((m : Request) (vote : Vote) (reply : Option Reply) (tags : List TagBetween) → t ≡ passes m vote reply tags → IsOwnAnswer q m vote reply)
       → Contains (sent_by q t) o → Contains (fresh f (Replica r) o.msg) s → IsBackedBy machine (member_state (moved q.at t)) s
-  backed_with f r q idle o s sized owned begins own sent has = absurd (Contains-none o sent)
-  backed_with f r q (passes m vote reply tags) o s sized owned begins own sent has =
+  backed_with f r q idle o s sized owned rooted own sent has = absurd (Contains-none o sent)
+  backed_with f r q (passes m vote reply tags) o s sized owned rooted own sent has =
       let a = own m vote reply tags refl in
-      let open' = answered machine q.at m q.at.stopped (answer_to machine (length q.at.base) q.at.log m) vote a.answers in
+      let open' = answered machine q.at m q.at.stopped (answer_from machine q.at.trimmed (length q.at.base) q.at.log m) vote a.answers in
       let i = q.at.instance in
       let e = Contains-one _ o sent in
       let has' : Contains (passed_at f i m vote.n vote.d reply r (position_in f i r)) s = subst (λ (z : Out). Contains (fresh f (Replica r) z.msg) s) (sym e) has in
       let place : position_at q ≡ position_in f i r = ap (λ g. position_in g i q.at.me) sized ∙ ap (λ n. position_in f i n) owned in
-      passed_backed (member_state (moved q.at (passes m vote reply tags))) f i m vote reply r (position_in f i r) s (vote_on machine q.at.base q.at.log m vote begins open'.1) (λ lt. a.replied (omega (arith, lt, place, sized))) has'
+      passed_backed (member_state (moved q.at (passes m vote reply tags))) f i m vote reply r (position_in f i r) s (vote_on machine q.at.trimmed q.at.base q.at.log m vote rooted.begins rooted.within open'.1) (λ lt. a.replied (omega (arith, lt, place, sized))) has'
 
   abbrev StaysBy : ChainState → Task → Type 0
   StaysBy q t = (goes q t ≡ q) × (sent_by q t ≡ [])
@@ -140,7 +152,7 @@ module _ {S : Type 0} (machine : Machine S) where
   pub rule_law : KeepsRules machine (chain machine) is_chain
   rule_law = record {
     answers = λ c i r pen q call o s was sent has.
-        let h = here machine c i r q was in backed_with c.f r q (task machine q call) o s h.sized h.owned (based c i r q was) (passes_own q call) sent has;
+        let h = here machine c i r q was in backed_with c.f r q (task machine q call) o s h.sized h.owned (rooted c i r q was) (passes_own q call) sent has;
     ignores = λ c i r pen q call was shut. let w = still (kind_of c.plan i) q call (served (chain machine) is_chain c i r q was) shut in (w.0, w.1, refl);
     begins = λ c i r e is. begins_there (kind_of c.plan i) e.base (no_backup (kind_of c.plan i) is);
     stops = λ c i r q was other. refl;

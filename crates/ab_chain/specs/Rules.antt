@@ -14,7 +14,7 @@ use Rattle.ab_msg.specs.declared.message.Msg.{Msg}
 use Rattle.ab_msg.specs.declared.message.Msg.TheVariants as msg
 use Rattle.ab_msg.specs.declared.message.Out.{Out}
 use Rattle.ab_abs.specs.declared.vote.Vote.{Vote}
-use Rattle.ab_abs.specs.Answers.{answer_to, logged}
+use Rattle.ab_abs.specs.Answers.{answer_from, logged_from}
 use Rattle.ab_abs.specs.Members.{Member, member_state}
 use Rattle.ab_abs.specs.Messages.{Call, took, timed}
 use Rattle.ab_abs.specs.Ensembles.{Proto}
@@ -77,7 +77,7 @@ passing f p m came tags (Some vote) = passes m vote (reply_from f p came vote.re
 
 -- a replica that isn't stopped answers by the answer rule
 abbrev pub answer_of : {S : Type 0} → Machine S → Member → Request → Option Vote
-answer_of machine q m = if q.stopped then None else answer_to machine (length q.base) q.log m
+answer_of machine q m = if q.stopped then None else answer_from machine q.trimmed (length q.base) q.log m
 
 abbrev pub kept_of : ChainState → Request → List TagBetween → List TagBetween
 kept_of q m tags = passed_on q.f q.at.instance m.client (position_at q) tags
@@ -96,9 +96,9 @@ module _ {S : Type 0} (machine : Machine S) where
   task q (took m) = task_of q m
   task q timed = idle
 
-abbrev pub log_after : List Request → Task → List Request
-log_after log idle = log
-log_after log (passes m vote reply tags) = logged log m
+abbrev pub log_after : Member → Task → List Request
+log_after q idle = q.log
+log_after q (passes m vote reply tags) = logged_from q.trimmed q.log m
 
 -- to the next position, or to the client
 abbrev pub next_of : ℕ → ℕ → ℕ → ℕ → Party
@@ -109,7 +109,7 @@ sends_with f i p idle = []
 sends_with f i p (passes m vote reply tags) = record { to = next_of f i p m.client; msg = msg.Chain i m vote.n vote.d reply tags } ∷ []
 
 abbrev pub moved : Member → Task → Member
-moved q t = record { instance = q.instance; me = q.me; base = q.base; log = log_after q.log t; stopped = q.stopped }
+moved q t = record { instance = q.instance; me = q.me; base = q.base; trimmed = q.trimmed; log = log_after q t; stopped = q.stopped }
 
 abbrev pub goes : ChainState → Task → ChainState
 goes q t = record { f = q.f; at = moved q.at t }
@@ -117,17 +117,19 @@ goes q t = record { f = q.f; at = moved q.at t }
 -- with an answer the request is logged
 abbrev pub logging : ChainState → Request → Option Vote → ChainState
 logging q m None = q
-logging q m (Some vote) = record { f = q.f; at = record { instance = q.at.instance; me = q.at.me; base = q.at.base; log = logged q.at.log m; stopped = q.at.stopped } }
+logging q m (Some vote) = record { f = q.f; at = record q.at { log = logged_from q.at.trimmed q.at.log m } }
 
 abbrev pub sent_by : ChainState → Task → List Out
 sent_by q t = sends_with q.f q.at.instance (position_at q) t
 
 abbrev pub chain : {S : Type 0} → Machine S → Proto ChainState
 chain machine = record {
-  begin = λ c i r e. record { f = c.f; at = record { instance = i; me = r; base = e.base; log = e.base; stopped = false } };
+  begin = λ c i r e. record { f = c.f; at = record { instance = i; me = r; base = e.base; trimmed = e.trimmed; log = e.base; stopped = false } };
   after = λ pen q call. goes q (task machine q call);
   sends = λ pen q call. sent_by q (task machine q call);
   signs = λ q call. [];
-  halt = λ q. record { f = q.f; at = record { instance = q.at.instance; me = q.at.me; base = q.at.base; log = q.at.log; stopped = true } };
+  halt = λ q. record { f = q.f; at = record { instance = q.at.instance; me = q.at.me; base = q.at.base; trimmed = q.at.trimmed; log = q.at.log; stopped = true } };
+  trim = λ n q. record { f = q.f; at = record q.at { trimmed = n } };
+  trimmed = λ q. q.at.trimmed;
   state = λ q. member_state q.at;
 }

@@ -3,12 +3,12 @@
 ghost use Rattle.std.specs.Prelude.{◌≡◌, ◌+◌, ◌*◌, ◌<◌, ◌≤◌, ◌==◌, ◌&&◌, true, [], ◌∷◌, ◌++◌, Some, None, IfOk, OnErr, if◌then◌else◌, length, take, map, option_map, vec_len};
 ghost use Rattle.std.specs.Vec.{vec_capacity};
 ghost use Rattle.std.specs.Str.{bytes_eq};
-ghost use Rattle.ab_hist.specs.Histories.{place_in, can_push};
+ghost use Rattle.ab_hist.specs.Known.{known_place, can_push_after};
 ghost use Rattle.ab_hist.specs.Digests.{digest_of};
 ghost use Rattle.ab_form.specs.Lists.{FitsInside};
 ghost use Rattle.ab_msg.specs.Fields.{IsReply};
 ghost use Rattle.ab_wire.specs.Views.{chain_tags, reply_of, tags as tags_of};
-ghost use Rattle.ab_abs.specs.Answers.{answer_to, logged};
+ghost use Rattle.ab_abs.specs.Answers.{answer_from, logged_from};
 ghost use Rattle.ab_chain.specs.Tags.{by_client};
 ghost use Rattle.ab_chain.specs.Rules.{position_at, answer_of, agreed, goes, idle, is_answered, kept_of, logging, next_of, passing, replied_so, reply_from as passed_reply, same_reply as test_reply, sent_by};
 
@@ -36,6 +36,7 @@ pub struct Chain<S: Service> {
     me: u8,
     base: usize,
     book: Book<S>,
+    trimmed: usize,
     trial: Trial<S>,
     stopped: bool,
 }
@@ -49,6 +50,7 @@ impl<S: Service> Drop for Chain<S> {
             me: _,
             base: _,
             book: _,
+            trimmed: _,
             trial: _,
             stopped: _,
         } = self;
@@ -62,9 +64,9 @@ impl<S: Service> Model for Chain<S> {
 
     ghost Value = { ChainState };
 
-    ghost view = { λ q. record { f = q.cluster.f; at = record { instance = q.instance; me = q.me; base = take q.base q.book; log = q.book; stopped = q.stopped } } };
+    ghost view = { λ q. record { f = q.cluster.f; at = record { instance = q.instance; me = q.me; base = take q.base q.book; trimmed = q.trimmed; log = q.book; stopped = q.stopped } } };
 
-    ghost invariant = { λ q. (q.base ≤ length q.book) × (1 ≤ q.instance) × (q.me < 3 * q.cluster.f + 1) × HasServed S.machine q.book q.trial.served q.trial.state };
+    ghost invariant = { λ q. (q.base ≤ length q.book) × (q.trimmed ≤ length q.book) × (1 ≤ q.instance) × (q.me < 3 * q.cluster.f + 1) × HasServed S.machine q.book q.trial.served q.trial.state };
 }
 
 /// Whether the log's first `k` entries have the number `n` and the digest `d`.
@@ -113,21 +115,21 @@ impl<S: Service> Chain<S> {
 
     /// Whether the answer to a request has the number `n` and the digest `d`.
     fn is_answer(&self, m: &Request, n: u16, d: &[u8; 32]) -> bool
-        ensures { result ≡ is_answered n d.now (answer_to S.machine (length self.now.at.base) self.now.at.log m.now) }
+        ensures { result ≡ is_answered n d.now (answer_from S.machine self.now.at.trimmed (length self.now.at.base) self.now.at.log m.now) }
     {
         let log = self.book.log();
-        match log.place_of(m) {
-            Some(x) => has_digest(log, x.max(self.base), n, d),
-            None => log.can_push(m) && has_next(log, m, n, d),
+        match log.known_place(self.trimmed, m) {
+            Some(x) => has_digest(log, x.max(self.base.max(self.trimmed)), n, d),
+            None => log.can_push_after(self.trimmed, m) && has_next(log, m, n, d),
         }
     }
 
     /// Logs and answers a request by the answer rule.
     fn answer(&mut self, alloc: Global, m: &Request) -> Result<Option<Vote>, OutOfMemory>
-        ensures ok { IfOk result (λ vote. (vote ≡ answer_to S.machine (length self.old.at.base) self.old.at.log m.now) × (self.new ≡ logging self.old m.now vote)) }
+        ensures ok { IfOk result (λ vote. (vote ≡ answer_from S.machine self.old.at.trimmed (length self.old.at.base) self.old.at.log m.now) × (self.new ≡ logging self.old m.now vote)) }
         ensures err { OnErr result (self.new ≡ self.old) }
     {
-        self.book.answer(alloc, self.base, m)
+        self.book.answer(alloc, self.trimmed, self.base, m)
     }
 
     /// The answer to a request that isn't logged for it, if it has this reply.
@@ -137,8 +139,8 @@ impl<S: Service> Chain<S> {
         m: &Request,
         came: &Option<Reply>,
     ) -> Result<Option<Vote>, OutOfMemory>
-        requires { logged self.old.at.log m.now ≡ self.old.at.log }
-        ensures ok { IfOk result (λ vote. vote ≡ replied_so came.now (answer_to S.machine (length self.old.at.base) self.old.at.log m.now)) }
+        requires { logged_from self.old.at.trimmed self.old.at.log m.now ≡ self.old.at.log }
+        ensures ok { IfOk result (λ vote. vote ≡ replied_so came.now (answer_from S.machine self.old.at.trimmed (length self.old.at.base) self.old.at.log m.now)) }
         ensures same { self.new ≡ self.old }
     {
         match self.answer(alloc, m)? {
@@ -161,8 +163,8 @@ impl<S: Service> Chain<S> {
         m: &Request,
         came: &Option<Reply>,
     ) -> Result<Option<Vote>, OutOfMemory>
-        requires { (place_in self.old.at.log m.now ≡ None) × (can_push self.old.at.log m.now ≡ true) }
-        ensures ok { IfOk result (λ vote. (vote ≡ replied_so came.now (answer_to S.machine (length self.old.at.base) self.old.at.log m.now)) × (self.new ≡ logging self.old m.now vote)) }
+        requires { (known_place self.old.at.trimmed self.old.at.log m.now ≡ None) × (can_push_after self.old.at.trimmed self.old.at.log m.now ≡ true) }
+        ensures ok { IfOk result (λ vote. (vote ≡ replied_so came.now (answer_from S.machine self.old.at.trimmed (length self.old.at.base) self.old.at.log m.now)) × (self.new ≡ logging self.old m.now vote)) }
         ensures err { OnErr result (self.new ≡ self.old) }
     {
         let fresh = Trial::new(alloc)?;
@@ -171,7 +173,7 @@ impl<S: Service> Chain<S> {
             self.trial = fresh;
             return Ok(None);
         }
-        let vote = self.book.answer(alloc, self.base, m);
+        let vote = self.book.answer(alloc, self.trimmed, self.base, m);
         if vote.is_err() {
             self.trial = fresh;
         }
@@ -185,10 +187,11 @@ impl<S: Service> Chain<S> {
         m: &Request,
         came: &Option<Reply>,
     ) -> Result<Option<Vote>, OutOfMemory>
-        ensures ok { IfOk result (λ vote. (vote ≡ replied_so came.now (answer_to S.machine (length self.old.at.base) self.old.at.log m.now)) × (self.new ≡ logging self.old m.now vote)) }
+        ensures ok { IfOk result (λ vote. (vote ≡ replied_so came.now (answer_from S.machine self.old.at.trimmed (length self.old.at.base) self.old.at.log m.now)) × (self.new ≡ logging self.old m.now vote)) }
         ensures err { OnErr result (self.new ≡ self.old) }
     {
-        if self.book.log().place_of(m).is_none() && self.book.log().can_push(m) {
+        let log = self.book.log();
+        if log.known_place(self.trimmed, m).is_none() && log.can_push_after(self.trimmed, m) {
             self.extend(alloc, m, came)
         } else {
             self.repeat(alloc, m, came)
@@ -204,7 +207,7 @@ impl<S: Service> Chain<S> {
         d: &[u8; 32],
         came: &Option<Reply>,
     ) -> Result<Option<Vote>, OutOfMemory>
-        ensures ok { IfOk result (λ vote. (vote ≡ agreed self.old.f (position_at self.old) n d.now came.now (answer_to S.machine (length self.old.at.base) self.old.at.log m.now)) × (self.new ≡ logging self.old m.now vote)) }
+        ensures ok { IfOk result (λ vote. (vote ≡ agreed self.old.f (position_at self.old) n d.now came.now (answer_from S.machine self.old.at.trimmed (length self.old.at.base) self.old.at.log m.now)) × (self.new ≡ logging self.old m.now vote)) }
         ensures err { OnErr result (self.new ≡ self.old) }
     {
         if !self.is_answer(m, n, d) {
@@ -361,6 +364,7 @@ impl<S: Service> Protocol<S> for Chain<S> {
             me,
             base: e.base.len(),
             book,
+            trimmed: e.trimmed,
             trial,
             stopped: false,
         })
@@ -398,6 +402,14 @@ impl<S: Service> Protocol<S> for Chain<S> {
         self.stopped = true;
     }
 
+    fn trim(&mut self, n: usize) {
+        self.trimmed = n;
+    }
+
+    fn trimmed(&self) -> usize {
+        self.trimmed
+    }
+
     fn may_panic(&self) -> bool {
         true
     }
@@ -411,6 +423,7 @@ impl<S: Service> Protocol<S> for Chain<S> {
             me: self.me,
             base: self.base,
             book,
+            trimmed: self.trimmed,
             trial,
             stopped: self.stopped,
         })
@@ -444,10 +457,12 @@ impl<S: Service> Protocol<S> for Chain<S> {
     ghost use Rattle.ab_abs.proofs.TailCommits.{tail_promises};
     ghost use Rattle.ab_abs.proofs.TailSteps.{tail_nil};
     ghost use Rattle.ab_abs.proofs.Steps.{stays_at};
-    ghost use Rattle.ab_chain.specs.Laws.{form_law, start_law, on_law, stop_law, others_law};
+    ghost use Rattle.ab_chain.specs.Laws.{form_law, start_law, on_law, stop_law, trim_law, others_law};
     ghost use Rattle.ab_chain.specs.RuleLaws.{rule_law};
 
     ghost stands_stays = { λ x acts a me q still was. (stays_at x acts a me q.at still was.0, was.1) };
+
+    ghost stands_trimmed = { λ x acts me n q low high. trim_law S.machine x acts me n q high };
 
     ghost formed = { form_law S.machine S.short };
 
@@ -455,7 +470,7 @@ impl<S: Service> Protocol<S> for Chain<S> {
 
     ghost sound_nil = { λ x served. tail_nil S.machine x };
 
-    ghost lawful_start = { λ x acts me e served may was. let law = start_law S.machine x acts me e may in ((law.0, λ i. x.cluster.f), law.1 was) };
+    ghost lawful_start = { λ x acts me e served low may was. let law = start_law S.machine x acts me e low may in ((law.0, λ i. x.cluster.f), law.1 was) };
 
     ghost lawful_on = { λ x acts me pen p m seen served may was. let law = on_law S.machine x acts me pen p m seen may was in ((law.0, was.1), law.1) };
 

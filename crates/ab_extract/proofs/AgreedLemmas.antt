@@ -183,7 +183,8 @@ fit_held : (replicas f : ℕ) (b : Bool) (s : Signed) → IsAbort replicas s →
 fit_held replicas f true s is fits z there =
     elim is.content_is [
       | inl e ↦ absurd (let two : None ≡ Some z = sym (ap zcert_in e) ∙ there in cc (two))
-      | inr e ↦
+      | inr (inr t) ↦ absurd (let two : None ≡ Some z = sym (ap zcert_in t.2) ∙ there in cc (two))
+      | inr (inl e) ↦
           let beside : is_beside f (log_in s.content) (Some z) ≡ true = sym (ap (is_beside f (log_in s.content)) there) ∙ sym (ap (is_fit true f) e) ∙ fits in
           let both = and_parts (has_front (log_in s.content) z.n z.d) (is_quorum f z) beside in
           ((has_front-Decides (log_in s.content) z.n z.d).0 both.0).0
@@ -191,7 +192,8 @@ fit_held replicas f true s is fits z there =
 fit_held replicas f false s is fits z there =
     elim is.content_is [
       | inl e ↦ absurd (let two : None ≡ Some z = sym (ap zcert_in e) ∙ there in cc (two))
-      | inr e ↦ absurd (let two : false ≡ true = sym (ap (is_fit false f) e) ∙ fits in cc (two))
+      | inr (inl e) ↦ absurd (let two : false ≡ true = sym (ap (is_fit false f) e) ∙ fits in cc (two))
+      | inr (inr t) ↦ absurd (let two : None ≡ Some z = sym (ap zcert_in t.2) ∙ there in cc (two))
     ]
 
 held_each : (c : Cluster) (i : ℕ) (cert : List Signed) → AreAborts (3 * c.f + 1) cert → first_bad (kind_of c.plan i) c.f cert ≡ None → AreHeld cert

@@ -6,26 +6,25 @@ use Rattle.std.proofs.lemmas.Bool.{and_parts, cases_Bool, ltb-true}
 use Rattle.std.proofs.lemmas.List.Elements.{All-head, All-tail, All-cons, All-nil}
 use Rattle.std.proofs.Math.Bool.{and-false}
 use Rattle.ab_num.specs.declared.cluster.Cluster.{Cluster}
-use Rattle.ab_num.specs.declared.party.Party.{Party}
 use Rattle.ab_num.specs.declared.party.Party.TheVariants.{Replica, Client}
 use Rattle.ab_num.specs.Places.{kind_of}
 use Rattle.ab_hist.specs.declared.request.Request.{Request}
 use Rattle.ab_msg.specs.declared.content.Content.{Content}
-use Rattle.ab_msg.specs.declared.content.Content.TheVariants.{Abort, AbortZ}
+use Rattle.ab_msg.specs.declared.content.Content.TheVariants.{Abort, AbortZ, TrimmedAbort}
 use Rattle.ab_msg.specs.declared.signed.Signed.{Signed}
-use Rattle.ab_msg.specs.Claims.{maker_of, instance_of}
+use Rattle.ab_msg.specs.Claims.{maker_of}
 use Rattle.ab_msg.specs.Certs.{IsSigned}
 use Rattle.ab_msg.specs.Contents as contents
 use Rattle.ab_abs.specs.Kinds.{is_zcert}
 use Rattle.ab_abs.specs.Rules.{Held, Kept}
 use Rattle.ab_abs.specs.Certificates.{aborted_in, with_held, held_in, is_beside, history_held, kept_in, with_kept, all_kept_in, kept_history, history_of}
-use Rattle.ab_extract.specs.Certs.{IsAbort, AreAborts, log_in, zcert_in}
+use Rattle.ab_extract.specs.Certs.{IsAbort, AreAborts, StatesStop}
 
-abort_is : (maker : Party) (content : Content) → contents.IsStopContent content → maker_of content ≡ maker
-    → (content ≡ Abort maker (instance_of content) (log_in content)) ⊎ (content ≡ AbortZ maker (instance_of content) (log_in content) (zcert_in content))
-abort_is maker (Abort by i h) is made = inl (ap (λ p. Abort p i h) made)
-abort_is maker (AbortZ by i h zcert) is made = inr (ap (λ p. AbortZ p i h zcert) made)
-abort_is maker _ is made = absurd is
+abort_is : (r : ℕ) (content : Content) → contents.IsStopContent content → maker_of content ≡ Replica r → StatesStop r content
+abort_is r (Abort by i h) is made = inl (ap (λ p. Abort p i h) made)
+abort_is r (AbortZ by i h zcert) is made = inr (inl (ap (λ p. AbortZ p i h zcert) made))
+abort_is r (TrimmedAbort by i start digest rest) is made = inr (inr (start, digest, ap (λ p. TrimmedAbort p i start digest rest) made))
+abort_is r _ is made = absurd is
 
 -- signed by these replicas alone, they are ABORTs of their signers
 pub aborts_are : (replicas : ℕ) (cert : List Signed) → All (IsSigned contents.IsStopContent) cert → list_all (λ s. nat_lt s.maker replicas) cert ≡ true → AreAborts replicas cert
@@ -33,7 +32,7 @@ aborts_are replicas [] formed all = All-nil (λ s. IsAbort replicas s)
 aborts_are replicas (s ∷ cert) formed all =
     let both = and_parts (nat_lt s.maker replicas) (list_all (λ t. nat_lt t.maker replicas) cert) all in
     let here = All-head (IsSigned contents.IsStopContent) s cert formed in
-    let is : IsAbort replicas s = record { content_is = abort_is (Replica s.maker) s.content here.1.0 here.0; within = ltb-true s.maker replicas both.0 } in
+    let is : IsAbort replicas s = record { content_is = abort_is s.maker s.content here.1.0 here.0; within = ltb-true s.maker replicas both.0 } in
     All-cons (λ t. IsAbort replicas t) s cert is (aborts_are replicas cert (All-tail (IsSigned contents.IsStopContent) s cert formed) both.1)
 
 module _ (c : Cluster) (j : ℕ) where
@@ -45,6 +44,7 @@ module _ (c : Cluster) (j : ℕ) where
       ∙ ap (λ b. if b then Some (let v : Held = record { by = q; log = h } in v) else None) (and-false (i == j))
   not_held r (Abort (Client q) i h) is made over = absurd (cc (made))
   not_held r (AbortZ maker i h zcert) is made over = refl
+  not_held r (TrimmedAbort maker i start digest rest) is made over = refl
   not_held r _ is made over = absurd is
 
   nothing_with : (o : Option Held) → with_held o None ≡ None
@@ -70,6 +70,7 @@ module _ (c : Cluster) (j : ℕ) where
       ap (λ b. if (i == j) && (b && is_beside c.f h zcert) then some else None) out ∙ ap (λ b. if b then some else None) (and-false (i == j))
   not_kept r (AbortZ (Client q) i h zcert) is made over = absurd (cc (made))
   not_kept r (Abort maker i h) is made over = refl
+  not_kept r (TrimmedAbort maker i start digest rest) is made over = refl
   not_kept r _ is made over = absurd is
 
   none_kept_with : (o : Option Kept) → with_kept o None ≡ None

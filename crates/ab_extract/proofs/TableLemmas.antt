@@ -163,7 +163,7 @@ table_push bs b table is = record {
       ];
 }
 
-pub tree_push : (bs : List Branch) (b : Branch) (n more : ℕ) → length (lists_of bs) < 7 → length b.list ≤ 1024 → more ≡ length b.list - shared_of b.list (lists_of bs)
+pub tree_push : (bs : List Branch) (b : Branch) (n more : ℕ) → length (lists_of bs) < 7 → length b.list ≤ 65535 → more ≡ length b.list - shared_of b.list (lists_of bs)
     → b.shared.items ≡ map (common_of b.list) (lists_of bs) → IsTree (lists_of bs) n → IsTable bs → IsTree (lists_of (bs ++ b ∷ [])) (n + more) × IsTable (bs ++ b ∷ [])
 tree_push bs b n more room few count is tree table =
     let lists = lists_of bs in

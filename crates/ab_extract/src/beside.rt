@@ -111,8 +111,9 @@ fn is_fit(content: &Content, kind: Kind, f: u8) -> bool
 {
     let keeps = keeps_answers(kind);
     match content {
+        Content::Abort { .. } => !keeps,
         Content::AbortZ { history, zcert, .. } => keeps && is_beside(history, zcert, f),
-        _ => !keeps,
+        _ => false,
     }
 }
 

@@ -82,16 +82,17 @@ fn is_beside(log: &HistoryRef<'_>, zcert: &Option<ZcertRef<'_>>, f: u8) -> bool
     }
 }
 
-/// Whether instances of the kind have such ABORTs: where replicas keep certificates of answers, those with one that fits their
-/// log, or with none. Nothing is allocated.
+/// Whether instances of the kind have such ABORTs: those of whole logs, and where replicas keep certificates of answers, with one
+/// that fits the log, or with none. Nothing is allocated.
 pub fn is_fit_view(content: &ContentRef<'_>, kind: Kind, f: u8) -> bool
     requires { f ≤ 2 }
     ensures { result ≡ is_fit (is_zcert kind) f (shown content.now) }
 {
     let keeps = keeps_answers(kind);
     match content {
+        ContentRef::Abort { .. } => !keeps,
         ContentRef::AbortZ { history, zcert, .. } => keeps && is_beside(history, zcert, f),
-        _ => !keeps,
+        _ => false,
     }
 }
 

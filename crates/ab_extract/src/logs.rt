@@ -50,7 +50,7 @@ fn is_same<'a, 'b>(a: &HistoryRef<'a>, b: &HistoryRef<'b>) -> bool
     are_equal(a, b)
 }
 
-/// The log that an ABORT states.
+/// The log that an ABORT states; of a trimmed one what is not trimmed.
 fn log_of<'a>(s: &SignedRef<'a>) -> HistoryRef<'a>
     requires { IsStopContent (shown s.now.content) }
     ensures log { history result ≡ log_in (shown s.now.content) }
@@ -59,6 +59,7 @@ fn log_of<'a>(s: &SignedRef<'a>) -> HistoryRef<'a>
     match s.content {
         ContentRef::Abort { history, .. } => history,
         ContentRef::AbortZ { history, .. } => history,
+        ContentRef::TrimmedAbort { rest, .. } => rest,
         _ => unreachable!(),
     }
 }

@@ -1,8 +1,8 @@
 -- It is a lawful orderer: all lists but that of replica 0 are empty.
 use Rattle.std.proofs.Common.{◌≡◌, ◌≢◌, ℕ, zero, suc, ◌+◌, ◌<◌, ◌≤◌, Bool, true, false, Option, Some, None, List, [], ◌∷◌, ◌++◌, ◌⊎◌, refl, sym, ap, ◌∙◌, subst, inl, inr, arith, length, length-append, append_assoc, slice_get}
-use Rattle.std.specs.Prelude.{Contains, unwrap_or, if◌then◌else◌, nat_lt, ◌==◌, ◌&&◌}
+use Rattle.std.specs.Prelude.{Contains, unwrap_or, if◌then◌else◌, nat_le, nat_lt, ◌==◌, ◌&&◌, ◌||◌}
 use Rattle.std.proofs.lemmas.List.{append-nil}
-use Rattle.std.proofs.lemmas.Bool.{cases_Bool}
+use Rattle.std.proofs.lemmas.Bool.{cases_Bool, and_parts}
 use Rattle.std.proofs.lemmas.Bool.Decides.{Decides-eqb, Decides-ltb, Decides-and}
 use Rattle.std.proofs.lemmas.Option.{none-some, same_Some, slice_get_within, get_or_from_slice_get}
 use Rattle.std.proofs.lemmas.List.Quantifiers.{all_pairs_push}
@@ -16,7 +16,7 @@ use Rattle.ab_hist.proofs.RequestLemmas.{can_push-Decides}
 use Rattle.ab_num.specs.declared.cluster.Cluster.{Cluster}
 use Rattle.ab_num.proofs.Lists.{Contains-head, Contains-none}
 use Rattle.ab_msg.specs.declared.content.Content.TheVariants.{Req}
-use Rattle.ab_msg.specs.Fields.{IsRequest, IsWritten}
+use Rattle.ab_msg.specs.Fields.{IsRequest, IsWritten, IsWrittenLog}
 use Rattle.ab_abs.specs.Acts.{Setting, Act, MayStart, observations, state_of, own_acts, start_of, log_at, log_of, base_at as state_base, base_of}
 use Rattle.ab_abs.specs.Observations.{IsInitHistory}
 use Rattle.ab_abs.specs.OrderRules.{WasClaimed}
@@ -32,7 +32,7 @@ use Rattle.ab_order.specs.Readings.{read}
 use Rattle.ab_order.specs.Bytes.{ArisesAs, from_entry, by_call, KeepsBytes}
 use Rattle.ab_backup.specs.Laws.{asked_formed}
 use Rattle.ab_backup.proofs.AnswerLemmas.{next_logged}
-use Rattle.ab_fixtures.specs.SoloRules.{Sole, Placed, behind_with, begun_with, next, base_if, list_if, solo, solos, StandsSolo, IsSoloSound}
+use Rattle.ab_fixtures.specs.SoloRules.{Sole, Placed, behind_with, is_ordering, begun_with, next, base_if, list_if, solo, solos, StandsSolo, IsSoloSound}
 
 -- ---- lists
 
@@ -95,8 +95,8 @@ within : (k : ℕ) (q : Sole) → IsReached solo k q → (q.k ≡ k) × (length 
 within k q (from_start f i me h) = (refl, omega arith)
 within k q (by_input p e was) =
     let w = within k p was in
-    let x = extends (p.me == 0) p.k p.entered p.behind (asked_by e) in
-    (w.0, subst (λ (n : ℕ). length (behind_with (p.me == 0) p.k p.entered p.behind (asked_by e)) ≤ n) w.0 (x.short (subst (λ (n : ℕ). length p.behind ≤ n) (sym w.0) w.1)))
+    let x = extends (is_ordering p) p.k p.entered p.behind (asked_by e) in
+    (w.0, subst (λ (n : ℕ). length (behind_with (is_ordering p) p.k p.entered p.behind (asked_by e)) ≤ n) w.0 (x.short (subst (λ (n : ℕ). length p.behind ≤ n) (sym w.0) w.1)))
 
 base_most : (b : Bool) (k : ℕ) (h ms g : List Request) → length ms ≤ k → base_if b h ≡ Some g → length (list_if b h ms) ≤ length g + k
 base_most false k h ms g few is = absurd (none-some g is)
@@ -107,9 +107,9 @@ solo_orderly = record {
   begun = λ k f i me h. (refl, refl);
   empty = λ q none. base_none q.begun q.entered q.behind none;
   begins = λ q g is. base_begins q.begun q.entered q.behind g is;
-  keeps = λ q e g is. base_keeps (q.me == 0) q.begun (asked_by e) q.entered g is;
+  keeps = λ q e g is. base_keeps (is_ordering q) q.begun (asked_by e) q.entered g is;
   grows = λ q e.
-      list_grows (q.me == 0) q.begun (asked_by e) q.entered q.behind (behind_with (q.me == 0) q.k q.entered q.behind (asked_by e)) (extends (q.me == 0) q.k q.entered q.behind (asked_by e)).begins;
+      list_grows (is_ordering q) q.begun (asked_by e) q.entered q.behind (behind_with (is_ordering q) q.k q.entered q.behind (asked_by e)) (extends (is_ordering q) q.k q.entered q.behind (asked_by e)).begins;
   at_most = λ k q g was is. base_most q.begun k q.entered q.behind g (within k q was).1 is;
   opens = λ q e h is. inl refl;
   idles = λ q. refl;
@@ -226,7 +226,7 @@ module _ (x : Setting) (k : ℕ) where
   turns : (own : List Act) (me : ℕ) (q : Sole) (e : Reading) (a : Act) → StandsSolo x k q me own → IsTurn handed solo x own me q e a → StandsSolo x k (next q (asked_by e)) me (a ∷ own)
   turns own me q e a was turn =
       let o = asked_by e in
-      let goes = extends (q.me == 0) q.k q.entered q.behind o in
+      let goes = extends (is_ordering q) q.k q.entered q.behind o in
       record {
         placed = was.placed;
         owned = was.owned;
@@ -237,13 +237,13 @@ module _ (x : Setting) (k : ℕ) where
         base_is = turn.base_is;
         init = init_within own (a ∷ own) x.i q.entered (tail_within a own) was.init;
         rises = goes.rises was.rises;
-        short = subst (λ (n : ℕ). length (behind_with (q.me == 0) q.k q.entered q.behind o) ≤ n) was.limit (goes.short (subst (λ (n : ℕ). length q.behind ≤ n) (sym was.limit) was.short));
+        short = subst (λ (n : ℕ). length (behind_with (is_ordering q) q.k q.entered q.behind o) ≤ n) was.limit (goes.short (subst (λ (n : ℕ). length q.behind ≤ n) (sym was.limit) was.short));
         claimed = λ m has.
             elim (goes.asked m has) [
               | inl old ↦ claimed_within own (a ∷ own) (Req (Client m.client) x.i m) (tail_within a own) (was.claimed m old)
               | inr now ↦ (a, Contains-head a own, turn.claims (Req (Client m.client) x.i m) (asks_own x.i e m now))
             ];
-        idle = idle_still (q.me == 0) q.begun o was.idle;
+        idle = λ is. idle_still (is_ordering q) q.begun o (λ _. was.idle is) (ap (λ b. b && nat_le (length q.entered) 1024) is);
       }
 
   -- where replica r is
@@ -373,9 +373,9 @@ solo_lawful = record {
 
 -- ---- bytes
 
-written_if : (b : Bool) (h ms : List Request) → IsWritten (h ++ ms) → IsWritten (list_if b h ms)
+written_if : (b : Bool) (h ms : List Request) → (b ≡ true → IsWritten (h ++ ms)) → IsWritten (list_if b h ms)
 written_if false h ms was = ((omega arith, omega arith), (λ j d lt. absurd (omega (arith, lt)), nothing_rises))
-written_if true h ms was = was
+written_if true h ms was = was refl
 
 written_more : (h ms : List Request) (m : Request) (b : Bool) → (b ≡ true → CanPush (h ++ ms) m) → IsRequest 0 15 m → IsWritten (h ++ ms) → IsWritten (h ++ (if b then ms ++ m ∷ [] else ms))
 written_more h ms m false can asked was = was
@@ -388,13 +388,41 @@ written_behind true k h ms (Some m) asked was =
     written_more h ms m (nat_lt (length ms) k && can_push (h ++ ms) m)
     (λ is. ((Decides-and (nat_lt (length ms) k) (can_push (h ++ ms) m) (Decides-ltb (length ms) k) (can_push-Decides (h ++ ms) m)).0 is).1) (asked m refl) was
 
-all_written : (c : Cluster) (i r : ℕ) (p : Placed) → ArisesAs solos c i r p → IsWritten (p.at.entered ++ p.at.behind)
-all_written c i r p (from_entry e placed lt entry) = subst IsWritten (sym (append-nil e.base)) entry.base
-all_written c i r p (by_call pen q call signs formed was) =
-    written_behind (q.at.me == 0) q.at.k q.at.entered q.at.behind (asked_by (read q.cluster q.at.instance call)) (asked_formed q.cluster q.at.instance call formed) (all_written c i r q was)
+-- a base of at most 1,024 requests can be written as a history
+written_short : (n : ℕ) (h : List Request) → length h ≤ 1024 → IsWrittenLog n h → IsWritten h
+written_short n h few was = ((omega arith, few), (was.requests, was.history))
+
+-- what is executed behind such a base has bytes with it, and behind another base nothing is executed
+record IsWrittenSole (q : Sole) : Type 0 where
+  short : q.begun ≡ true → length q.entered ≤ 1024
+  written : length q.entered ≤ 1024 → IsWritten (q.entered ++ q.behind)
+
+few_of : (a b : ℕ) → nat_le a b ≡ true → a ≤ b
+few_of a b is = grind (arith, is)
+
+short_with : (q : Sole) (o : Option Request) → (q.begun ≡ true → length q.entered ≤ 1024) → begun_with (is_ordering q) q.begun o ≡ true → length q.entered ≤ 1024
+short_with q None was is = was is
+short_with q (Some m) was is = by_test (is_ordering q) refl is
+  where
+    by_test : (b : Bool) → is_ordering q ≡ b → (b || q.begun) ≡ true → length q.entered ≤ 1024
+    by_test true test is = few_of (length q.entered) 1024 (and_parts (q.me == 0) (nat_le (length q.entered) 1024) test).1
+    by_test false test is = was is
+
+sole_written : (c : Cluster) (i r : ℕ) (p : Placed) → ArisesAs solos c i r p → IsWrittenSole p.at
+sole_written c i r p (from_entry e placed lt entry) = record {
+  short = λ is. absurd (cc (is));
+  written = λ few. subst IsWritten (sym (append-nil e.base)) (written_short e.trimmed e.base few entry.base);
+}
+sole_written c i r p (by_call pen q call signs formed was) =
+    let w = sole_written c i r q was in
+    let o = asked_by (read q.cluster q.at.instance call) in
+    record {
+      short = short_with q.at o w.short;
+      written = λ few. written_behind (is_ordering q.at) q.at.k q.at.entered q.at.behind o (asked_formed q.cluster q.at.instance call formed) (w.written few);
+    }
 
 pub solo_bytes : KeepsBytes solos solo
 solo_bytes = record {
-  written = λ c i r p was. written_if p.at.begun p.at.entered p.at.behind (all_written c i r p was);
+  written = λ c i r p was. let w = sole_written c i r p was in written_if p.at.begun p.at.entered p.at.behind (λ is. w.written (w.short is));
   drafts = λ c i r pen p call signs was formed o has. absurd (Contains-none o has);
 }

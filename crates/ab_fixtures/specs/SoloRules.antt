@@ -1,5 +1,5 @@
 -- An orderer by which replica 0 alone orders, each request as it comes. So its cluster goes on only while replica 0 is correct.
-use Rattle.std.specs.Prelude.{◌≡◌, ◌⊎◌, ℕ, ◌≤◌, ◌==◌, ◌&&◌, ◌||◌, Bool, true, false, nat_lt, if◌then◌else◌, Option, None, Some, unwrap_or, List, [], ◌∷◌, ◌++◌, Contains, length}
+use Rattle.std.specs.Prelude.{◌≡◌, ◌⊎◌, ℕ, ◌≤◌, ◌==◌, ◌&&◌, ◌||◌, Bool, true, false, nat_le, nat_lt, if◌then◌else◌, Option, None, Some, unwrap_or, List, [], ◌∷◌, ◌++◌, Contains, length}
 use Rattle.ab_num.specs.declared.cluster.Cluster.{Cluster}
 use Rattle.ab_num.specs.Places.{limit_of}
 use Rattle.ab_hist.specs.declared.request.Request.{Request}
@@ -34,13 +34,17 @@ behind_with first k entered behind None = behind
 behind_with false k entered behind (Some m) = behind
 behind_with true k entered behind (Some m) = if nat_lt (length behind) k && can_push (entered ++ behind) m then behind ++ m ∷ [] else behind
 
+-- replica 0 orders, if its base can be written as a history
+abbrev pub is_ordering : Sole → Bool
+is_ordering q = (q.me == 0) && nat_le (length q.entered) 1024
+
 -- the first request has the base executed
 abbrev pub begun_with : Bool → Bool → Option Request → Bool
 begun_with first begun None = begun
 begun_with first begun (Some m) = first || begun
 
 abbrev pub next : Sole → Option Request → Sole
-next q o = record q { begun = begun_with (q.me == 0) q.begun o; behind = behind_with (q.me == 0) q.k q.entered q.behind o }
+next q o = record q { begun = begun_with (is_ordering q) q.begun o; behind = behind_with (is_ordering q) q.k q.entered q.behind o }
 
 abbrev pub base_if : Bool → List Request → Option (List Request)
 base_if false h = None

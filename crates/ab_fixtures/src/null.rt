@@ -15,6 +15,7 @@ pub struct Null<S: Service> {
     instance: u32,
     me: u8,
     log: History,
+    trimmed: usize,
     of: PhantomData<S>,
 }
 
@@ -23,7 +24,7 @@ impl<S: Service> Model for Null<S> {
 
     ghost Value = { Idle };
 
-    ghost view = { λ q. record { instance = q.instance; me = q.me; log = q.log } };
+    ghost view = { λ q. record { instance = q.instance; me = q.me; trimmed = q.trimmed; log = q.log } };
 }
 
 impl<S: Service> Protocol<S> for Null<S> {
@@ -54,6 +55,7 @@ impl<S: Service> Protocol<S> for Null<S> {
             instance: i,
             me,
             log: e.base.copy(alloc)?,
+            trimmed: e.trimmed,
             of: PhantomData,
         })
     }
@@ -73,6 +75,14 @@ impl<S: Service> Protocol<S> for Null<S> {
 
     fn stop(&mut self) {}
 
+    fn trim(&mut self, n: usize) {
+        self.trimmed = n;
+    }
+
+    fn trimmed(&self) -> usize {
+        self.trimmed
+    }
+
     fn may_panic(&self) -> bool {
         true
     }
@@ -82,6 +92,7 @@ impl<S: Service> Protocol<S> for Null<S> {
             instance: self.instance,
             me: self.me,
             log: self.log.copy(alloc)?,
+            trimmed: self.trimmed,
             of: PhantomData,
         })
     }
@@ -107,9 +118,11 @@ impl<S: Service> Protocol<S> for Null<S> {
     }
 
     ghost use Rattle.ab_abs.proofs.Steps.{stays_at};
-    ghost use Rattle.ab_fixtures.specs.NullLaws.{form_law, rule_law, nil_law, start_law, on_law, stop_law, others_law, abstract_law, names_law};
+    ghost use Rattle.ab_fixtures.specs.NullLaws.{form_law, rule_law, nil_law, start_law, on_law, stop_law, trim_law, others_law, abstract_law, names_law};
 
     ghost stands_stays = { λ x acts a me q. stays_at x acts a me (member_of q) };
+
+    ghost stands_trimmed = { λ x acts me n q low high. trim_law S.machine x acts me n q high };
 
     ghost formed = { form_law };
 
@@ -117,7 +130,7 @@ impl<S: Service> Protocol<S> for Null<S> {
 
     ghost sound_nil = { nil_law S.machine };
 
-    ghost lawful_start = { λ x acts me e served may was. let law = start_law S.machine x acts me e served may in (law.0, law.1 was) };
+    ghost lawful_start = { λ x acts me e served low may was. let law = start_law S.machine x acts me e served low may in (law.0, law.1 was) };
 
     ghost lawful_on = { λ x acts me pen q m seen served. on_law S.machine x acts me pen q m seen served };
 

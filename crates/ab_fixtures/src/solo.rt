@@ -14,7 +14,8 @@ use std::alloc::Global;
 use std::marker::Model;
 
 /// As the first request comes, replica 0 executes the history that it entered with, and behind it each request as it
-/// comes, with no word to the others. No other replica executes anything.
+/// comes, with no word to the others. No other replica executes anything, and it neither, if that history has
+/// more than 1,024 requests.
 #[derive(Drop)]
 pub struct Solo {
     cluster: Cluster,
@@ -80,7 +81,7 @@ impl Solo {
         let Some(m) = asked else {
             return self.copy(alloc);
         };
-        if self.me != 0 {
+        if self.me != 0 || self.entered.len() > 1024 {
             return self.copy(alloc);
         }
         let log = self.next_log(alloc, m)?;

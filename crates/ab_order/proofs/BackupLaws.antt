@@ -10,7 +10,7 @@ use Rattle.ab_hist.specs.declared.request.Request.{Request}
 use Rattle.ab_hist.specs.Histories.{IsHistory, place_in}
 use Rattle.ab_svc.specs.Machines.{Machine}
 use Rattle.ab_msg.specs.declared.content.Content.{Content}
-use Rattle.ab_msg.specs.declared.content.Content.TheVariants.{Req, Order, Resp, ChainTag, Panic, Abort, PrePrepare, Prepare, Commit, ViewChange, NewView, Checkpoint, Spec, LocalCommit, AbortZ}
+use Rattle.ab_msg.specs.declared.content.Content.TheVariants.{Req, Order, Resp, ChainTag, Panic, Abort, PrePrepare, Prepare, Commit, ViewChange, NewView, Checkpoint, Spec, LocalCommit, AbortZ, TrimmedAbort}
 use Rattle.ab_abs.specs.declared.seen.Seen.{Seen}
 use Rattle.ab_abs.specs.declared.rule.ReplyRule.TheVariants as rules
 use Rattle.ab_num.specs.Places.{limit_of}
@@ -87,6 +87,7 @@ inner_orders (Checkpoint maker i n d) is = refl
 inner_orders (Spec maker i c stamp n d reply) is = refl
 inner_orders (LocalCommit maker i c stamp n d) is = refl
 inner_orders (AbortZ maker i h zcert) is = refl
+inner_orders (TrimmedAbort maker i start digest rest) is = refl
 inner_orders (PrePrepare maker i view slot d) is = absurd (cc (is))
 inner_orders (Prepare maker i view slot d) is = absurd (cc (is))
 inner_orders (Commit maker i view slot d) is = absurd (cc (is))
@@ -178,32 +179,32 @@ module _ {S P E : Type 0} (machine : Machine S) (handed : Handed E) (proto : Ord
     own = own_acts me acts
 
     -- what begins where the limit is n
-    abbrev first_value : List Request → ℕ → Backing P
-    first_value base n = record { instance = x.i; me = me; k = n; entered = base; kept = []; order = proto.begin n x.cluster.f x.i me base }
+    abbrev first_value : List Request → ℕ → ℕ → Backing P
+    first_value base trimmed n = record { instance = x.i; me = me; k = n; entered = base; trimmed = trimmed; kept = []; order = proto.begin n x.cluster.f x.i me base }
 
-    abbrev Starts : List Request → ℕ → Type 0
-    Starts base n =
-        Stands (first_value base n) me (start_of x me base (at (first_value base n)) ∷ own) × (OrderPremises x (start_of x me base (at (first_value base n)) ∷ acts) → Sound (start_of x me base (at (first_value base n)) ∷ acts))
+    abbrev Starts : List Request → ℕ → ℕ → Type 0
+    Starts base trimmed n =
+        Stands (first_value base trimmed n) me (start_of x me base (at (first_value base trimmed n)) ∷ own) × (OrderPremises x (start_of x me base (at (first_value base trimmed n)) ∷ acts) → Sound (start_of x me base (at (first_value base trimmed n)) ∷ acts))
 
     -- a replica begins
-    pub begins : (base : List Request) → limit_of x.cluster.plan x.i ≡ k → MayStart x acts me base → 1 ≤ x.i → Sound acts
-        → (let v = backup_begin proto x.cluster x.i me base in
+    pub begins : (base : List Request) (trimmed : ℕ) → limit_of x.cluster.plan x.i ≡ k → MayStart x acts me base → 1 ≤ x.i → Sound acts
+        → (let v = backup_begin proto x.cluster x.i me base trimmed in
         Stands v me (start_of x me base (at v) ∷ own) × (OrderPremises x (start_of x me base (at v) ∷ acts) → Sound (start_of x me base (at v) ∷ acts)))
-    begins base limit may one was = subst (λ (n : ℕ). Starts base n) (sym limit) starts
+    begins base trimmed limit may one was = subst (λ (n : ℕ). Starts base trimmed n) (sym limit) starts
       where
-        starts_empty : proto.base (first_value base k).order ≡ None → proto.first (first_value base k).order ≡ None → proto.ordered (first_value base k).order ≡ [] → begun_empty base ≡ at (first_value base k)
+        starts_empty : proto.base (first_value base trimmed k).order ≡ None → proto.first (first_value base trimmed k).order ≡ None → proto.ordered (first_value base trimmed k).order ≡ [] → begun_empty base ≡ at (first_value base trimmed k)
         starts_empty none first_none empty = rw (none, first_none, empty) refl
 
         stopped_not : (s : State) → Some s ≡ Some (begun_empty base) → s.stopped ≡ true → ⊥
         stopped_not s e halt = cc (e, halt)
 
-        starts : Starts base k
+        starts : Starts base trimmed k
         starts =
             let begun = orderly.begun k x.cluster.f x.i me base in
             let empty = orderly.empty (proto.begin k x.cluster.f x.i me base) begun.0 in
-            let same : begun_empty base ≡ at (first_value base k) = starts_empty begun.0 begun.1 empty in
+            let same : begun_empty base ≡ at (first_value base trimmed k) = starts_empty begun.0 begun.1 empty in
             let l = law.lawful_start x k acts me base one may was.ordered in
-            subst (λ (s : State). Stands (first_value base k) me (start_of x me base s ∷ own) × (OrderPremises x (start_of x me base s ∷ acts) → Sound (start_of x me base s ∷ acts))) same (
+            subst (λ (s : State). Stands (first_value base trimmed k) me (start_of x me base s ∷ own) × (OrderPremises x (start_of x me base s ∷ acts) → Sound (start_of x me base s ∷ acts))) same (
               record {
                 within = may.within;
                 correct = may.correct;

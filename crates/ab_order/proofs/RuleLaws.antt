@@ -163,8 +163,8 @@ module _ {S P Q : Type 0} (machine : Machine S) (orders : OrderProto P Q) (proto
   -- a call that tells its orderer nothing
   after_nothing : (pen : Pen) (v : Backing P) (call : Call) → told orders v.order call ≡ other → rule.after pen v call ≡ v
   after_nothing pen v call nothing =
-      let told_so : Reading → Backing P = λ e. record { instance = v.instance; me = v.me; k = v.k; entered = v.entered; kept = keep_asked (handed.asked e) v.kept; order = orders.after pen v.order call } in
-      let ordered_so : P → Backing P = λ q. record { instance = v.instance; me = v.me; k = v.k; entered = v.entered; kept = v.kept; order = q } in
+      let told_so : Reading → Backing P = λ e. record { instance = v.instance; me = v.me; k = v.k; entered = v.entered; trimmed = v.trimmed; kept = keep_asked (handed.asked e) v.kept; order = orders.after pen v.order call } in
+      let ordered_so : P → Backing P = λ q. record { instance = v.instance; me = v.me; k = v.k; entered = v.entered; trimmed = v.trimmed; kept = v.kept; order = q } in
       ap told_so nothing ∙ ap ordered_so (own.ignores pen v.order call nothing).0
 
   -- leaves its list as it was

@@ -5,7 +5,7 @@ use Rattle.ab_num.specs.declared.party.Party.TheVariants.{Replica, Client}
 use Rattle.ab_hist.specs.declared.request.Request.{Request}
 use Rattle.ab_hist.specs.Histories.{IsHistory, Comparable}
 use Rattle.ab_msg.specs.declared.content.Content.{Content}
-use Rattle.ab_msg.specs.declared.content.Content.TheVariants.{Req, Order, Resp, ChainTag, Panic, Abort, PrePrepare, Prepare, Commit, ViewChange, NewView, Checkpoint, Spec, LocalCommit, AbortZ}
+use Rattle.ab_msg.specs.declared.content.Content.TheVariants.{Req, Order, Resp, ChainTag, Panic, Abort, PrePrepare, Prepare, Commit, ViewChange, NewView, Checkpoint, Spec, LocalCommit, AbortZ, TrimmedAbort}
 use Rattle.ab_msg.specs.declared.value.Value.{Value}
 use Rattle.ab_msg.specs.declared.value.Value.TheVariants as value
 use Rattle.ab_msg.specs.Slots.{slot_digest}
@@ -32,6 +32,7 @@ is_ordering (Checkpoint maker i n d) = false
 is_ordering (Spec maker i c stamp n d reply) = false
 is_ordering (LocalCommit maker i c stamp n d) = false
 is_ordering (AbortZ maker i h zcert) = false
+is_ordering (TrimmedAbort maker i start digest rest) = false
 
 -- the values of some VIEW-CHANGEs
 abbrev pub values_shown : List (List Value) → List Value

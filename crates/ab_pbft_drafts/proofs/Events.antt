@@ -77,7 +77,7 @@ offer_formed s (suc slot) (Order m) r entry tagged at_slot = (λ e. omega (arith
 
 -- ---- what an event does
 
-module _ (c : Cluster) (i me : ℕ) (placed : IsInstance i) (owned : me < 3 * c.f + 1) (base : List Request) (written : IsWritten base) where
+module _ (c : Cluster) (i me : ℕ) (placed : IsInstance i) (owned : me < 3 * c.f + 1) (base : List Request) (written : length base ≤ 1024 → IsWritten base) where
   abbrev pub by : Author
   by = own_author c i me
 
@@ -105,8 +105,8 @@ module _ (c : Cluster) (i me : ℕ) (placed : IsInstance i) (owned : me < 3 * c.
     module _ (e : Reading) (start : Work) (told : IsInputWritten e) where
       -- a value that it takes is of its slot
       taken_at : (w : Work) (value : Value) → Stands w → goes (core_of w).accepted value ≡ true → WhyTaken seat e start w value → IsValueAt (length (core_of w).accepted) value
-      taken_at w value was on (own_base none is) =
-          subst (λ (z : Value). IsValueAt (length (core_of w).accepted) z) (sym is) (subst (λ (l : List Value). IsValueAt (length l) (Base base)) (sym none) written)
+      taken_at w value was on (own_base none few is) =
+          subst (λ (z : Value). IsValueAt (length (core_of w).accepted) z) (sym is) (subst (λ (l : List Value). IsValueAt (length l) (Base base)) (sym none) (written few))
       taken_at w value was on (waiting m has is) =
           subst (λ (z : Value). IsValueAt (length (core_of w).accepted) z) (sym is) (order_at (core_of w).accepted m (ap (λ z. goes (core_of w).accepted z) (sym is) ∙ on) (was.held.asked m has))
       taken_at w value was on (base_brought by_whom view x h is before none value_is then_is) =

@@ -1,5 +1,5 @@
 -- A replica of PBFT keeps within the bounds of the grammar, whatever it is handed, and what it sends is of the grammar.
-use Rattle.std.proofs.Common.{◌≡◌, ℕ, ◌+◌, ◌*◌, ◌<◌, ◌==◌, true, false, Some, None, Option, List, [], refl, sym, ap, ◌∙◌, subst, inl, inr, arith, lit<}
+use Rattle.std.proofs.Common.{◌≡◌, ℕ, ◌+◌, ◌*◌, ◌<◌, ◌≤◌, ◌==◌, true, false, Some, None, Option, List, [], length, refl, sym, ap, ◌∙◌, subst, inl, inr, arith, lit<}
 use Rattle.std.specs.Prelude.{Contains, unwrap_or, if◌then◌else◌}
 use Rattle.std.proofs.lemmas.Bool.{cases_Bool}
 use Rattle.std.proofs.lemmas.Option.{none-some}
@@ -33,13 +33,13 @@ use Rattle.ab_pbft_drafts.specs.Bounds.{IsBounded, IsInForm, HasQuorum, HasTags,
 use Rattle.ab_pbft_drafts.proofs.Ballots.{ballots_put, no_ballots}
 use Rattle.ab_pbft_drafts.proofs.Proofs.{proofs_put, no_proofs}
 use Rattle.ab_pbft_drafts.proofs.Certificates.{none_certified}
-use Rattle.ab_pbft_drafts.proofs.Values.{nothing_written, no_values}
+use Rattle.ab_pbft_drafts.proofs.Values.{nothing_written, short_written, no_values}
 use Rattle.ab_pbft_drafts.proofs.Reading.{IsInputWritten, IsChangeWritten, certs_told, told_written}
 use Rattle.ab_pbft_drafts.proofs.Putting.{IsPlain, IsPut, nothing, tags, ballot, proof, tagged_in, puts_are}
 use Rattle.ab_pbft_drafts.proofs.Sending.{IsPosted}
 use Rattle.ab_pbft_drafts.proofs.Events.{Stands, settles_on, kept_by}
 
-module _ (c : Cluster) (i me : ℕ) (placed : IsInstance i) (owned : me < 3 * c.f + 1) (base : List Request) (written : IsWritten base) (pen : Pen) (signs : SignsInForm pen) (memory : Memory) (s : Shelf) (left : ℕ)
+module _ (c : Cluster) (i me : ℕ) (placed : IsInstance i) (owned : me < 3 * c.f + 1) (base : List Request) (written : length base ≤ 1024 → IsWritten base) (pen : Pen) (signs : SignsInForm pen) (memory : Memory) (s : Shelf) (left : ℕ)
     (was : IsBounded c.f (limit_of c.plan i) memory.peer.core memory.peer.votes memory.changes memory.requests s) where
   abbrev seat : Placement
   seat = seat_of c i me base
@@ -144,7 +144,7 @@ entry_formed (Some cert) each = let is = each cert refl in ((omega arith, is.0.1
 begun_in_form : (c : Cluster) (i r : ℕ) (e : Entry) → IsWrittenEntry e → IsInForm c i r (signing.begin c i r e)
 begun_in_form c i r e is = record {
   base = e.base;
-  written = is.base;
+  written = short_written e.trimmed e.base is.base;
   cluster = refl;
   seated = refl;
   kept = record {

@@ -1,5 +1,5 @@
 -- Values that are accepted and executed have bytes.
-use Rattle.std.proofs.Common.{◌≡◌, ℕ, true, List, [], ◌∷◌, ◌++◌, length, refl, sym, ap, ◌∙◌, subst, inl, inr, arith, append_assoc, append-nil, length-append}
+use Rattle.std.proofs.Common.{◌≡◌, ℕ, ◌≤◌, true, List, [], ◌∷◌, ◌++◌, length, refl, sym, ap, ◌∙◌, subst, inl, inr, arith, append_assoc, append-nil, length-append}
 use Rattle.std.proofs.lemmas.Option.{none-some}
 use Rattle.std.proofs.lemmas.List.Elements.{All-nil, All-push}
 use Rattle.std.proofs.lemmas.List.Quantifiers.{all_pairs_push}
@@ -8,13 +8,17 @@ use Rattle.ab_hist.specs.Histories.{Precedes, can_push}
 use Rattle.ab_hist.proofs.RequestLemmas.{can_push-Decides}
 use Rattle.ab_msg.specs.declared.value.Value.{Value}
 use Rattle.ab_msg.specs.declared.value.Value.TheVariants.{Base, Request as Order}
-use Rattle.ab_msg.specs.Fields.{IsRequest, IsWritten}
+use Rattle.ab_msg.specs.Fields.{IsRequest, IsWritten, IsWrittenLog}
 use Rattle.ab_abs.specs.Values.{orders, list_of, goes}
 use Rattle.ab_lock.proofs.Lists.{nth_grown}
 use Rattle.ab_pbft_drafts.specs.Bounds.{IsValueAt, AreValuesAt}
 
 pub nothing_written : IsWritten []
 nothing_written = ((omega arith, omega arith), (All-nil (IsRequest 0 15), λ i j d lt within. absurd (omega (arith, within))))
+
+-- a log of at most 1,024 entries has bytes as a whole
+pub short_written : (n : ℕ) (log : List Request) → IsWrittenLog n log → length log ≤ 1024 → IsWritten log
+short_written n log was few = ((omega arith, few), (was.requests, was.history))
 
 written_more : (log : List Request) (m : Request) → can_push log m ≡ true → IsRequest 0 15 m → IsWritten log → IsWritten (log ++ m ∷ [])
 written_more log m may asked was =

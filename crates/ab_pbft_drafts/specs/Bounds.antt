@@ -112,13 +112,13 @@ pub record IsBounded (f k : ℕ) (s : State Value) (votes : List (SlotVote (List
   pub entry : AreAborts 0 7 shelf.entry
   pub tags : (t : Tagged) → Contains shelf.tagged t → HasTags t
 
--- replica r of instance i in a cluster, which entered with a base
+-- replica r of instance i in a cluster, which entered with a base. One that a VIEW-CHANGE can hold has bytes
 abbrev pub seat_of : Cluster → ℕ → ℕ → List Request → Placement
 seat_of c i r base = record { k = limit_of c.plan i; f = c.f; i = i; me = r; base = base }
 
 pub record IsInForm (c : Cluster) (i r : ℕ) (q : Signing) : Type 0 where
   pub base : List Request
-  pub written : IsWritten base
+  pub written : length base ≤ 1024 → IsWritten base
   pub cluster : q.cluster ≡ c
   pub seated : q.order.seat ≡ seat_of c i r base
   pub kept : IsBounded c.f (limit_of c.plan i) q.order.memory.peer.core q.order.memory.peer.votes q.order.memory.changes q.order.memory.requests q.shelf

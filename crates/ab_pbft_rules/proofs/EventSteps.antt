@@ -244,7 +244,7 @@ module _ (x : Setting) (k r : ℕ) (own : List Act) (Said : lock.LockContent (Li
 
     module _ (told : IsTold) where
       source_of : (w : Work) (value : Value) → IsThere w → goes (core_of w).accepted value ≡ true → WhyTaken seat e start w value → IsSource x own (length (core_of w).accepted) value
-      source_of w value there on (own_base none is) =
+      source_of w value there on (own_base none few is) =
           subst (λ (z : Value). IsSource x own (length (core_of w).accepted) z) (sym is) (subst (λ (l : List Value). IsSource x own (length l) (Base base)) (sym none) based)
       source_of w value there on (waiting m has is) =
           subst (λ (z : Value). IsSource x own (length (core_of w).accepted) z) (sym is)

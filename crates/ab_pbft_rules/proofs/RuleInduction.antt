@@ -17,7 +17,7 @@ use Rattle.ab_lock.specs.Events.{state_by, settles_by, entered_peer, with_vote, 
 use Rattle.ab_lock.proofs.VoteLemmas.{IsInView, settled_in_view}
 use Rattle.ab_order.specs.Inputs.{Reading, request, pre_prepare_base, pre_prepare, prepare, commit, view_change, new_view, timeout, other, ChangeReading}
 use Rattle.ab_pbft_rules.specs.Traces.{OrderStep}
-use Rattle.ab_pbft_rules.specs.Rules.{offers, Placement, Doing, takes_step, leads, Work, core_of, with_peer, does, is_empty, first_fit, change_of, fits, may_enter, smaller, least_above, keep_request, keep_change, is_done, settle, take_value, offer, offer_base, offer_next, offer_requests, is_primary_of, may_propose, propose, may_lead, lead, leave_to, follow_to, follow, may_take, has_room, base_value, is_current, next_view, may_take_base, may_take_request, may_follow, work}
+use Rattle.ab_pbft_rules.specs.Rules.{offers, Placement, Doing, takes_step, leads, Work, core_of, with_peer, does, is_empty, first_fit, change_of, fits, may_enter, smaller, least_above, keep_request, keep_change, is_done, settle, take_value, offer, may_open, offer_base, offer_next, offer_requests, is_primary_of, may_propose, propose, may_lead, lead, leave_to, follow_to, follow, may_take, has_room, base_value, is_current, next_view, may_take_base, may_take_request, may_follow, work}
 
 pub empty_is : {A : Type 0} (xs : List A) → is_empty xs ≡ true → xs ≡ []
 empty_is [] is = refl
@@ -100,7 +100,7 @@ MayEnter s v = (s.view < v) ⊎ ((s.view ≡ v) × (s.changing ≡ true))
 module _ (seat : Placement) (e : Reading) (start : Work) where
   -- why a value is accepted: it is the replica's own base, a request that waits, or what a PRE-PREPARE brings
   pub data WhyTaken (w : Work) (value : Value) : Type 0 where
-    own_base : (core_of w).accepted ≡ [] → value ≡ Base seat.base → WhyTaken w value
+    own_base : (core_of w).accepted ≡ [] → length seat.base ≤ 1024 → value ≡ Base seat.base → WhyTaken w value
     waiting : (m : Request) → Contains w.at.requests m → value ≡ Order m → WhyTaken w value
     base_brought : (by view : ℕ) (x : List ℕ) (h : List Request) → e ≡ pre_prepare_base by view x h → (core_of start).accepted ≡ [] → (core_of w).accepted ≡ [] → value ≡ Base h
         → (core_of (work seat e start)).accepted ≡ Base h ∷ [] → WhyTaken w value
@@ -159,11 +159,14 @@ module _ (seat : Placement) (e : Reading) (start : Work) where
 
     offers_base : (w : Work) → P w → (core_of w).changing ≡ false → P (offer_base seat w) × ((core_of (offer_base seat w)).changing ≡ false)
     offers_base w was still =
-        elim (cases_Bool (is_empty (core_of w).accepted && not (is_empty w.at.requests))) [
+        elim (cases_Bool (may_open seat w)) [
           | inr full ↦ rw full (was, still)
           | inl opens ↦
-              let none = empty_is (core_of w).accepted (and_parts (is_empty (core_of w).accepted) (not (is_empty w.at.requests)) opens).0 in
-              rw opens (offer_kept w (base_value seat) was still (omega (arith, ap length none)) (ap (λ l. goes l (base_value seat)) none) (own_base none refl) (λ d. own_base none refl), still)
+              let short = nat_le (length seat.base) 1024 in
+              let both = and_parts (is_empty (core_of w).accepted) (not (is_empty w.at.requests) && short) opens in
+              let none = empty_is (core_of w).accepted both.0 in
+              let few = leb-true (length seat.base) 1024 (and_parts (not (is_empty w.at.requests)) short both.1).1 in
+              rw opens (offer_kept w (base_value seat) was still (omega (arith, ap length none)) (ap (λ l. goes l (base_value seat)) none) (own_base none few refl) (λ d. own_base none few refl), still)
         ]
 
     proposed : (w : Work) → P w → P (if may_propose seat w then offer_requests seat (suc seat.k) (offer_base seat w) else w)

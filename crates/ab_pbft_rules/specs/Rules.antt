@@ -143,12 +143,15 @@ module _ (seat : Placement) where
   abbrev pub offer : Value → Work → Work
   offer value w = take_value value (does (offers (core_of w).view (length (core_of w).accepted) value) w)
 
-  -- its own base in slot 0, if a request waits and nothing is accepted
+  -- its own base in slot 0, if a request waits and nothing is accepted, and if a VIEW-CHANGE can hold it
   abbrev pub base_value : Value
   base_value = Base seat.base
 
+  abbrev pub may_open : Work → Bool
+  may_open w = is_empty (core_of w).accepted && (not (is_empty w.at.requests) && nat_le (length seat.base) 1024)
+
   abbrev pub offer_base : Work → Work
-  offer_base w = if is_empty (core_of w).accepted && not (is_empty w.at.requests) then offer base_value w else w
+  offer_base w = if may_open w then offer base_value w else w
 
   -- and then one request after the other, up to slot k
   abbrev pub has_room : Work → Bool

@@ -115,8 +115,9 @@ Offered seat went t w = OfferedFit seat went t w (next_fit seat w)
 abbrev pub offers_all : rules.Placement → Work → Work
 offers_all seat w = if rules.may_propose seat w then rules.offer_requests seat (suc seat.k) (rules.offer_base seat w) else w
 
-abbrev pub can_offer_base : rules.Memory → Bool
-can_offer_base m = rules.is_empty m.peer.core.accepted && not (rules.is_empty m.requests)
+-- whether it may offer its base
+abbrev pub can_offer_base : rules.Placement → rules.Memory → Bool
+can_offer_base seat m = rules.may_open seat (rules.idle m)
 
 -- something is left to order, and there is a next view
 abbrev pub can_leave : rules.Placement → rules.Memory → Bool

@@ -1,6 +1,6 @@
 //! Where a replica runs PBFT.
 
-ghost use Rattle.std.specs.Prelude.{◌≡◌, IfOk};
+ghost use Rattle.std.specs.Prelude.{◌≡◌, IfOk, length, nat_le};
 ghost use Rattle.ab_lock.specs.Quorums.{quorum};
 ghost use Rattle.ab_pbft_rules.specs.Rules.{is_primary_of};
 ghost use Rattle.ab_pbft_work.specs.Turns.{seat_of};
@@ -8,6 +8,9 @@ ghost use Rattle.ab_pbft_work.specs.Turns.{seat_of};
 use ab_hist::History;
 use ab_num::OutOfMemory;
 use std::alloc::Global;
+
+/// How many requests a base may have that stands in a VIEW-CHANGE.
+const MOST: usize = 1024;
 
 /// Replica `me` of a cluster with f, in an instance of which it orders k requests, with the base that it entered with.
 pub struct Placement {
@@ -36,6 +39,13 @@ impl Placement {
         ensures { result ≡ is_primary_of (seat_of self.now) view r }
     {
         u32::from(r) == view % (3 * u32::from(self.f) + 1)
+    }
+
+    /// Whether a VIEW-CHANGE can hold its base.
+    pub(crate) fn can_show_base(&self) -> bool
+        ensures { result ≡ nat_le (length self.now.base) 1024 }
+    {
+        self.base.len() <= MOST
     }
 
     /// How many replicas make a certificate.

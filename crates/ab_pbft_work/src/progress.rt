@@ -180,18 +180,18 @@ impl Progress {
         Ok(())
     }
 
-    /// Whether a request waits and nothing is accepted.
-    fn may_offer_base(&self) -> bool
-        ensures { result ≡ can_offer_base (memory_of self.now.memory) }
+    /// Whether a request waits and nothing is accepted, and a VIEW-CHANGE can hold its own base.
+    fn may_offer_base(&self, seat: &Placement) -> bool
+        ensures { result ≡ can_offer_base (seat_of seat.now) (memory_of self.now.memory) }
     {
-        self.memory.accepted.is_empty() && !self.memory.requests.is_empty()
+        self.memory.accepted.is_empty() && !self.memory.requests.is_empty() && seat.can_show_base()
     }
 
-    /// Offers its own base in slot 0, if a request waits and nothing is accepted.
+    /// Offers its own base in slot 0, if it may.
     fn offer_base(&mut self, alloc: Global, seat: &Placement) -> Result<(), OutOfMemory>
         ensures { OnOk result (Does self.old self.new (rules.offer_base (seat_of seat.now))) }
     {
-        if !self.may_offer_base() {
+        if !self.may_offer_base(seat) {
             return Ok(());
         }
         let base = seat.base.copy(alloc)?;

@@ -1,41 +1,26 @@
 -- A choice between two lawful protocols keeps the laws that a run rests on.
-use Rattle.std.proofs.Common.{◌≡◌, ℕ, Bool, true, false, ◌||◌, None, List, [], refl}
-use Rattle.std.specs.Prelude.{IsTrue}
+use Rattle.std.proofs.Common.{◌≡◌, ℕ, Bool, true, false, None, List, [], refl}
 use Rattle.ab_num.specs.declared.plan.Kind.{Kind}
 use Rattle.ab_num.specs.Places.{kind_of}
 use Rattle.ab_num.specs.declared.cluster.Cluster.{Cluster}
 use Rattle.ab_svc.specs.Machines.{Machine}
-use Rattle.ab_abs.specs.declared.entry.Entry.{Entry}
 use Rattle.ab_abs.specs.Observations.{observed_in}
 use Rattle.ab_abs.specs.Instances.{IsAbstract}
 use Rattle.ab_abs.specs.Acts.{Act, Setting, observations, named_in}
 use Rattle.ab_abs.specs.Ensembles.{Proto, entry_of}
-use Rattle.ab_abs.specs.FormLaws.{KeepsPlace, IsBlank, Belongs, begun, called, halted}
+use Rattle.ab_abs.specs.FormLaws.{KeepsPlace, IsBlank, Belongs}
 use Rattle.ab_plans.specs.declared.choice.Choice.{Choice}
 use Rattle.ab_plans.specs.declared.choice.Choice.TheVariants.{First, Second}
 use Rattle.ab_plans.specs.ChoiceRules.{either, begins, choice, sound_by, stands_by}
-use Rattle.ab_plans.specs.ChoiceLaws.{stays_law, nil_law, start_law, on_law, stop_law, others_law, act_law}
+use Rattle.ab_plans.specs.ChoiceLaws.{BelongsIn, belongs, stays_law, nil_law, start_law, on_law, stop_law, others_law, act_law}
 use Rattle.ab_plans.specs.Lawful.{IsLawfulProto}
 
 module _ {P Q : Type 0} (p : Proto P) (q : Proto Q) (serves_p serves_q : Kind → Bool) where
   abbrev both : Proto (Choice P Q)
   both = choice p q serves_p
 
-  -- whose value it is
-  abbrev BelongsIn : Cluster → ℕ → ℕ → Choice P Q → Type 0
-  BelongsIn c i r (First v) = Belongs p serves_p c i r v
-  BelongsIn c i r (Second v) = Belongs q serves_q c i r v
-
-  begun_in : (b : Bool) (c : Cluster) (i r : ℕ) (e : Entry) → serves_p (kind_of c.plan i) ≡ b → IsTrue (b || serves_q (kind_of c.plan i)) → BelongsIn c i r (begins p q b c i r e)
-  begun_in true c i r e is served = begun e is
-  begun_in false c i r e is served = begun e served
-
-  belongs : (c : Cluster) (i r : ℕ) (v : Choice P Q) → Belongs both (either serves_p serves_q) c i r v → BelongsIn c i r v
-  belongs c i r v (begun e served) = begun_in (serves_p (kind_of c.plan i)) c i r e refl served
-  belongs c i r v (called pen (First w) call was) = called pen w call (belongs c i r (First w) was)
-  belongs c i r v (called pen (Second w) call was) = called pen w call (belongs c i r (Second w) was)
-  belongs c i r v (halted (First w) was) = halted w (belongs c i r (First w) was)
-  belongs c i r v (halted (Second w) was) = halted w (belongs c i r (Second w) was)
+  belongs_in : (c : Cluster) (i r : ℕ) (v : Choice P Q) → Belongs both (either serves_p serves_q) c i r v → BelongsIn p q serves_p serves_q c i r v
+  belongs_in = belongs p q serves_p serves_q
 
   module _ (place_p : KeepsPlace p serves_p) (place_q : KeepsPlace q serves_q) where
     starts_in : (b : Bool) (c : Cluster) (r : ℕ) → IsBlank (both.state (begins p q b c 1 r (entry_of [] None)))
@@ -46,12 +31,12 @@ module _ {P Q : Type 0} (p : Proto P) (q : Proto Q) (serves_p serves_q : Kind �
     place_law = record {
       starts = λ c r. starts_in (serves_p (kind_of c.plan 1)) c r;
       own = λ c i r pen. elim [
-        | First v ↦ λ call o s was. place_p.own c i r pen v call o s (belongs c i r (First v) was)
-        | Second v ↦ λ call o s was. place_q.own c i r pen v call o s (belongs c i r (Second v) was)
+        | First v ↦ λ call o s was. place_p.own c i r pen v call o s (belongs_in c i r (First v) was)
+        | Second v ↦ λ call o s was. place_q.own c i r pen v call o s (belongs_in c i r (Second v) was)
       ];
       settles = λ c i r pen. elim [
-        | First v ↦ λ call cert was. place_p.settles c i r pen v call cert (belongs c i r (First v) was)
-        | Second v ↦ λ call cert was. place_q.settles c i r pen v call cert (belongs c i r (Second v) was)
+        | First v ↦ λ call cert was. place_p.settles c i r pen v call cert (belongs_in c i r (First v) was)
+        | Second v ↦ λ call cert was. place_q.settles c i r pen v call cert (belongs_in c i r (Second v) was)
       ];
     }
 

@@ -1,5 +1,5 @@
 -- A choice between two lawful protocols is lawful.
-use Rattle.std.proofs.Common.{◌≡◌, ℕ, ◌≤◌, Bool, true, false, ◌||◌, None, List, [], ◌∷◌, ◌⊎◌, refl, ap, inl, inr}
+use Rattle.std.proofs.Common.{◌≡◌, ℕ, ◌≤◌, Bool, true, false, ◌||◌, None, List, [], ◌∷◌, length, ◌⊎◌, refl, ap, inl, inr}
 use Rattle.std.specs.Prelude.{IsTrue}
 use Rattle.ab_num.specs.declared.plan.Kind.{Kind}
 use Rattle.ab_num.specs.Places.{kind_of}
@@ -14,33 +14,35 @@ use Rattle.ab_abs.specs.Rules.{IsStill}
 use Rattle.ab_abs.specs.Messages.{Call}
 use Rattle.ab_abs.specs.Ensembles.{Proto, entry_of, begin_of, asked_of, halt_of, MayTake}
 use Rattle.ab_abs.specs.RuleLaws.{KeepsRules, log_at_start, may_take}
-use Rattle.ab_abs.specs.FormLaws.{KeepsForm, IsBlank, Belongs, begun, called, halted, Arises, from_entry, by_call, by_stop}
+use Rattle.ab_abs.specs.FormLaws.{KeepsForm, IsBlank, Belongs, begun, called, halted, trimmed, Arises, from_entry, by_call, by_stop, by_trim}
 use Rattle.ab_plans.specs.declared.choice.Choice.{Choice}
 use Rattle.ab_plans.specs.declared.choice.Choice.TheVariants.{First, Second}
 use Rattle.ab_plans.specs.ChoiceRules.{either, begins, choice, chosen, stands_by}
 
 module _ {P Q : Type 0} (p : Proto P) (q : Proto Q) (serves_p serves_q : Kind → Bool) where
-  abbrev one_of : Proto (Choice P Q)
+  abbrev pub one_of : Proto (Choice P Q)
   one_of = choice p q serves_p
 
-  abbrev serves : Kind → Bool
+  abbrev pub serves : Kind → Bool
   serves = either serves_p serves_q
 
   -- whose value it is
-  abbrev BelongsIn : Cluster → ℕ → ℕ → Choice P Q → Type 0
+  abbrev pub BelongsIn : Cluster → ℕ → ℕ → Choice P Q → Type 0
   BelongsIn c i r (First v) = Belongs p serves_p c i r v
   BelongsIn c i r (Second v) = Belongs q serves_q c i r v
 
-  begun_in : (b : Bool) (c : Cluster) (i r : ℕ) (e : Entry) → serves_p (kind_of c.plan i) ≡ b → IsTrue (b || serves_q (kind_of c.plan i)) → BelongsIn c i r (begins p q b c i r e)
-  begun_in true c i r e is served = begun e is
-  begun_in false c i r e is served = begun e served
+  begun_in : (b : Bool) (c : Cluster) (i r : ℕ) (e : Entry) → serves_p (kind_of c.plan i) ≡ b → IsTrue (b || serves_q (kind_of c.plan i)) → e.trimmed ≤ length e.base → BelongsIn c i r (begins p q b c i r e)
+  begun_in true c i r e is served fits = begun e is fits
+  begun_in false c i r e is served fits = begun e served fits
 
-  belongs : (c : Cluster) (i r : ℕ) (v : Choice P Q) → Belongs one_of serves c i r v → BelongsIn c i r v
-  belongs c i r v (begun e served) = begun_in (serves_p (kind_of c.plan i)) c i r e refl served
+  pub belongs : (c : Cluster) (i r : ℕ) (v : Choice P Q) → Belongs one_of serves c i r v → BelongsIn c i r v
+  belongs c i r v (begun e served fits) = begun_in (serves_p (kind_of c.plan i)) c i r e refl served fits
   belongs c i r v (called pen (First w) call was) = called pen w call (belongs c i r (First w) was)
   belongs c i r v (called pen (Second w) call was) = called pen w call (belongs c i r (Second w) was)
   belongs c i r v (halted (First w) was) = halted w (belongs c i r (First w) was)
   belongs c i r v (halted (Second w) was) = halted w (belongs c i r (Second w) was)
+  belongs c i r v (trimmed n (First w) low high was) = trimmed n w low high (belongs c i r (First w) was)
+  belongs c i r v (trimmed n (Second w) low high was) = trimmed n w low high (belongs c i r (Second w) was)
 
   abbrev ArisesIn : Cluster → ℕ → ℕ → Choice P Q → Type 0
   ArisesIn c i r (First v) = Arises p serves_p c i r v
@@ -56,6 +58,8 @@ module _ {P Q : Type 0} (p : Proto P) (q : Proto Q) (serves_p serves_q : Kind �
   arises c i r v (by_call pen (Second w) call lawful formed was) = by_call pen w call lawful formed (arises c i r (Second w) was)
   arises c i r v (by_stop (First w) was) = by_stop w (arises c i r (First w) was)
   arises c i r v (by_stop (Second w) was) = by_stop w (arises c i r (Second w) was)
+  arises c i r v (by_trim n (First w) low high was) = by_trim n w low high (arises c i r (First w) was)
+  arises c i r v (by_trim n (Second w) low high was) = by_trim n w low high (arises c i r (Second w) was)
 
   module _ (form_p : KeepsForm p serves_p) (form_q : KeepsForm q serves_q) where
     starts_in : (b : Bool) (c : Cluster) (r : ℕ) → IsBlank (one_of.state (begins p q b c 1 r (entry_of [] None)))
@@ -69,6 +73,10 @@ module _ {P Q : Type 0} (p : Proto P) (q : Proto Q) (serves_p serves_q : Kind �
     enters_in : (b : Bool) (c : Cluster) (i r : ℕ) (e : Entry) → (one_of.state (begins p q b c i r e)).entered ≡ e.base
     enters_in true c i r e = form_p.enters c i r e
     enters_in false c i r e = form_q.enters c i r e
+
+    begins_trimmed_in : (b : Bool) (c : Cluster) (i r : ℕ) (e : Entry) → one_of.trimmed (begins p q b c i r e) ≡ e.trimmed
+    begins_trimmed_in true c i r e = form_p.begins_trimmed c i r e
+    begins_trimmed_in false c i r e = form_q.begins_trimmed c i r e
 
     begins_in : (b : Bool) (c : Cluster) (i r : ℕ) (e : Entry)
         → (((one_of.state (begins p q b c i r e)).log ≡ e.base) ⊎ ((one_of.state (begins p q b c i r e)).log ≡ [])) × ((one_of.state (begins p q b c i r e)).first ≡ None)
@@ -88,6 +96,11 @@ module _ {P Q : Type 0} (p : Proto P) (q : Proto Q) (serves_p serves_q : Kind �
       enters = λ c i r e. enters_in (serves_p (kind_of c.plan i)) c i r e;
       entered_stays = λ pen. elim [ First v ↦ form_p.entered_stays pen v | Second v ↦ form_q.entered_stays pen v ];
       entered_rests = elim [ First v ↦ form_p.entered_rests v | Second v ↦ form_q.entered_rests v ];
+      trim_rests = λ n. elim [ First v ↦ form_p.trim_rests n v | Second v ↦ form_q.trim_rests n v ];
+      trims = λ n. elim [ First v ↦ form_p.trims n v | Second v ↦ form_q.trims n v ];
+      begins_trimmed = λ c i r e. begins_trimmed_in (serves_p (kind_of c.plan i)) c i r e;
+      trimmed_stays = λ pen. elim [ First v ↦ form_p.trimmed_stays pen v | Second v ↦ form_q.trimmed_stays pen v ];
+      trimmed_rests = elim [ First v ↦ form_p.trimmed_rests v | Second v ↦ form_q.trimmed_rests v ];
       zcert_stays = λ c i r pen. elim [
         | First v ↦ λ call was. form_p.zcert_stays c i r pen v call (belongs c i r (First v) was)
         | Second v ↦ λ call was. form_q.zcert_stays c i r pen v call (belongs c i r (Second v) was)
@@ -192,6 +205,14 @@ module _ {S P Q : Type 0} (machine : Machine S) (p : Proto P) (q : Proto Q) (ser
   stays_law law_p law_q x acts a me (First v) apart was = (was.0, law_p x acts a me v apart was.1)
   stays_law law_p law_q x acts a me (Second v) apart was = (was.0, law_q x acts a me v apart was.1)
 
+  -- it stands as it stood when it is trimmed
+  abbrev TrimOf : {V : Type 0} → Proto V → (Setting → V → ℕ → List Act → Type 0) → Type 0
+  TrimOf {V} proto stands = (x : Setting) (acts : List Act) (me n : ℕ) (v : V) → proto.trimmed v ≤ n → n ≤ length (proto.state v).log → stands x v me acts → stands x (proto.trim n v) me acts
+
+  pub trim_law : TrimOf p stands_p → TrimOf q stands_q → TrimOf of_both StandsOf
+  trim_law law_p law_q x acts me n (First v) low high was = (was.0, law_p x acts me n v low high was.1)
+  trim_law law_p law_q x acts me n (Second v) low high was = (was.0, law_q x acts me n v low high was.1)
+
   module _ (x : Setting) where
     nil_in : (b : Bool) → (IsTrue (serves_p (kind_in x)) → 1 ≤ x.i → Premises x [] → sound_p x []) → (IsTrue (serves_q (kind_in x)) → 1 ≤ x.i → Premises x [] → sound_q x [])
         → serves_p (kind_in x) ≡ b → IsTrue (b || serves_q (kind_in x)) → 1 ≤ x.i → Premises x [] → SoundOf b x []
@@ -203,17 +224,17 @@ module _ {S P Q : Type 0} (machine : Machine S) (p : Proto P) (q : Proto Q) (ser
     nil_law law_p law_q served = nil_in (serves_p (kind_in x)) law_p law_q refl served
 
     module _ (acts : List Act) where
-      start_in : (b : Bool) (me : ℕ) (e : Entry) → (IsTrue (serves_p (kind_in x)) → MayStart x acts me e.base → StartOf p serves_p sound_p stands_p x acts me (p.begin x.cluster x.i me e) (begin_of p x me e))
-          → (IsTrue (serves_q (kind_in x)) → MayStart x acts me e.base → StartOf q serves_q sound_q stands_q x acts me (q.begin x.cluster x.i me e) (begin_of q x me e))
-          → serves_p (kind_in x) ≡ b → IsTrue (b || serves_q (kind_in x)) → MayStart x acts me e.base
+      start_in : (b : Bool) (me : ℕ) (e : Entry) → (IsTrue (serves_p (kind_in x)) → e.trimmed ≤ length e.base → MayStart x acts me e.base → StartOf p serves_p sound_p stands_p x acts me (p.begin x.cluster x.i me e) (begin_of p x me e))
+          → (IsTrue (serves_q (kind_in x)) → e.trimmed ≤ length e.base → MayStart x acts me e.base → StartOf q serves_q sound_q stands_q x acts me (q.begin x.cluster x.i me e) (begin_of q x me e))
+          → serves_p (kind_in x) ≡ b → IsTrue (b || serves_q (kind_in x)) → e.trimmed ≤ length e.base → MayStart x acts me e.base
           → SoundOf b x acts → StandsOf x (begins p q b x.cluster x.i me e) me (start_of x me e.base (of_both.state (begins p q b x.cluster x.i me e)) ∷ acts)
           × (Premises x (start_of x me e.base (of_both.state (begins p q b x.cluster x.i me e)) ∷ acts) → SoundOf b x (start_of x me e.base (of_both.state (begins p q b x.cluster x.i me e)) ∷ acts))
-      start_in true me e law_p law_q is served may was = let law = law_p is may was in ((is, law.0), law.1)
-      start_in false me e law_p law_q is served may was = let law = law_q served may was in ((is, law.0), law.1)
+      start_in true me e law_p law_q is served low may was = let law = law_p is low may was in ((is, law.0), law.1)
+      start_in false me e law_p law_q is served low may was = let law = law_q served low may was in ((is, law.0), law.1)
 
-      pub start_law : (me : ℕ) (e : Entry) → (IsTrue (serves_p (kind_in x)) → MayStart x acts me e.base → StartOf p serves_p sound_p stands_p x acts me (p.begin x.cluster x.i me e) (begin_of p x me e))
-          → (IsTrue (serves_q (kind_in x)) → MayStart x acts me e.base → StartOf q serves_q sound_q stands_q x acts me (q.begin x.cluster x.i me e) (begin_of q x me e))
-          → are_served x → MayStart x acts me e.base
+      pub start_law : (me : ℕ) (e : Entry) → (IsTrue (serves_p (kind_in x)) → e.trimmed ≤ length e.base → MayStart x acts me e.base → StartOf p serves_p sound_p stands_p x acts me (p.begin x.cluster x.i me e) (begin_of p x me e))
+          → (IsTrue (serves_q (kind_in x)) → e.trimmed ≤ length e.base → MayStart x acts me e.base → StartOf q serves_q sound_q stands_q x acts me (q.begin x.cluster x.i me e) (begin_of q x me e))
+          → are_served x → e.trimmed ≤ length e.base → MayStart x acts me e.base
           → SoundOf (serves_p (kind_in x)) x acts → StandsOf x (of_both.begin x.cluster x.i me e) me (begin_of of_both x me e ∷ acts)
           × (Premises x (begin_of of_both x me e ∷ acts) → SoundOf (serves_p (kind_in x)) x (begin_of of_both x me e ∷ acts))
       start_law me e law_p law_q served = start_in (serves_p (kind_in x)) me e law_p law_q refl served

@@ -39,6 +39,14 @@ module _ {P Q : Type 0} (p : Proto P) (q : Proto Q) where
   stops (First v) = First (p.halt v)
   stops (Second v) = Second (q.halt v)
 
+  abbrev pub trims : ℕ → Choice P Q → Choice P Q
+  trims n (First v) = First (p.trim n v)
+  trims n (Second v) = Second (q.trim n v)
+
+  abbrev pub is_trimmed : Choice P Q → ℕ
+  is_trimmed (First v) = p.trimmed v
+  is_trimmed (Second v) = q.trimmed v
+
   abbrev pub stays : Choice P Q → State
   stays (First v) = p.state v
   stays (Second v) = q.state v
@@ -50,6 +58,8 @@ module _ {P Q : Type 0} (p : Proto P) (q : Proto Q) where
     sends = sends;
     signs = signs;
     halt = stops;
+    trim = trims;
+    trimmed = is_trimmed;
     state = stays;
   }
 

@@ -1,5 +1,5 @@
 -- The laws of a protocol, of plain functions.
-use Rattle.std.specs.Prelude.{◌≡◌, ℕ, ◌≤◌, Bool, false, IsTrue, List, [], ◌∷◌, Contains}
+use Rattle.std.specs.Prelude.{◌≡◌, ℕ, ◌≤◌, Bool, false, IsTrue, List, [], ◌∷◌, length, Contains}
 use Rattle.ab_num.specs.declared.plan.Kind.{Kind}
 use Rattle.ab_svc.specs.Machines.{Machine}
 use Rattle.ab_msg.specs.Pens.{Pen}
@@ -20,7 +20,7 @@ pub record IsLawfulProto {S P : Type 0} (machine : Machine S) (proto : Proto P) 
   pub placed : KeepsPlace proto serves
   pub stands_stays : (x : Setting) (acts : List Act) (a : Act) (me : ℕ) (p : P) → IsStill me a → stands x p me acts → stands x p me (a ∷ acts)
   pub sound_nil : (x : Setting) → IsTrue (serves (kind_in x)) → 1 ≤ x.i → Premises x [] → sound x []
-  pub lawful_start : (x : Setting) (acts : List Act) (me : ℕ) (e : Entry) → IsTrue (serves (kind_in x)) → MayStart x acts me e.base → sound x acts
+  pub lawful_start : (x : Setting) (acts : List Act) (me : ℕ) (e : Entry) → IsTrue (serves (kind_in x)) → e.trimmed ≤ length e.base → MayStart x acts me e.base → sound x acts
       → stands x (proto.begin x.cluster x.i me e) me (begin_of proto x me e ∷ acts) × (Premises x (begin_of proto x me e ∷ acts) → sound x (begin_of proto x me e ∷ acts))
   pub lawful_on : (x : Setting) (acts : List Act) (me : ℕ) (pen : Pen) (p : P) (m : Call) (seen : List Seen) → IsTrue (serves (kind_in x)) → MayTake proto x acts me pen p m seen → stands x p me acts
       → stands x (proto.after pen p m) me (asked_of proto x me pen p m seen ∷ acts) × (sound x acts → Premises x (asked_of proto x me pen p m seen ∷ acts) → sound x (asked_of proto x me pen p m seen ∷ acts))

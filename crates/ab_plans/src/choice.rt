@@ -75,6 +75,20 @@ impl<S: Service, P: Protocol<S>, Q: Protocol<S>> Protocol<S> for Choice<P, Q> {
         }
     }
 
+    fn trim(&mut self, n: usize) {
+        match self {
+            Choice::First(p) => p.trim(n),
+            Choice::Second(q) => q.trim(n),
+        }
+    }
+
+    fn trimmed(&self) -> usize {
+        match self {
+            Choice::First(p) => p.trimmed(),
+            Choice::Second(q) => q.trimmed(),
+        }
+    }
+
     fn may_panic(&self) -> bool {
         match self {
             Choice::First(p) => p.may_panic(),
@@ -128,9 +142,11 @@ impl<S: Service, P: Protocol<S>, Q: Protocol<S>> Protocol<S> for Choice<P, Q> {
     ghost use Rattle.ab_abs.specs.Acts.{observations, named_in};
     ghost use Rattle.ab_abs.specs.Instances.{IsAbstract};
     ghost use Rattle.ab_abs.specs.Observations.{observed_in};
-    ghost use Rattle.ab_plans.specs.ChoiceLaws.{form_law, rule_law, stays_law, nil_law, start_law, on_law, stop_law, others_law, act_law};
+    ghost use Rattle.ab_plans.specs.ChoiceLaws.{form_law, rule_law, stays_law, trim_law, nil_law, start_law, on_law, stop_law, others_law, act_law};
 
     ghost stands_stays = { stays_law S.machine P.proto Q.proto P.serves Q.serves P.sound Q.sound P.stands Q.stands P.stands_stays Q.stands_stays };
+
+    ghost stands_trimmed = { trim_law S.machine P.proto Q.proto P.serves Q.serves P.sound Q.sound P.stands Q.stands P.stands_trimmed Q.stands_trimmed };
 
     ghost formed = { form_law P.proto Q.proto P.serves Q.serves P.formed Q.formed };
 

@@ -1,7 +1,7 @@
 -- What replicas keep and send has bytes.
 use Rattle.std.proofs.Common.{◌≡◌, ℕ, zero, suc, ◌+◌, ◌*◌, ◌<◌, ◌≤◌, true, false, Bool, Some, None, Option, List, [], ◌∷◌, length, refl, sym, ap, ◌∙◌, subst, inl, inr, arith}
 use Rattle.std.proofs.Math.Dec.{eqb-zero-suc}
-use Rattle.std.specs.Prelude.{Contains, nat_le, nat_lt, ◌==◌, ◌&&◌, if◌then◌else◌}
+use Rattle.std.specs.Prelude.{Contains, nat_le, nat_lt, min, ◌==◌, ◌&&◌, if◌then◌else◌}
 use Rattle.std.proofs.lemmas.Bool.{cases_Bool, and_parts, ltb-true}
 use Rattle.std.proofs.lemmas.List.Elements.{All-nil, Contains-append_cases}
 use Rattle.ab_num.specs.declared.cluster.Cluster.{Cluster}
@@ -19,7 +19,7 @@ use Rattle.ab_msg.specs.declared.message.Msg.TheVariants as msg
 use Rattle.ab_msg.specs.declared.message.Offer.TheVariants as offer
 use Rattle.ab_msg.specs.declared.message.Out.{Out}
 use Rattle.ab_msg.specs.Claims.{maker_of, instance_in}
-use Rattle.ab_msg.specs.Fields.{IsInstance, IsReplica, IsRequest, IsWritten}
+use Rattle.ab_msg.specs.Fields.{IsInstance, IsReplica, IsRequest, IsWritten, IsWrittenLog}
 use Rattle.ab_msg.specs.Contents.{IsStopContent, IsZcert}
 use Rattle.ab_msg.specs.Certs.{AreAborts, IsSigned}
 use Rattle.ab_msg.specs.Messages.{IsMessage}
@@ -27,9 +27,9 @@ use Rattle.ab_abs.specs.Kinds.{need_of, needs_equal, rule_of, kind_in}
 use Rattle.ab_abs.specs.Messages.{Call, took, timed, IsFormed}
 use Rattle.ab_abs.specs.Certificates.{history_of, history_in, history_held, history_by, is_whole, kept_history, led_history, is_whole_kept}
 use Rattle.ab_abs.specs.Ensembles.{Proto, entry_of}
-use Rattle.ab_abs.specs.FormLaws.{KeepsForm, Belongs, begun, called, halted, Arises, IsWrittenEntry, from_entry, by_call, by_stop}
+use Rattle.ab_abs.specs.FormLaws.{KeepsForm, Belongs, begun, called, halted, trimmed, Arises, IsWrittenEntry, from_entry, by_call, by_stop, by_trim}
 use Rattle.ab_abs.proofs.Certified.{certificate_written}
-use Rattle.ab_abs.proofs.Drafts.{few_replicas}
+use Rattle.ab_abs.proofs.Drafts.{few_replicas, written_whole, whole_written}
 use Rattle.ab_run.specs.Setups.{RunSetup, within, replicas, last_instance}
 use Rattle.ab_run.specs.Replicas.{Rep, RepAction, turn_enter, turn_call, turn_halt, turn_sign, turn_bring, turn_abort, after_turn, sent_in_turn, state_at, abort_content, pen_of, client_of, cert_instance, cert_to, abort_to, brought, aborting, aborting_with, halting, late, here, taken, taken_in, due, due_by, due_with, is_spent, turns}
 use Rattle.ab_abs.specs.Acts.{State, abort_content as stated_abort}
@@ -174,14 +174,16 @@ no_requests = ((omega arith, omega arith), (All-nil (IsRequest 0 15), λ i j d e
 
 module _ {P : Type 0} (proto : Proto P) (serves : Kind → Bool) (c : Cluster) (i r : ℕ) where
   belongs : (p : P) → Arises proto serves c i r p → Belongs proto serves c i r p
-  belongs p (from_entry e served one lt entry) = begun e served
+  belongs p (from_entry e served one lt entry) = begun e served entry.base.reaches
   belongs p (by_call pen q call lawful formed was) = called pen q call (belongs q was)
   belongs p (by_stop q was) = halted q (belongs q was)
+  belongs p (by_trim n q more within was) = trimmed n q more within (belongs q was)
 
   pub placed : (p : P) → Arises proto serves c i r p → IsInstance i
   placed p (from_entry e served one lt entry) = one
   placed p (by_call pen q call lawful formed was) = placed q was
   placed p (by_stop q was) = placed q was
+  placed p (by_trim n q more within was) = placed q was
 
 module _ {P : Type 0} (k : RunSetup) (proto : Proto P) {serves : Kind → Bool} (form : KeepsForm proto serves) (are : IsWrittenSetup k serves) where
   abbrev pub Stands : ℕ → Rep P → Type 0
@@ -189,26 +191,40 @@ module _ {P : Type 0} (k : RunSetup) (proto : Proto P) {serves : Kind → Bool} 
 
   pub first_written : (r : ℕ) → r < replicas k → Stands r (first_rep k proto r)
   first_written r lt =
-      let entry : IsWrittenEntry (entry_of [] None) = record { base = no_requests; cert = λ cert is. absurd (cc (is)) } in
-      record { arises = from_entry (entry_of [] None) (are.serves_all 1 (omega arith)) (omega arith, omega arith) lt entry; entry = entry; abort = λ v is. absurd (cc (is)) }
+      let entry : IsWrittenEntry (entry_of [] None) = record { base = whole_written [] no_requests; cert = λ cert is. absurd (cc (is)) } in
+      record {
+        arises = from_entry (entry_of [] None) (are.serves_all 1 (omega arith)) (omega arith, omega arith) lt entry;
+        untrimmed = form.begins_trimmed k.cluster 1 r (entry_of [] None);
+        entry = entry;
+        abort = λ v is. absurd (cc (is));
+      }
+
+  -- a log of which nothing is trimmed has bytes as a history
+  log_written : (r : ℕ) (s : Rep P) → Stands r s → IsWritten (state_at k proto s).log
+  log_written r s was =
+      let log = (state_at k proto s).log in
+      let none : min (proto.trimmed s.value) (length log) ≡ 0 = omega (arith, was.untrimmed) in
+      written_whole log (subst (λ (n : ℕ). IsWrittenLog n log) none (form.written k.cluster s.at r s.value was.arises))
 
   pub abort_written : (r : ℕ) (s : Rep P) → r < replicas k → Stands r s → IsStopContent (abort_content k proto r s)
   abort_written r s lt was =
       stop_written (kind_in (within k s.at)) k.cluster.f s.at r (state_at k proto s) (omega arith, few_replicas k.cluster r lt) (placed proto serves k.cluster s.at r s.value was.arises)
-      (form.written k.cluster s.at r s.value was.arises) (form.zcert_written k.cluster s.at r s.value was.arises)
+      (log_written r s was) (form.zcert_written k.cluster s.at r s.value was.arises)
 
   pub turn_keeps : (r : ℕ) (t : RepAction) (s : Rep P) → r < replicas k → IsGood t → Stands r s → Stands r (after_turn k proto r s t)
   turn_keeps r (turn_enter j cert h) s lt good was =
-      let entry : IsWrittenEntry (entry_of h (Some cert)) = record { base = good.1.1; cert = λ other is. let same : cert ≡ other = cc (is) in subst (AreAborts 1 7) same good.1.0 } in
+      let entry : IsWrittenEntry (entry_of h (Some cert)) = record { base = whole_written h good.1.1; cert = λ other is. let same : cert ≡ other = cc (is) in subst (AreAborts 1 7) same good.1.0 } in
       record {
         arises = from_entry (entry_of h (Some cert)) (are.serves_all (j + 1) (omega arith)) (omega arith, omega (arith, good.0)) lt entry;
+        untrimmed = form.begins_trimmed k.cluster (j + 1) r (entry_of h (Some cert));
         entry = entry;
         abort = λ v is. absurd (cc (is));
       }
-  turn_keeps r (turn_call call) s lt good was = record { arises = by_call (pen_of k proto r s) s.value call (λ q n. are.signs r q n lt) good was.arises; entry = was.entry; abort = was.abort }
-  turn_keeps r turn_halt s lt good was = record { arises = by_stop s.value was.arises; entry = was.entry; abort = was.abort }
+  turn_keeps r (turn_call call) s lt good was = record { arises = by_call (pen_of k proto r s) s.value call (λ q n. are.signs r q n lt) good was.arises; untrimmed = form.trimmed_stays (pen_of k proto r s) s.value call ∙ was.untrimmed; entry = was.entry; abort = was.abort }
+  turn_keeps r turn_halt s lt good was = record { arises = by_stop s.value was.arises; untrimmed = form.trimmed_rests s.value ∙ was.untrimmed; entry = was.entry; abort = was.abort }
   turn_keeps r turn_sign s lt good was = record {
     arises = was.arises;
+    untrimmed = was.untrimmed;
     entry = was.entry;
     abort = λ v is.
         let signed : Signed = record { maker = r; content = abort_content k proto r s; sig = k.sig r (abort_content k proto r s) s.used } in

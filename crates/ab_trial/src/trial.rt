@@ -1,6 +1,6 @@
 //! A service that goes ahead of a log.
 
-ghost use Rattle.std.specs.Prelude.{◌≡◌, ◌+◌, [], ◌∷◌, ◌++◌, ◌≤◌, length, IfOk, OnOk, OnErr};
+ghost use Rattle.std.specs.Prelude.{◌≡◌, ◌+◌, [], ◌∷◌, ◌++◌, ◌<◌, ◌≤◌, length, IfOk, OnOk, OnErr};
 ghost use Rattle.ab_hist.specs.Digests.{digest_of};
 ghost use Rattle.ab_svc.specs.Machines.{serve};
 ghost use Rattle.ab_abs.specs.Answers.{vote_at};
@@ -95,7 +95,8 @@ impl<S: Service> Trial<S> {
         log: &History,
         m: &Request,
     ) -> Result<Vote, OutOfMemory>
-        requires { HasServed S.machine log.now self.old.served self.old.state }
+        requires served { HasServed S.machine log.now self.old.served self.old.state }
+        requires room { length log.now < 65535 }
         ensures ok { IfOk result (λ vote. (vote ≡ vote_at S.machine (log.now ++ m.now ∷ []) m.now (length log.now + 1) (length log.now + 1)) × HasServed S.machine (log.now ++ m.now ∷ []) self.new.served self.new.state) }
         ensures err { OnErr result (HasServed S.machine log.now self.new.served self.new.state) }
     {

@@ -1,5 +1,5 @@
 -- What a replica of ZCert sends has bytes, if all that it was handed has.
-use Rattle.std.proofs.Common.{◌≡◌, ℕ, ◌+◌, ◌*◌, ◌<◌, ◌≤◌, Bool, true, false, Option, None, Some, List, [], ◌∷◌, ◌++◌, ◌⊎◌, length, refl, sym, ap, ◌∙◌, subst, inl, inr, if◌then◌else◌, arith}
+use Rattle.std.proofs.Common.{◌≡◌, ℕ, ◌+◌, ◌*◌, ◌<◌, ◌≤◌, min, Bool, true, false, Option, None, Some, List, [], ◌∷◌, ◌++◌, ◌⊎◌, length, refl, sym, ap, ◌∙◌, subst, inl, inr, if◌then◌else◌, arith}
 use Rattle.std.specs.Prelude.{Contains, nat_lt}
 use Rattle.std.proofs.lemmas.List.Elements.{Contains-append_cases}
 use Rattle.ab_num.specs.declared.cluster.Cluster.{Cluster}
@@ -12,18 +12,17 @@ use Rattle.ab_msg.specs.declared.message.Msg.{Msg}
 use Rattle.ab_msg.specs.declared.message.Msg.TheVariants as msg
 use Rattle.ab_msg.specs.declared.message.Out.{Out}
 use Rattle.ab_form.specs.Lists.{FitsInside}
-use Rattle.ab_msg.specs.Fields.{IsRequest, IsWritten, AreTags}
+use Rattle.ab_msg.specs.Fields.{IsRequest, IsWrittenLog, AreTags}
 use Rattle.ab_msg.specs.Contents.{IsZcert}
 use Rattle.ab_msg.specs.Messages.{IsDraft}
 use Rattle.ab_msg.specs.Pens.{Pen}
 use Rattle.ab_abs.specs.declared.vote.Vote.{Vote}
-use Rattle.ab_abs.specs.Answers.{answer_to}
 use Rattle.ab_abs.specs.Kinds.{is_zcert}
 use Rattle.ab_abs.specs.Members.{Member}
 use Rattle.ab_abs.specs.Messages.{Call, took, timed, IsFormed}
-use Rattle.ab_abs.specs.FormLaws.{Arises, from_entry, by_call, by_stop, SignsInForm, KeepsForm}
+use Rattle.ab_abs.specs.FormLaws.{Arises, from_entry, by_call, by_stop, by_trim, SignsInForm, KeepsForm}
 use Rattle.ab_num.proofs.Lists.{Contains-one, Contains-none}
-use Rattle.ab_abs.proofs.Drafts.{HasBytes, IsBounded, written_unless, few_replicas, unless_bytes}
+use Rattle.ab_abs.proofs.Drafts.{HasBytes, IsBounded, written_unless, written_there, written_trimmed, few_replicas, unless_bytes}
 use Rattle.ab_zlight.specs.Rules.{Light, Task, idle, ordered, asked, task_of, answer_of, orders}
 use Rattle.ab_zlight.specs.Laws.{request_in, tags_of, request_formed, tags_formed, order_out, order_draft}
 use Rattle.ab_zcert.specs.Beside.{stands_beside}
@@ -63,10 +62,10 @@ job_formed q timed formed = record {
 
 -- ---- the log
 
-written_job : (q : Keeper) (j : Job) → IsJobFormed j → IsWritten q.light.at.log → IsWritten (after_job q j).light.at.log
+written_job : (q : Keeper) (j : Job) → IsJobFormed j → IsWrittenLog q.light.at.trimmed q.light.at.log → IsWrittenLog q.light.at.trimmed (after_job q j).light.at.log
 written_job q (serves idle) formed was = was
-written_job q (serves (ordered m)) formed was = written_unless q.light.at.stopped q.light.at.log m (formed.request m (ordered m) refl refl) was
-written_job q (serves (asked m tags)) formed was = written_unless q.light.at.stopped q.light.at.log m (formed.request m (asked m tags) refl refl) was
+written_job q (serves (ordered m)) formed was = written_unless q.light.at.stopped q.light.at.trimmed q.light.at.log m (formed.request m (ordered m) refl refl) was
+written_job q (serves (asked m tags)) formed was = written_unless q.light.at.stopped q.light.at.trimmed q.light.at.log m (formed.request m (asked m tags) refl refl) was
 written_job q (keeps z) formed was = was
 
 bounded_job : (q : Keeper) (j : Job) → IsJobFormed j → IsBounded q.light.at → IsBounded (after_job q j).light.at
@@ -107,7 +106,7 @@ local_draft q z true b fits o has =
 module _ {S : Type 0} (machine : Machine S) (short : (h : List Request) (m : Request) → length (machine.answer (serve machine h) m).items ≤ 72) where
   answer_draft : (pen : Pen) (q : Member) (m : Request) → SignsInForm pen → IsBounded q → IsRequest 0 15 m → (o : Out) → Contains (answers pen q m (answer_of machine q m)) o → IsDraft o.msg
   answer_draft pen q m signs b fits o has =
-      spec_draft pen q m (answer_of machine q m) signs b fits (λ vote is. unless_bytes machine short q.stopped (length q.base) q.log m vote b.based b.written.0.1 is) o has
+      spec_draft pen q m (answer_of machine q m) signs b fits (λ vote is. unless_bytes machine short q.stopped q.trimmed (length q.base) q.log m vote b.based b.written is) o has
 
   job_draft : (pen : Pen) (f : ℕ) (q : Member) (j : Job) → SignsInForm pen → IsBounded q → IsJobFormed j → (o : Out) → Contains (sends_for machine pen f q j) o → IsDraft o.msg
   job_draft pen f q (serves idle) signs b formed o sent = absurd (Contains-none o sent)
@@ -122,20 +121,26 @@ module _ {S : Type 0} (machine : Machine S) (short : (h : List Request) (m : Req
 
   module _ (served : Kind → Bool) (c : Cluster) (i r : ℕ) where
     bounded : (q : Keeper) → Arises (zcert_proto machine) served c i r q → IsBounded q.light.at
-    bounded q (from_entry e is placed lt entry) = record { placed = placed; owned = few_replicas c r lt; based = entry.base.0.1; written = entry.base }
+    bounded q (from_entry e is placed lt entry) = record { placed = placed; owned = few_replicas c r lt; based = entry.base.few; written = entry.base }
     bounded q (by_call pen p k signs formed was) = bounded_job p (job p k) (job_formed p k formed) (bounded p was)
     bounded q (by_stop p was) = let b = bounded p was in record { placed = b.placed; owned = b.owned; based = b.based; written = b.written }
+    bounded q (by_trim n p low high was) = let b = bounded p was in record { placed = b.placed; owned = b.owned; based = b.based; written = written_trimmed p.light.at.trimmed n p.light.at.log low high b.written }
 
     pub zcert_written : (q : Keeper) → Arises (zcert_proto machine) served c i r q → FitsInside IsZcert q.zcert
     zcert_written q (from_entry e is placed lt entry) = tt
     zcert_written q (by_call pen p k signs formed was) = zcert_job p (job p k) (job_formed p k formed) (zcert_written p was)
     zcert_written q (by_stop p was) = zcert_written p was
+    zcert_written q (by_trim n p low high was) = zcert_written p was
 
-    pub stands_written : (q : Keeper) → Arises (zcert_proto machine) served c i r q → IsWritten ((zcert_proto machine).state q).log
-    stands_written q was = (bounded q was).written
+    pub stands_written : (q : Keeper) → Arises (zcert_proto machine) served c i r q → IsWrittenLog (min q.light.at.trimmed (length q.light.at.log)) q.light.at.log
+    stands_written q was = written_there q.light.at.trimmed q.light.at.log (bounded q was).written
 
     pub sends_drafts : (pen : Pen) (q : Keeper) (k : Call) → SignsInForm pen → Arises (zcert_proto machine) served c i r q → IsFormed k → (o : Out) → Contains ((zcert_proto machine).sends pen q k) o → IsDraft o.msg
     sends_drafts pen q k signs was formed o sent = job_draft pen q.light.f q.light.at (job q k) signs (bounded q was) (job_formed q k formed) o sent
+
+  trimmed_job : (q : Keeper) (j : Job) → (after_job q j).light.at.trimmed ≡ q.light.at.trimmed
+  trimmed_job q (serves t) = refl
+  trimmed_job q (keeps z) = refl
 
   entered_job : (q : Keeper) (j : Job) → (after_job q j).light.at.base ≡ q.light.at.base
   entered_job q (serves t) = refl
@@ -152,6 +157,11 @@ module _ {S : Type 0} (machine : Machine S) (short : (h : List Request) (m : Req
     enters = λ c i r e. refl;
     entered_stays = λ pen q k. entered_job q (job q k);
     entered_rests = λ q. refl;
+    trim_rests = λ n q. refl;
+    trims = λ n q. refl;
+    begins_trimmed = λ c i r e. refl;
+    trimmed_stays = λ pen q k. trimmed_job q (job q k);
+    trimmed_rests = λ q. refl;
     zcert_stays = λ c i r pen q k was stopped. rests_job q (job q k) stopped;
     zcert_rests = λ q. refl;
     zcert_beside = λ c i r q was. stands_beside machine is_zcert c i r q was;

@@ -21,12 +21,12 @@ use Rattle.ab_msg.specs.declared.signed.Signed.{Signed}
 use Rattle.ab_msg.specs.Claims.{maker_of, instance_of, fresh, signed_in}
 use Rattle.ab_msg.specs.Pens.{Pen}
 use Rattle.ab_abs.specs.declared.vote.Vote.{Vote}
-use Rattle.ab_abs.specs.Answers.{answer_to, logged}
+use Rattle.ab_abs.specs.Answers.{answer_from, logged_from}
 use Rattle.ab_abs.specs.Observations.{has_front}
 use Rattle.ab_abs.specs.Certificates.{is_quorum}
 use Rattle.ab_abs.specs.Members.{Member}
 use Rattle.ab_abs.specs.Messages.{Call}
-use Rattle.ab_abs.specs.FormLaws.{Belongs, begun, called, halted}
+use Rattle.ab_abs.specs.FormLaws.{Belongs, begun, called, halted, trimmed}
 use Rattle.ab_num.proofs.Lists.{Contains-head, Contains-one, Contains-none}
 use Rattle.ab_zlight.specs.Rules.{Light, Task, idle, ordered, asked, answer_of, log_after, orders}
 use Rattle.ab_zlight.specs.Laws.{IsOrderOut, order_out, order_own, grows_unless}
@@ -36,14 +36,14 @@ use Rattle.ab_zcert.specs.Rules.{Keeper, Job, serves, keeps, job, has_asked, tak
 
 pub grows_job : (q : Keeper) (j : Job) → IsPrefix q.light.at.log (after_job q j).light.at.log
 grows_job q (serves idle) = prefix_refl q.light.at.log
-grows_job q (serves (ordered m)) = grows_unless q.light.at.stopped q.light.at.log m
-grows_job q (serves (asked m tags)) = grows_unless q.light.at.stopped q.light.at.log m
+grows_job q (serves (ordered m)) = grows_unless q.light.at.stopped q.light.at.trimmed q.light.at.log m
+grows_job q (serves (asked m tags)) = grows_unless q.light.at.stopped q.light.at.trimmed q.light.at.log m
 grows_job q (keeps z) = prefix_refl q.light.at.log
 
 frozen_job : (q : Keeper) (j : Job) → q.light.at.stopped ≡ true → (after_job q j).light.at.log ≡ q.light.at.log
 frozen_job q (serves idle) halt = refl
-frozen_job q (serves (ordered m)) halt = ap (λ b. if b then q.light.at.log else logged q.light.at.log m) halt
-frozen_job q (serves (asked m tags)) halt = ap (λ b. if b then q.light.at.log else logged q.light.at.log m) halt
+frozen_job q (serves (ordered m)) halt = ap (λ b. if b then q.light.at.log else logged_from q.light.at.trimmed q.light.at.log m) halt
+frozen_job q (serves (asked m tags)) halt = ap (λ b. if b then q.light.at.log else logged_from q.light.at.trimmed q.light.at.log m) halt
 frozen_job q (keeps z) halt = refl
 
 stays_job : (q : Keeper) (j : Job) → (after_job q j).light.at.stopped ≡ q.light.at.stopped
@@ -128,9 +128,9 @@ module _ {S : Type 0} (machine : Machine S) where
 
   silent_job : (pen : Pen) (f : ℕ) (q : Member) (j : Job) → q.stopped ≡ true → sends_for machine pen f q j ≡ []
   silent_job pen f q (serves idle) halt = refl
-  silent_job pen f q (serves (ordered m)) halt = ap (λ b. answers pen q m (if b then None else answer_to machine (length q.base) q.log m)) halt
+  silent_job pen f q (serves (ordered m)) halt = ap (λ b. answers pen q m (if b then None else answer_from machine q.trimmed (length q.base) q.log m)) halt
   silent_job pen f q (serves (asked m tags)) halt =
-      ap (λ b. orders f q m tags (if b then None else answer_to machine (length q.base) q.log m) ++ answers pen q m (if b then None else answer_to machine (length q.base) q.log m)) halt
+      ap (λ b. orders f q m tags (if b then None else answer_from machine q.trimmed (length q.base) q.log m) ++ answers pen q m (if b then None else answer_from machine q.trimmed (length q.base) q.log m)) halt
   silent_job pen f q (keeps z) halt =
       elim (cases_Bool (takes_zcert f q z)) [
         | inl takes' ↦ absurd (let one = and_parts (not q.stopped) _ (and_parts _ _ takes').0 in cc (one.0, halt))
@@ -165,9 +165,10 @@ module _ {S : Type 0} (machine : Machine S) where
   moved_here i r q (keeps z) h = record { placed = h.placed; owned = h.owned }
 
   here : (served : Kind → Bool) (c : Cluster) (i r : ℕ) (q : Keeper) → Belongs (zcert_proto machine) served c i r q → IsHere i r q
-  here served c i r q (begun e is) = record { placed = refl; owned = refl }
+  here served c i r q (begun e is fits) = record { placed = refl; owned = refl }
   here served c i r q (called pen p k was) = moved_here i r p (job p k) (here served c i r p was)
   here served c i r q (halted p was) = let h = here served c i r p was in record { placed = h.placed; owned = h.owned }
+  here served c i r q (trimmed n p low high was) = let h = here served c i r p was in record { placed = h.placed; owned = h.owned }
 
   -- ---- the laws, as a protocol owes them
 

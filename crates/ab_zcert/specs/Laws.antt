@@ -31,7 +31,7 @@ use Rattle.ab_abs.specs.Acts.{Setting, State, Act, Premises, IsNoted, MayStart, 
 use Rattle.ab_abs.specs.Lawful.{BeginsThere, IsLawfulBy, first, call, other}
 use Rattle.ab_abs.specs.Kinds.{kind_in, is_zcert, rule_of}
 use Rattle.ab_abs.specs.Rules.{is_inner, IsOther, IsOtherBy, IsStill}
-use Rattle.ab_abs.specs.Answers.{answer_to, logged}
+use Rattle.ab_abs.specs.Answers.{answer_from, logged_from}
 use Rattle.ab_abs.specs.Observations.{has_front, observed_in}
 use Rattle.ab_abs.specs.Certificates.{is_quorum}
 use Rattle.ab_abs.specs.Members.{Member, Stands}
@@ -39,6 +39,7 @@ use Rattle.ab_abs.specs.Messages.{Call, took, timed, call_claims, call_values, c
 use Rattle.ab_abs.specs.Ensembles.{statements_of, makes, begin_of, asked_of, halt_of, MayTake}
 use Rattle.ab_abs.specs.ZcertRules.{KeepsUpTo, IsSpec, IsLocalCommit, IsZcertCall, ZcertCalls, IsZcertSound}
 use Rattle.ab_num.proofs.Lists.{Contains-one, Contains-none}
+use Rattle.ab_abs.proofs.Prefixes.{prefix_length}
 use Rattle.ab_abs.proofs.Facts.{state_cases, state_quiet, state_own}
 use Rattle.ab_abs.proofs.Following.{named_here}
 use Rattle.ab_abs.proofs.ZcertCalls.{IsZcertLater, zcert_keeping}
@@ -46,6 +47,7 @@ use Rattle.ab_abs.proofs.Fronts.{has_front-Decides}
 use Rattle.ab_abs.proofs.Steps.{IsVoteOn, vote_on, logged_more}
 use Rattle.ab_zlight.specs.Rules.{Light, Task, idle, ordered, asked, task_of, answer_of, log_after, orders}
 use Rattle.ab_zlight.specs.Laws.{request_in, claimed_in, order_out, order_own, fresh_of}
+use Rattle.ab_zlight.specs.RuleLaws.{IsRooted}
 use Rattle.ab_zcert.specs.Rules.{Keeper, Job, serves, keeps, job_of, job, has_asked, takes_zcert, higher, kept_with, after_job, spec_for, answers, local_commit, sends_for, keeper_at, zcert_proto}
 
 -- ---- what is asked
@@ -124,10 +126,10 @@ module _ {S : Type 0} (machine : Machine S) (x : Setting) where
   }
 
   -- it takes a request, and answers nothing where it is stopped
-  serve_call : (me : ℕ) (claims made : List Content) (base log : List Request) (stopped : Bool) (m : Request) (z : Option Zcert) → Contains claims (Req (Client m.client) x.i m) → IsPrefix base log → IsHistory log
-      → ((s : Content) → Contains made s → IsOwnSpec me m (if stopped then None else answer_to machine (length base) log m) s)
-      → IsZcertCall machine x claims made me (at base log stopped z) (at base (if stopped then log else logged log m) stopped z)
-  serve_call me claims made base log true m z asked' begins rises each = record {
+  serve_call : (me n : ℕ) (claims made : List Content) (base log : List Request) (stopped : Bool) (m : Request) (z : Option Zcert) → Contains claims (Req (Client m.client) x.i m) → IsPrefix base log → n ≤ length log → IsHistory log
+      → ((s : Content) → Contains made s → IsOwnSpec me m (if stopped then None else answer_from machine n (length base) log m) s)
+      → IsZcertCall machine x claims made me (at base log stopped z) (at base (if stopped then log else logged_from n log m) stopped z)
+  serve_call me n claims made base log true m z asked' begins low rises each = record {
     based = refl;
     grows = prefix_refl log;
     rises = rises;
@@ -137,8 +139,8 @@ module _ {S : Type 0} (machine : Machine S) (x : Setting) where
     added = λ q has. inl has;
     states = λ s has. elim (each s has) [ inl inner ↦ inl inner | inr found ↦ absurd (let none = found.1 in cc (none)) ];
   }
-  serve_call me claims made base log false m z asked' begins rises each =
-      let more = logged_more log m rises in
+  serve_call me n claims made base log false m z asked' begins low rises each =
+      let more = logged_more n log m rises in
       record {
         based = refl;
         grows = more.0;
@@ -154,7 +156,8 @@ module _ {S : Type 0} (machine : Machine S) (x : Setting) where
         states = λ s has.
             elim (each s has) [
               | inl inner ↦ inl inner
-              | inr found ↦ inr (inl (subst (λ (c : Content). IsSpec machine x claims (at base (logged log m) false z) me c) (sym found.2) (spec_is me claims base (logged log m) m found.0 z asked' (vote_on machine base log m found.0 begins found.1))))
+              | inr found ↦ inr (inl (subst (λ (c : Content). IsSpec machine x claims (at base (logged_from n log m) false z) me c) (sym found.2)
+                  (spec_is me claims base (logged_from n log m) m found.0 z asked' (vote_on machine n base log m found.0 begins low found.1))))
             ];
       }
 
@@ -242,23 +245,23 @@ module _ {S : Type 0} (machine : Machine S) (x : Setting) where
   keep_job_with me f claims q z k false test placed owned rises = rest_call me claims [] q.base q.log q.stopped k rises (λ s has. Contains-none s has)
 
   job_call : (me : ℕ) (pen : Pen) (q : Keeper) (j : Job) (claims : List Content) → ((m : Request) → asked_in j ≡ Some m → Contains claims (Req (Client m.client) x.i m)) → q.light.at.instance ≡ x.i → q.light.at.me ≡ me
-      → IsPrefix q.light.at.base q.light.at.log → IsHistory q.light.at.log
+      → IsRooted q.light.at → IsHistory q.light.at.log
       → IsZcertCall machine x claims (statements_of x.cluster.f me (sends_for machine pen q.light.f q.light.at j)) me (keeper_at q.light.at q.zcert) (keeper_at (after_job q j).light.at (after_job q j).zcert)
-  job_call me pen q (serves idle) claims claimed placed owned begins rises = rest_call me claims [] q.light.at.base q.light.at.log q.light.at.stopped q.zcert rises (λ s has. Contains-none s has)
-  job_call me pen q (serves (ordered m)) claims claimed placed owned begins rises =
+  job_call me pen q (serves idle) claims claimed placed owned rooted rises = rest_call me claims [] q.light.at.base q.light.at.log q.light.at.stopped q.zcert rises (λ s has. Contains-none s has)
+  job_call me pen q (serves (ordered m)) claims claimed placed owned rooted rises =
       let a = q.light.at in
-      serve_call me claims (statements_of x.cluster.f me (answers pen a m (answer_of machine a m))) a.base a.log a.stopped m q.zcert (claimed m refl) begins rises (ordered_states me x.cluster.f pen a m placed owned)
-  job_call me pen q (serves (asked m tags)) claims claimed placed owned begins rises =
+      serve_call me a.trimmed claims (statements_of x.cluster.f me (answers pen a m (answer_of machine a m))) a.base a.log a.stopped m q.zcert (claimed m refl) rooted.begins rooted.within rises (ordered_states me x.cluster.f pen a m placed owned)
+  job_call me pen q (serves (asked m tags)) claims claimed placed owned rooted rises =
       let a = q.light.at in
-      serve_call me claims (statements_of x.cluster.f me (orders q.light.f a m tags (answer_of machine a m) ++ answers pen a m (answer_of machine a m))) a.base a.log a.stopped m q.zcert (claimed m refl) begins rises
+      serve_call me a.trimmed claims (statements_of x.cluster.f me (orders q.light.f a m tags (answer_of machine a m) ++ answers pen a m (answer_of machine a m))) a.base a.log a.stopped m q.zcert (claimed m refl) rooted.begins rooted.within rises
       (asked_states me x.cluster.f q.light.f pen a m tags placed owned)
-  job_call me pen q (keeps z) claims claimed placed owned begins rises = keep_job_with me q.light.f claims q.light.at z q.zcert (takes_zcert q.light.f q.light.at z) refl placed owned rises
+  job_call me pen q (keeps z) claims claimed placed owned rooted rises = keep_job_with me q.light.f claims q.light.at z q.zcert (takes_zcert q.light.f q.light.at z) refl placed owned rises
 
   -- a call of a replica of this instance
-  pub call_law : (me : ℕ) (pen : Pen) (q : Keeper) (k : Call) → IsFormed k → IsFor x.i k → q.light.at.instance ≡ x.i → q.light.at.me ≡ me → IsPrefix q.light.at.base q.light.at.log → IsHistory q.light.at.log
+  pub call_law : (me : ℕ) (pen : Pen) (q : Keeper) (k : Call) → IsFormed k → IsFor x.i k → q.light.at.instance ≡ x.i → q.light.at.me ≡ me → IsRooted q.light.at → IsHistory q.light.at.log
       → IsZcertCall machine x (claims_in x.i (call_claims x.cluster.f me k)) (makes (zcert_proto machine) x me pen q k) me ((zcert_proto machine).state q) ((zcert_proto machine).state ((zcert_proto machine).after pen q k))
-  call_law me pen q k formed for placed owned begins rises =
-      job_call me pen q (job q k) (claims_in x.i (call_claims x.cluster.f me k)) (λ m is. claimed_job x.cluster.f me x.i q k m formed for is) placed owned begins rises
+  call_law me pen q k formed for placed owned rooted rises =
+      job_call me pen q (job q k) (claims_in x.i (call_claims x.cluster.f me k)) (λ m is. claimed_job x.cluster.f me x.i q k m formed for is) placed owned rooted rises
 
 -- ---- a lawful replica
 
@@ -271,10 +274,15 @@ same_self : (q : Keeper) (j : Job) → (after_job q j).light.at.me ≡ q.light.a
 same_self q (serves t) = refl
 same_self q (keeps z) = refl
 
+same_trimmed : (q : Keeper) (j : Job) → (after_job q j).light.at.trimmed ≡ q.light.at.trimmed
+same_trimmed q (serves t) = refl
+same_trimmed q (keeps z) = refl
+
 -- the replica is this one of this instance, and stands where the acts left it
 pub record StandsAs (x : Setting) (q : Keeper) (me : ℕ) (left : Option State) : Type 0 where
   pub placed : q.light.at.instance ≡ x.i
   pub owned : q.light.at.me ≡ me
+  pub trimmed : q.light.at.trimmed ≤ length q.light.at.log
   pub stands : Stands x me (keeper_at q.light.at q.zcert) left
 
 -- an act of another party, or without a state, leaves it where it was
@@ -305,16 +313,17 @@ module _ {S : Type 0} (machine : Machine S) (x : Setting) (acts : List Act) wher
   sound_more a lawful correct was premises =
       record { later_than_none = was.later_than_none; lawful = (lawful, correct, was.lawful); premises = premises }
 
-  calls : (me : ℕ) (q to : Keeper) (claims : List Content) (values : List (List Value)) (made : List Content) (seen : List Seen) → to.light.at.instance ≡ q.light.at.instance → to.light.at.me ≡ q.light.at.me
+  calls : (me : ℕ) (q to : Keeper) (claims : List Content) (values : List (List Value)) (made : List Content) (seen : List Seen) → to.light.at.instance ≡ q.light.at.instance → to.light.at.me ≡ q.light.at.me → to.light.at.trimmed ≡ q.light.at.trimmed
       → IsZcertCall machine x claims made me ((zcert_proto machine).state q) ((zcert_proto machine).state to) → IsNoted x me ((zcert_proto machine).state to) seen → StandsAs x q me (state_of acts me)
       → GoesTo me to (call_of me claims values made seen ((zcert_proto machine).state to))
-  calls me q to claims values made seen there mine is noted was =
+  calls me q to claims values made seen there mine trimmed is noted was =
       let old = (zcert_proto machine).state q in
       let new = (zcert_proto machine).state to in
       let a = call_of me claims values made seen new in (
         record {
           placed = there ∙ was.placed;
           owned = mine ∙ was.owned;
+          trimmed = let longer = prefix_length old.log new.log is.grows in omega (arith, was.trimmed, trimmed, longer);
           stands = record {
             within = was.stands.within;
             correct = was.stands.correct;
@@ -327,14 +336,15 @@ module _ {S : Type 0} (machine : Machine S) (x : Setting) (acts : List Act) wher
       )
 
   -- it starts
-  pub start_law : (me : ℕ) (e : Entry) → MayStart x acts me e.base → GoesTo me ((zcert_proto machine).begin x.cluster x.i me e) (begin_of (zcert_proto machine) x me e)
-  start_law me e may =
+  pub start_law : (me : ℕ) (e : Entry) → e.trimmed ≤ length e.base → MayStart x acts me e.base → GoesTo me ((zcert_proto machine).begin x.cluster x.i me e) (begin_of (zcert_proto machine) x me e)
+  start_law me e low may =
       let q = (zcert_proto machine).begin x.cluster x.i me e in
       let s = (zcert_proto machine).state q in
       let a = begin_of (zcert_proto machine) x me e in (
         record {
           placed = refl;
           owned = refl;
+          trimmed = low;
           stands = record { within = may.within; correct = may.correct; left_here = state_own a acts me s refl refl; begins = prefix_refl e.base; rises = may.rises };
         },
         λ sound premises. sound_more a (first me e.base s may.within may.none may.rises may.nothing (record { based = refl; logged = refl }) refl) may.correct sound premises,
@@ -345,12 +355,12 @@ module _ {S : Type 0} (machine : Machine S) (x : Setting) (acts : List Act) wher
       → GoesTo me ((zcert_proto machine).after pen q c) (asked_of (zcert_proto machine) x me pen q c seen)
   on_law me pen q c seen may was =
       calls me q ((zcert_proto machine).after pen q c) (claims_in x.i (call_claims x.cluster.f me c)) (call_values c) (makes (zcert_proto machine) x me pen q c) seen
-      (same_place q (job q c)) (same_self q (job q c)) (call_law machine x me pen q c may.formed may.for was.placed was.owned was.stands.begins was.stands.rises) may.noted was
+      (same_place q (job q c)) (same_self q (job q c)) (same_trimmed q (job q c)) (call_law machine x me pen q c may.formed may.for was.placed was.owned (record { begins = was.stands.begins; within = was.trimmed }) was.stands.rises) may.noted was
 
   -- it is stopped
   pub stop_law : (me : ℕ) (q : Keeper) → StandsAs x q me (state_of acts me) → GoesTo me ((zcert_proto machine).halt q) (halt_of (zcert_proto machine) me q)
   stop_law me q was =
-      calls me q ((zcert_proto machine).halt q) [] [] [] [] refl refl (record {
+      calls me q ((zcert_proto machine).halt q) [] [] [] [] refl refl refl (record {
         based = refl;
         grows = prefix_refl q.light.at.log;
         rises = was.stands.rises;
@@ -360,6 +370,10 @@ module _ {S : Type 0} (machine : Machine S) (x : Setting) (acts : List Act) wher
         added = λ m has. inl has;
         states = λ s has. absurd (Contains-none s has);
       }) (unmarked refl) was
+
+  -- it is trimmed
+  pub trim_law : (me n : ℕ) (q : Keeper) → n ≤ length q.light.at.log → StandsAs x q me (state_of acts me) → StandsAs x ((zcert_proto machine).trim n q) me (state_of acts me)
+  trim_law me n q high was = record { placed = was.placed; owned = was.owned; trimmed = high; stands = was.stands }
 
   -- an act that is no call
   pub others_law : (a : Act) → IsTrue (is_zcert (kind_in x)) → is_faulty x.faulty a.party ≡ false → IsOther x acts a → IsZcertSound machine x acts → Premises x (a ∷ acts) → IsZcertSound machine x (a ∷ acts)

@@ -24,18 +24,19 @@ use Rattle.ab_msg.specs.Claims.{fresh}
 use Rattle.ab_msg.specs.Pens.{Pen}
 use Rattle.ab_abs.specs.declared.vote.Vote.{Vote}
 use Rattle.ab_abs.specs.Acts.{State}
-use Rattle.ab_abs.specs.Answers.{answer_to}
+use Rattle.ab_abs.specs.Answers.{answer_from}
 use Rattle.ab_abs.specs.Kinds.{is_backup, is_zcert}
 use Rattle.ab_abs.specs.Observations.{has_front}
 use Rattle.ab_abs.specs.Certificates.{is_quorum}
 use Rattle.ab_abs.specs.Members.{Member}
 use Rattle.ab_abs.specs.Messages.{Call, took, timed}
-use Rattle.ab_abs.specs.FormLaws.{Belongs, begun, called, halted}
+use Rattle.ab_abs.specs.FormLaws.{Belongs, begun, called, halted, trimmed}
 use Rattle.ab_abs.specs.RuleLaws.{KeepsRules, IsBackedBy, IsInFront, speaks_of_call, may_take}
 use Rattle.ab_abs.proofs.TableLemmas.{served, untaken, begins_there, not_both, voted_unless, logged_by}
 use Rattle.ab_abs.proofs.Steps.{IsVoteOn}
 use Rattle.ab_zlight.specs.Rules.{Task, idle, ordered, asked, answer_of, log_with, orders, moved}
 use Rattle.ab_zlight.specs.Laws.{frozen_with, IsOrderOut, order_out}
+use Rattle.ab_zlight.specs.RuleLaws.{IsRooted, rooted_with}
 use Rattle.ab_zcert.specs.Rules.{Keeper, Job, serves, keeps, job, has_asked, takes_zcert, after_job, spec_for, specs_for, signed_spec, answers, local_commit, sends_for, signs_for, keeper_at, zcert_proto}
 use Rattle.ab_zcert.specs.Laws.{IsTaking, taking}
 use Rattle.ab_zcert.specs.Forms.{grows_job, rests_job, silent}
@@ -80,14 +81,15 @@ asked_in [] c stamp is = absurd (cc (is))
 asked_in (m ∷ log) c stamp is = asked_with m log c stamp ((m.client == c) && (m.stamp == stamp)) refl is (asked_in log c stamp)
 
 module _ {S : Type 0} (machine : Machine S) where
-  based : (c : Cluster) (i r : ℕ) (q : Keeper) → Belongs (zcert_proto machine) is_zcert c i r q → IsPrefix q.light.at.base q.light.at.log
-  based c i r q (begun e is) = prefix_refl e.base
-  based c i r q (called pen p k was) = based_job p (job p k) (based c i r p was)
+  rooted : (c : Cluster) (i r : ℕ) (q : Keeper) → Belongs (zcert_proto machine) is_zcert c i r q → IsRooted q.light.at
+  rooted c i r q (begun e is low) = record { begins = prefix_refl e.base; within = low }
+  rooted c i r q (called pen p k was) = rooted_job p (job p k) (rooted c i r p was)
     where
-      based_job : (p : Keeper) (j : Job) → IsPrefix p.light.at.base p.light.at.log → IsPrefix (after_job p j).light.at.base (after_job p j).light.at.log
-      based_job p (serves t) was = prefix_trans p.light.at.base p.light.at.log (after_job p (serves t)).light.at.log was (grows_job p (serves t))
-      based_job p (keeps z) was = was
-  based c i r q (halted p was) = based c i r p was
+      rooted_job : (p : Keeper) (j : Job) → IsRooted p.light.at → IsRooted (after_job p j).light.at
+      rooted_job p (serves t) was = rooted_with p.light.at t was
+      rooted_job p (keeps z) was = was
+  rooted c i r q (halted p was) = let h = rooted c i r p was in record { begins = h.begins; within = h.within }
+  rooted c i r q (trimmed n p low high was) = let h = rooted c i r p was in record { begins = h.begins; within = high }
 
   -- ---- what it states
 
@@ -120,19 +122,19 @@ module _ {S : Type 0} (machine : Machine S) where
       let in_front : IsInFront (keeper_at q k) front.m z.client z.stamp z.n z.d = record { asked_by = front.asked_by; stamped = front.stamped; stands = front.stands; digest = is.digest; reaches = is.reaches } in
       subst (λ (t : Content). IsBackedBy machine (keeper_at q k) t) (Contains-one told s has') (front.m, in_front)
 
-  backed_job : (f r : ℕ) (pen : Pen) (q : Keeper) (j : Job) (o : Out) (s : Content) → IsPrefix q.light.at.base q.light.at.log → Contains (sends_for machine pen q.light.f q.light.at j) o → Contains (fresh f (Replica r) o.msg) s
+  backed_job : (f r : ℕ) (pen : Pen) (q : Keeper) (j : Job) (o : Out) (s : Content) → IsRooted q.light.at → Contains (sends_for machine pen q.light.f q.light.at j) o → Contains (fresh f (Replica r) o.msg) s
       → IsBackedBy machine (keeper_at (after_job q j).light.at (after_job q j).zcert) s
-  backed_job f r pen q (serves idle) o s begins sent has = absurd (Contains-none o sent)
-  backed_job f r pen q (serves (ordered m)) o s begins sent has =
+  backed_job f r pen q (serves idle) o s rooted sent has = absurd (Contains-none o sent)
+  backed_job f r pen q (serves (ordered m)) o s rooted sent has =
       let a = q.light.at in
-      answer_backed f r pen a m (answer_of machine a m) (keeper_at (moved a (ordered m)) q.zcert) o s (λ vote is. voted_unless machine a.stopped a.base a.log m vote begins is) sent has
-  backed_job f r pen q (serves (asked m tags)) o s begins sent has =
+      answer_backed f r pen a m (answer_of machine a m) (keeper_at (moved a (ordered m)) q.zcert) o s (λ vote is. voted_unless machine a.stopped a.trimmed a.base a.log m vote rooted.begins rooted.within is) sent has
+  backed_job f r pen q (serves (asked m tags)) o s rooted sent has =
       let a = q.light.at in
       elim (Contains-append_cases (orders q.light.f a m tags (answer_of machine a m)) (answers pen a m (answer_of machine a m)) o sent) [
         | inl order ↦ order_backed f r a m tags q.zcert o s (order_out q.light.f a m tags (answer_of machine a m) o order) has
-        | inr answer ↦ answer_backed f r pen a m (answer_of machine a m) (keeper_at (moved a (asked m tags)) q.zcert) o s (λ vote is. voted_unless machine a.stopped a.base a.log m vote begins is) answer has
+        | inr answer ↦ answer_backed f r pen a m (answer_of machine a m) (keeper_at (moved a (asked m tags)) q.zcert) o s (λ vote is. voted_unless machine a.stopped a.trimmed a.base a.log m vote rooted.begins rooted.within is) answer has
       ]
-  backed_job f r pen q (keeps z) o s begins sent has =
+  backed_job f r pen q (keeps z) o s rooted sent has =
       local_backed q.light.f f r q.light.at z (after_job q (keeps z)).zcert (takes_zcert q.light.f q.light.at z) o s refl sent has
 
   -- ---- what no rule takes
@@ -145,13 +147,13 @@ module _ {S : Type 0} (machine : Machine S) where
   stopped_after : (q : Keeper) (j : Job) → q.light.at.stopped ≡ true → after_job q j ≡ q
   stopped_after q (serves t) is =
       let a = q.light.at in
-      ap (λ (log : List Request). record { light = record { f = q.light.f; at = record { instance = a.instance; me = a.me; base = a.base; log = log; stopped = a.stopped } }; zcert = q.zcert }) (frozen_with a t is)
+      ap (λ (log : List Request). record { light = record { f = q.light.f; at = record { instance = a.instance; me = a.me; base = a.base; trimmed = a.trimmed; log = log; stopped = a.stopped } }; zcert = q.zcert }) (frozen_with a t is)
   stopped_after q (keeps z) is = ap (λ (k : Option Zcert). record { light = q.light; zcert = k }) (rests_job q (keeps z) is)
 
   stopped_signs : (q : Member) (j : Job) → q.stopped ≡ true → signs_for machine q j ≡ []
   stopped_signs q (serves idle) is = refl
-  stopped_signs q (serves (ordered m)) is = ap (λ b. specs_for q m (if b then None else answer_to machine (length q.base) q.log m)) is
-  stopped_signs q (serves (asked m tags)) is = ap (λ b. specs_for q m (if b then None else answer_to machine (length q.base) q.log m)) is
+  stopped_signs q (serves (ordered m)) is = ap (λ b. specs_for q m (if b then None else answer_from machine q.trimmed (length q.base) q.log m)) is
+  stopped_signs q (serves (asked m tags)) is = ap (λ b. specs_for q m (if b then None else answer_from machine q.trimmed (length q.base) q.log m)) is
   stopped_signs q (keeps z) is = refl
 
   still : (k : Kind) (pen : Pen) (q : Keeper) (call : Call) → IsTrue (is_zcert k) → may_take k q.light.at.stopped call ≡ false → StaysBy pen q (job q call)
@@ -163,7 +165,7 @@ module _ {S : Type 0} (machine : Machine S) where
 
   pub rule_law : KeepsRules machine (zcert_proto machine) is_zcert
   rule_law = record {
-    answers = λ c i r pen q call o s was sent has. backed_job c.f r pen q (job q call) o s (based c i r q was) sent has;
+    answers = λ c i r pen q call o s was sent has. backed_job c.f r pen q (job q call) o s (rooted c i r q was) sent has;
     ignores = λ c i r pen q call was shut. let w = still (kind_of c.plan i) pen q call (served (zcert_proto machine) is_zcert c i r q was) shut in (w.after, w.sends, w.signs);
     begins = λ c i r e is. begins_there (kind_of c.plan i) e.base (no_backup (kind_of c.plan i) is);
     stops = λ c i r q was other. refl;

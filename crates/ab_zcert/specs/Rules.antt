@@ -109,14 +109,16 @@ abbrev pub keeper_at : Member → Option Zcert → State
 keeper_at q z = record { entered = q.base; base = q.base; log = q.log; stopped = q.stopped; first = None; zcert = z }
 
 abbrev pub halted : Member → Member
-halted q = record { instance = q.instance; me = q.me; base = q.base; log = q.log; stopped = true }
+halted q = record q { stopped = true }
 
 abbrev pub zcert_proto : {S : Type 0} → Machine S → Proto Keeper
 zcert_proto machine = record {
-  begin = λ c i r e. record { light = record { f = c.f; at = record { instance = i; me = r; base = e.base; log = e.base; stopped = false } }; zcert = None };
+  begin = λ c i r e. record { light = record { f = c.f; at = record { instance = i; me = r; base = e.base; trimmed = e.trimmed; log = e.base; stopped = false } }; zcert = None };
   after = λ pen q call. after_job q (job q call);
   sends = λ pen q call. sends_for machine pen q.light.f q.light.at (job q call);
   signs = λ q call. signs_for machine q.light.at (job q call);
   halt = λ q. record { light = record { f = q.light.f; at = halted q.light.at }; zcert = q.zcert };
+  trim = λ n q. record { light = record { f = q.light.f; at = record q.light.at { trimmed = n } }; zcert = q.zcert };
+  trimmed = λ q. q.light.at.trimmed;
   state = λ q. keeper_at q.light.at q.zcert;
 }

@@ -4,7 +4,7 @@ ghost use Rattle.std.specs.Prelude.{◌≡◌, ◌+◌, ◌*◌, ◌<◌, ◌≤
 ghost use Rattle.std.specs.Vec.{vec_capacity};
 ghost use Rattle.ab_num.specs.declared.party.Party.TheVariants.{Replica, Client};
 ghost use Rattle.ab_num.specs.Parties.{party_eq};
-ghost use Rattle.ab_hist.specs.Histories.{place_in, can_push};
+ghost use Rattle.ab_hist.specs.Known.{known_place, can_push_after};
 ghost use Rattle.ab_wire.specs.Views.{tags as tags_of};
 ghost use Rattle.ab_abs.specs.Signers.{SignsNothing};
 ghost use Rattle.ab_zlight.specs.Rules.{answer_of, primary_at, is_primary, follows, idle, ordered, asked, orders_at};
@@ -59,6 +59,7 @@ impl<S: Service> Model for ZCert<S> {
 impl<S: Service> ZCert<S> {
     /// Logs a request that may come next, and signs the answer to it. The trial shows the reply before
     /// the request is logged, since the service can't go back.
+    #[tactic(auto, using(crate::proofs::RoomLemmas::has_room))]
     fn extend<N: Notary>(
         &mut self,
         alloc: Global,
@@ -66,7 +67,7 @@ impl<S: Service> ZCert<S> {
         n: &mut N,
     ) -> Result<Signed, StepFault>
         requires goes_on { self.old.light.at.stopped ≡ false }
-        requires next { (place_in self.old.light.at.log m.now ≡ None) × (can_push self.old.light.at.log m.now ≡ true) }
+        requires next { (known_place self.old.light.at.trimmed self.old.light.at.log m.now ≡ None) × (can_push_after self.old.light.at.trimmed self.old.light.at.log m.now ≡ true) }
         ensures ok { IfOk result (λ s. (self.new ≡ after_job self.old (serves (ordered m.now))) × (Some s ≡ signed_specs (N.pen n.old) self.old.light.at m.now (answer_of S.machine self.old.light.at m.now))) }
         ensures pen { IfOk result (λ _. HasSigned 1 (N.pen n.old) (N.remains n.old) (N.pen n.new) (N.remains n.new)) }
         ensures err { OnErr result (self.new ≡ self.old) }
@@ -104,11 +105,14 @@ impl<S: Service> ZCert<S> {
 
     /// Whether a request is logged as it comes.
     fn is_next(&self, m: &Request) -> bool
-        ensures next { result ≡ true → (self.now.light.at.stopped ≡ false) × (place_in self.now.light.at.log m.now ≡ None) × (can_push self.now.light.at.log m.now ≡ true) }
+        ensures next { result ≡ true → (self.now.light.at.stopped ≡ false) × (known_place self.now.light.at.trimmed self.now.light.at.log m.now ≡ None) × (can_push_after self.now.light.at.trimmed self.now.light.at.log m.now ≡ true) }
         ensures other { result ≡ false → after_job self.now (serves (ordered m.now)) ≡ self.now }
     {
         let log = self.light.log();
-        !self.light.stopped() && log.place_of(m).is_none() && log.can_push(m)
+        let trimmed = self.light.trimmed();
+        !self.light.stopped()
+            && log.known_place(trimmed, m).is_none()
+            && log.can_push_after(trimmed, m)
     }
 
     /// Logs a request by the answer rule, and signs the answer, if it has one.
@@ -141,7 +145,7 @@ impl<S: Service> ZCert<S> {
     ) -> Outs
         requires empty { outs.items ≡ [] }
         requires room { 3 * self.now.light.f + 1 < vec_capacity outs }
-        ensures { result ≡ orders_at self.now.light.f self.now.light.at m.now (tags_of came.now) (place_in self.now.light.at.log m.now) ++ record { to = Client m.now.client; msg = Msg.Spec signed } ∷ [] }
+        ensures { result ≡ orders_at self.now.light.f self.now.light.at m.now (tags_of came.now) (known_place self.now.light.at.trimmed self.now.light.at.log m.now) ++ record { to = Client m.now.client; msg = Msg.Spec signed } ∷ [] }
     {
         self.light.tell_others(&mut outs, m, came);
         with_answer(outs, m.client, signed)
@@ -202,12 +206,12 @@ impl<S: Service> ZCert<S> {
         m: &Request,
         n: &mut N,
     ) -> Result<Outs, StepFault>
-        ensures ok { IfOk result (λ outs. let t = if (not (is_primary self.old.light) && party_eq maker (Replica (primary_at self.old.light))) && follows self.old.light.at.log m.now place then ordered m.now else idle in
+        ensures ok { IfOk result (λ outs. let t = if (not (is_primary self.old.light) && party_eq maker (Replica (primary_at self.old.light))) && follows self.old.light.at m.now place then ordered m.now else idle in
             (self.new ≡ after_job self.old (serves t)) × (outs ≡ sends_for S.machine (N.pen n.old) self.old.light.f self.old.light.at (serves t))) }
-        ensures pen { IfOk result (λ _. let t = if (not (is_primary self.old.light) && party_eq maker (Replica (primary_at self.old.light))) && follows self.old.light.at.log m.now place then ordered m.now else idle in
+        ensures pen { IfOk result (λ _. let t = if (not (is_primary self.old.light) && party_eq maker (Replica (primary_at self.old.light))) && follows self.old.light.at m.now place then ordered m.now else idle in
             HasSigned (length (signs_for S.machine self.old.light.at (serves t))) (N.pen n.old) (N.remains n.old) (N.pen n.new) (N.remains n.new)) }
         ensures err { OnErr result (self.new ≡ self.old) }
-        ensures spent { IsErrOf result StepFault.Spent → (let t = if (not (is_primary self.old.light) && party_eq maker (Replica (primary_at self.old.light))) && follows self.old.light.at.log m.now place then ordered m.now else idle in
+        ensures spent { IsErrOf result StepFault.Spent → (let t = if (not (is_primary self.old.light) && party_eq maker (Replica (primary_at self.old.light))) && follows self.old.light.at m.now place then ordered m.now else idle in
             N.remains n.old < length (signs_for S.machine self.old.light.at (serves t))) }
         ensures unused { IsErrOf result StepFault.Spent → SignsNothing (N.pen n.old) (N.remains n.old) (N.pen n.new) (N.remains n.new) }
     {
@@ -349,6 +353,14 @@ impl<S: Service> Protocol<S> for ZCert<S> {
         self.light.stop();
     }
 
+    fn trim(&mut self, n: usize) {
+        self.light.trim(n);
+    }
+
+    fn trimmed(&self) -> usize {
+        self.light.trimmed()
+    }
+
     fn may_panic(&self) -> bool {
         true
     }
@@ -385,11 +397,13 @@ impl<S: Service> Protocol<S> for ZCert<S> {
     }
 
     ghost use Rattle.ab_abs.proofs.ZcertCommits.{zcert_promises};
-    ghost use Rattle.ab_zcert.specs.Laws.{nil_law, stays_law, start_law, on_law, stop_law, others_law, names_law};
+    ghost use Rattle.ab_zcert.specs.Laws.{nil_law, stays_law, start_law, on_law, stop_law, trim_law, others_law, names_law};
     ghost use Rattle.ab_zcert.specs.Drafts.{form_law};
     ghost use Rattle.ab_zcert.specs.RuleLaws.{rule_law};
 
     ghost stands_stays = { stays_law };
+
+    ghost stands_trimmed = { λ x acts me n q low high. trim_law S.machine x acts me n q high };
 
     ghost formed = { form_law S.machine S.short };
 
@@ -397,7 +411,7 @@ impl<S: Service> Protocol<S> for ZCert<S> {
 
     ghost sound_nil = { λ x served. nil_law S.machine x };
 
-    ghost lawful_start = { λ x acts me e served may was. let law = start_law S.machine x acts me e may in (law.0, law.1 was) };
+    ghost lawful_start = { λ x acts me e served low may was. let law = start_law S.machine x acts me e low may in (law.0, law.1 was) };
 
     ghost lawful_on = { λ x acts me pen p m seen served. on_law S.machine x acts me pen p m seen };
 

@@ -15,7 +15,9 @@ use Rattle.ab_num.specs.declared.party.Party.TheVariants.{Replica, Client}
 use Rattle.ab_num.specs.Parties.{party_eq}
 use Rattle.ab_num.proofs.Lists.{Contains-head, Contains-filter_cases, flat_map_cases, Contains-one, Contains-none}
 use Rattle.ab_hist.specs.declared.request.Request.{Request}
-use Rattle.ab_hist.specs.Histories.{place_in, can_push}
+use Rattle.ab_hist.specs.Histories.{place_in}
+use Rattle.ab_hist.specs.Known.{known_place, can_push_after}
+use Rattle.ab_hist.proofs.KnownLemmas.{known_at}
 use Rattle.ab_svc.specs.Machines.{Machine, serve}
 use Rattle.ab_form.specs.Formats.{EachFits}
 use Rattle.ab_msg.specs.declared.value.Value.{Value}
@@ -26,7 +28,7 @@ use Rattle.ab_msg.specs.declared.message.Msg.TheVariants as msg
 use Rattle.ab_msg.specs.declared.message.Out.{Out}
 use Rattle.ab_msg.specs.declared.signed.Signed.{Signed}
 use Rattle.ab_msg.specs.Claims.{maker_of, instance_of, fresh, stated, signed_in}
-use Rattle.ab_msg.specs.Fields.{IsRequest, IsTag, AreTags, IsWritten, above}
+use Rattle.ab_msg.specs.Fields.{IsRequest, IsTag, AreTags, IsWrittenLog, above}
 use Rattle.ab_msg.specs.Messages.{IsDraft}
 use Rattle.ab_msg.specs.Pens.{Pen}
 use Rattle.ab_wire.specs.Inside.{tag_in}
@@ -41,11 +43,12 @@ use Rattle.ab_abs.specs.Kinds.{kind_in, rule_of}
 use Rattle.ab_abs.specs.Rules.{IsOther, IsOtherBy, IsSound, is_inner}
 use Rattle.ab_abs.specs.Messages.{Call, took, timed, call_claims, call_values, claims_in, IsFor, IsFormed}
 use Rattle.ab_abs.specs.Ensembles.{begin_of, asked_of, halt_of, statements_of, MayTake}
-use Rattle.ab_abs.specs.FormLaws.{KeepsForm, Belongs, begun, called, halted, Arises, from_entry, by_call, by_stop}
-use Rattle.ab_abs.specs.Answers.{answer_to, logged, logged_at}
+use Rattle.ab_abs.specs.FormLaws.{KeepsForm, Belongs, begun, called, halted, trimmed, Arises, from_entry, by_call, by_stop, by_trim}
+use Rattle.ab_abs.specs.Answers.{answer_from, logged_from, logged_at}
 use Rattle.ab_abs.specs.Members.{Member, member_state, respond, IsAt}
-use Rattle.ab_abs.proofs.Drafts.{IsBounded, written_unless, few_replicas, drafts_answer}
-use Rattle.ab_abs.proofs.Steps.{IsOwn, found_at, takes_request, responds_own, responds_unsigned, GoesTo, begins_at, rests_at, stops_at, others_sound}
+use Rattle.ab_abs.proofs.Prefixes.{prefix_length}
+use Rattle.ab_abs.proofs.Drafts.{IsBounded, written_unless, written_there, written_trimmed, few_replicas, drafts_answer}
+use Rattle.ab_abs.proofs.Steps.{IsOwn, found_at, takes_request, responds_own, responds_unsigned, GoesTo, begins_at, rests_at, stops_at, trims_at, others_sound}
 use Rattle.ab_zlight.specs.Rules.{Light, is_zlight, primary_at, is_primary, follows, Task, idle, ordered, asked, task_of, task, answer_of, log_with, log_after, to_others, order_msg, orders_at, orders, sends_with, moved, zlight}
 
 -- its clients commit on the votes of all
@@ -80,7 +83,7 @@ tags_if false t tags is = absurd (cc (is))
 
 -- whether an ORDER is taken
 abbrev is_taken : Light → Party → ℕ → Request → Bool
-is_taken q maker n m = (not (is_primary q) && party_eq maker (Replica (primary_at q))) && follows q.at.log m n
+is_taken q maker n m = (not (is_primary q) && party_eq maker (Replica (primary_at q))) && follows q.at m n
 
 -- a request that is answered was claimed, in the instance
 req_first : (i j : ℕ) (m : Request) (more : List Content) → j ≡ i → Contains (claims_in i (Req (Client m.client) j m ∷ more)) (Req (Client m.client) i m)
@@ -131,25 +134,29 @@ grows_at log m (Some x) next = prefix_refl log
 grows_at log m None true = (m ∷ [], refl)
 grows_at log m None false = prefix_refl log
 
-pub grows_unless : (stopped : Bool) (log : List Request) (m : Request) → IsPrefix log (if stopped then log else logged log m)
-grows_unless true log m = prefix_refl log
-grows_unless false log m = grows_at log m (place_in log m) (can_push log m)
+pub grows_unless : (stopped : Bool) (n : ℕ) (log : List Request) (m : Request) → IsPrefix log (if stopped then log else logged_from n log m)
+grows_unless true n log m = prefix_refl log
+grows_unless false n log m = grows_at log m (known_place n log m) (can_push_after n log m)
 
 pub grows_with : (q : Member) (t : Task) → IsPrefix q.log (log_after q t)
 grows_with q idle = prefix_refl q.log
-grows_with q (ordered m) = grows_unless q.stopped q.log m
-grows_with q (asked m tags) = grows_unless q.stopped q.log m
+grows_with q (ordered m) = grows_unless q.stopped q.trimmed q.log m
+grows_with q (asked m tags) = grows_unless q.stopped q.trimmed q.log m
+
+-- so what is trimmed of it stays in it
+pub keeps_trimmed : (q : Member) (t : Task) → q.trimmed ≤ length q.log → q.trimmed ≤ length (log_after q t)
+keeps_trimmed q t low = let longer = prefix_length q.log (log_after q t) (grows_with q t) in omega (arith, low, longer)
 
 -- a stopped replica logs nothing
 pub frozen_with : (q : Member) (t : Task) → q.stopped ≡ true → log_after q t ≡ q.log
 frozen_with q idle stopped = refl
-frozen_with q (ordered m) stopped = ap (λ b. if b then q.log else logged q.log m) stopped
-frozen_with q (asked m tags) stopped = ap (λ b. if b then q.log else logged q.log m) stopped
+frozen_with q (ordered m) stopped = ap (λ b. if b then q.log else logged_from q.trimmed q.log m) stopped
+frozen_with q (asked m tags) stopped = ap (λ b. if b then q.log else logged_from q.trimmed q.log m) stopped
 
-written_with : (q : Member) (t : Task) → ((m : Request) → request_in t ≡ Some m → IsRequest 0 15 m) → IsWritten q.log → IsWritten (log_after q t)
+written_with : (q : Member) (t : Task) → ((m : Request) → request_in t ≡ Some m → IsRequest 0 15 m) → IsWrittenLog q.trimmed q.log → IsWrittenLog q.trimmed (log_after q t)
 written_with q idle fits was = was
-written_with q (ordered m) fits was = written_unless q.stopped q.log m (fits m refl) was
-written_with q (asked m tags) fits was = written_unless q.stopped q.log m (fits m refl) was
+written_with q (ordered m) fits was = written_unless q.stopped q.trimmed q.log m (fits m refl) was
+written_with q (asked m tags) fits was = written_unless q.stopped q.trimmed q.log m (fits m refl) was
 
 -- ---- ORDERs
 
@@ -171,15 +178,15 @@ pub record IsOrderOut (q : Member) (m : Request) (tags : List (ℕ × List ℕ))
   pub placed : place_in (log_with q m) m ≡ Some x
   pub says : o.msg ≡ order_msg q m x tags to
 
-placed_out : (f : ℕ) (q : Member) (m : Request) (tags : List (ℕ × List ℕ)) (place : Option ℕ) (o : Out) → place_in (log_with q m) m ≡ place → Contains (orders_at f q m tags place) o → IsOrderOut q m tags o
+placed_out : (f : ℕ) (q : Member) (m : Request) (tags : List (ℕ × List ℕ)) (place : Option ℕ) (o : Out) → known_place q.trimmed (log_with q m) m ≡ place → Contains (orders_at f q m tags place) o → IsOrderOut q m tags o
 placed_out f q m tags None o is has = absurd (Contains-none o has)
 placed_out f q m tags (Some x) o is has =
     let found = other_out (3 * f + 1) q.me (order_msg q m x tags) o has in
-    record { x = x; to = found.0; placed = is; says = found.1 }
+    record { x = x; to = found.0; placed = known_at q.trimmed (log_with q m) m x is; says = found.1 }
 
 pub order_out : (f : ℕ) (q : Member) (m : Request) (tags : List (ℕ × List ℕ)) (answer : Option Vote) (o : Out) → Contains (orders f q m tags answer) o → IsOrderOut q m tags o
 order_out f q m tags None o has = absurd (Contains-none o has)
-order_out f q m tags (Some vote) o has = placed_out f q m tags (place_in (log_with q m) m) o refl has
+order_out f q m tags (Some vote) o has = placed_out f q m tags (known_place q.trimmed (log_with q m) m) o refl has
 
 -- each is the primary's own
 pub order_own : (f : ℕ) (q : Member) (m : Request) (tags : List (ℕ × List ℕ)) (o : Out) (s : Content) → IsOrderOut q m tags o → Contains (fresh f (Replica q.me) o.msg) s
@@ -202,7 +209,7 @@ pub order_draft : (q : Member) (m : Request) (tags : List (ℕ × List ℕ)) (o 
 order_draft q m tags o b fits formed is =
     let found = found_at (log_with q m) m is.x is.placed in
     let within = slice_get_within (log_with q m) found.before m found.stands in
-    let few = (written_unless q.stopped q.log m fits b.written).0.1 in
+    let few = (written_unless q.stopped q.trimmed q.log m fits b.written).few in
     let place = found.place in
     subst (λ (z : Msg). IsDraft z) (sym is.says)
     (((omega arith, b.owned), (b.placed, ((omega arith, omega arith), fits))), tag_length is.to 0 tags formed.1)
@@ -226,9 +233,9 @@ fresh_of f r outs s has =
 module _ {S : Type 0} (machine : Machine S) where
   pub silent_with : (f : ℕ) (q : Member) (t : Task) → q.stopped ≡ true → sends_with machine f q t ≡ []
   silent_with f q idle stopped = refl
-  silent_with f q (ordered m) stopped = ap (λ b. respond q.instance q.me m (if b then None else answer_to machine (length q.base) q.log m)) stopped
+  silent_with f q (ordered m) stopped = ap (λ b. respond q.instance q.me m (if b then None else answer_from machine q.trimmed (length q.base) q.log m)) stopped
   silent_with f q (asked m tags) stopped =
-      ap (λ b. orders f q m tags (if b then None else answer_to machine (length q.base) q.log m) ++ respond q.instance q.me m (if b then None else answer_to machine (length q.base) q.log m)) stopped
+      ap (λ b. orders f q m tags (if b then None else answer_from machine q.trimmed (length q.base) q.log m) ++ respond q.instance q.me m (if b then None else answer_from machine q.trimmed (length q.base) q.log m)) stopped
 
   own_with : (f g : ℕ) (q : Member) (t : Task) (o : Out) (s : Content) → Contains (sends_with machine g q t) o → Contains (fresh f (Replica q.me) o.msg) s → (maker_of s ≡ Replica q.me) × (instance_of s ≡ q.instance)
   own_with f g q idle o s sent has = absurd (Contains-none o sent)
@@ -254,9 +261,10 @@ module _ {S : Type 0} (machine : Machine S) where
     owned : q.at.me ≡ r
 
   here : (c : Cluster) (i r : ℕ) (q : Light) → Belongs (zlight machine) is_zlight c i r q → IsHere i r q
-  here c i r q (begun e served) = record { placed = refl; owned = refl }
+  here c i r q (begun e served fits) = record { placed = refl; owned = refl }
   here c i r q (called pen p call was) = let h = here c i r p was in record { placed = h.placed; owned = h.owned }
   here c i r q (halted p was) = let h = here c i r p was in record { placed = h.placed; owned = h.owned }
+  here c i r q (trimmed n p low high was) = let h = here c i r p was in record { placed = h.placed; owned = h.owned }
 
   own_law : (c : Cluster) (i r : ℕ) (pen : Pen) (q : Light) (call : Call) (o : Out) (s : Content) → Belongs (zlight machine) is_zlight c i r q → Contains ((zlight machine).sends pen q call) o → Contains (fresh c.f (Replica r) o.msg) s → (maker_of s ≡ Replica r) × (instance_of s ≡ i)
   own_law c i r pen q call o s was sent has =
@@ -266,10 +274,11 @@ module _ {S : Type 0} (machine : Machine S) where
 
   -- values with bytes
   bounded : (c : Cluster) (i r : ℕ) (q : Light) → Arises (zlight machine) is_zlight c i r q → IsBounded q.at
-  bounded c i r q (from_entry e served placed lt entry) = record { placed = placed; owned = few_replicas c r lt; based = entry.base.0.1; written = entry.base }
+  bounded c i r q (from_entry e served placed lt entry) = record { placed = placed; owned = few_replicas c r lt; based = entry.base.few; written = entry.base }
   bounded c i r q (by_call pen p call signs formed was) =
       let b = bounded c i r p was in record { placed = b.placed; owned = b.owned; based = b.based; written = written_with p.at (task p call) (request_formed p call formed) b.written }
   bounded c i r q (by_stop p was) = let b = bounded c i r p was in record { placed = b.placed; owned = b.owned; based = b.based; written = b.written }
+  bounded c i r q (by_trim n p low high was) = let b = bounded c i r p was in record { placed = b.placed; owned = b.owned; based = b.based; written = written_trimmed p.at.trimmed n p.at.log low high b.written }
 
   module _ (short : (h : List Request) (m : Request) → length (machine.answer (serve machine h) m).items ≤ 72) where
     drafts_with : (f : ℕ) (q : Member) (t : Task) → IsBounded q → ((m : Request) → request_in t ≡ Some m → IsRequest 0 15 m) → ((tags : List (ℕ × List ℕ)) → tags_of t ≡ Some tags → AreTags tags)
@@ -292,6 +301,11 @@ module _ {S : Type 0} (machine : Machine S) where
       enters = λ c i r e. refl;
       entered_stays = λ pen q call. refl;
       entered_rests = λ q. refl;
+      trim_rests = λ n q. refl;
+      trims = λ n q. refl;
+      begins_trimmed = λ c i r e. refl;
+      trimmed_stays = λ pen q call. refl;
+      trimmed_rests = λ q. refl;
       zcert_stays = λ c i r pen q call was stopped. refl;
       zcert_rests = λ q. refl;
       zcert_beside = λ c i r q was. refl;
@@ -300,17 +314,20 @@ module _ {S : Type 0} (machine : Machine S) where
       signed = λ pen q call o v sent has. absurd (unsigned_with q.f q.at (task q call) o v sent has);
       sent = λ pen q call s has. absurd (Contains-none s has);
       settles = λ c i r pen q call cert was is formed. inl refl;
-      written = λ c i r q was. (bounded c i r q was).written;
+      written = λ c i r q was. written_there q.at.trimmed q.at.log (bounded c i r q was).written;
       zcert_written = λ c i r q was. tt;
       drafts = λ c i r pen q call signs was formed o sent. drafts_with q.f q.at (task q call) (bounded c i r q was) (request_formed q call formed) (tags_formed q call formed) o sent;
     }
 
   module _ (x : Setting) (acts : List Act) where
-    pub start_law : (me : ℕ) (e : Entry) → MayStart x acts me e.base → GoesTo machine x acts me ((zlight machine).begin x.cluster x.i me e).at (begin_of (zlight machine) x me e)
-    start_law me e may = begins_at machine x acts me e.base ((zlight machine).begin x.cluster x.i me e).at refl refl refl refl may
+    pub start_law : (me : ℕ) (e : Entry) → e.trimmed ≤ length e.base → MayStart x acts me e.base → GoesTo machine x acts me ((zlight machine).begin x.cluster x.i me e).at (begin_of (zlight machine) x me e)
+    start_law me e low may = begins_at machine x acts me e.base ((zlight machine).begin x.cluster x.i me e).at refl refl refl refl low may
 
     pub stop_law : (me : ℕ) (q : Light) → IsAt x q.at me (state_of acts me) → GoesTo machine x acts me ((zlight machine).halt q).at (halt_of (zlight machine) me q)
-    stop_law me q was = stops_at machine x acts me q.at ((zlight machine).halt q).at refl refl refl refl refl was
+    stop_law me q was = stops_at machine x acts me q.at ((zlight machine).halt q).at refl refl refl refl refl refl was
+
+    pub trim_law : (me n : ℕ) (q : Light) → n ≤ length q.at.log → IsAt x q.at me (state_of acts me) → IsAt x ((zlight machine).trim n q).at me (state_of acts me)
+    trim_law me n q high was = trims_at x me q.at ((zlight machine).trim n q).at (state_of acts me) refl refl refl high was
 
     own_answer : (me : ℕ) (q : Member) (m : Request) (s : Content) → q.instance ≡ x.i → q.me ≡ me
         → (vote : Vote) × (answer_of machine q m ≡ Some vote) × (s ≡ Resp (Replica q.me) q.instance m.client m.stamp vote.n vote.d vote.reply) → IsOwn machine x acts me m (answer_of machine q m) s
@@ -341,11 +358,11 @@ module _ {S : Type 0} (machine : Machine S) where
         → GoesTo machine x acts me (moved q t) (call_of me claims values (statements_of x.cluster.f me (sends_with machine g q t)) seen (member_state (moved q t)))
     on_with me g q idle claims values seen claimed noted was = rests_at machine x acts me q claims values seen noted was
     on_with me g q (ordered m) claims values seen claimed noted was =
-        let next = takes_request machine x acts me q.base q.log q.stopped m claims values (statements_of x.cluster.f me (sends_with machine g q (ordered m))) seen (claimed m refl) (states me g q (ordered m) m refl was.placed was.owned) was.stands noted in
-        (record { placed = was.placed; owned = was.owned; stands = next.0 }, next.1)
+        let next = takes_request machine x acts me q.trimmed q.base q.log q.stopped m claims values (statements_of x.cluster.f me (sends_with machine g q (ordered m))) seen was.trimmed (claimed m refl) (states me g q (ordered m) m refl was.placed was.owned) was.stands noted in
+        (record { placed = was.placed; owned = was.owned; trimmed = keeps_trimmed q (ordered m) was.trimmed; stands = next.0 }, next.1)
     on_with me g q (asked m tags) claims values seen claimed noted was =
-        let next = takes_request machine x acts me q.base q.log q.stopped m claims values (statements_of x.cluster.f me (sends_with machine g q (asked m tags))) seen (claimed m refl) (states me g q (asked m tags) m refl was.placed was.owned) was.stands noted in
-        (record { placed = was.placed; owned = was.owned; stands = next.0 }, next.1)
+        let next = takes_request machine x acts me q.trimmed q.base q.log q.stopped m claims values (statements_of x.cluster.f me (sends_with machine g q (asked m tags))) seen was.trimmed (claimed m refl) (states me g q (asked m tags) m refl was.placed was.owned) was.stands noted in
+        (record { placed = was.placed; owned = was.owned; trimmed = keeps_trimmed q (asked m tags) was.trimmed; stands = next.0 }, next.1)
 
     pub on_law : (me : ℕ) (pen : Pen) (q : Light) (call : Call) (seen : List Seen) → MayTake (zlight machine) x acts me pen q call seen → IsAt x q.at me (state_of acts me)
         → GoesTo machine x acts me ((zlight machine).after pen q call).at (asked_of (zlight machine) x me pen q call seen)
