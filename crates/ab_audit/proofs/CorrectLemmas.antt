@@ -30,6 +30,8 @@ subject_maker (content.Spec maker i client stamp n d reply) a e = absurd (cc)
 subject_maker (content.LocalCommit maker i client stamp n d) a e = absurd (cc)
 subject_maker (content.AbortZ (Replica r) i h z) a e = let same : Abort r i ≡ a = cc in ap (λ b. Replica (accused_replica b)) same
 subject_maker (content.AbortZ (Client c) i h z) a e = absurd (cc)
+subject_maker (content.TrimmedAbort (Replica r) i start digest rest) a e = let same : Abort r i ≡ a = cc in ap (λ b. Replica (accused_replica b)) same
+subject_maker (content.TrimmedAbort (Client c) i start digest rest) a e = absurd (cc)
 
 pub not_accused : (keys : List SignKey) (inputs : List (List ℕ)) (made : List Content) (r : ℕ) (a : Accusation) → FindsItsOwn keys inputs made r → StatesOnce made r → accused_replica a ≡ r → IsAccused keys inputs a → ⊥
 not_accused keys inputs made r a own once is d =

@@ -34,7 +34,8 @@ found_among keys inputs = flat_map (λ bytes. found_as keys (message_of bytes)) 
 
 -- ---- accused
 
--- what a correct replica states once: its ABORT of an instance, with or without a certificate of answers, and its PREPARE of a view and a slot
+-- what a correct replica states once: its ABORT of an instance, whole or trimmed, with or without a certificate of answers, and its PREPARE of a view
+-- and a slot
 abbrev pub subject_of : Content → Option Accusation
 subject_of (content.Req maker i m) = None
 subject_of (content.Order maker i n m) = None
@@ -54,6 +55,8 @@ subject_of (content.Spec maker i client stamp n d reply) = None
 subject_of (content.LocalCommit maker i client stamp n d) = None
 subject_of (content.AbortZ (Replica r) i h z) = Some (Abort r i)
 subject_of (content.AbortZ (Client c) i h z) = None
+subject_of (content.TrimmedAbort (Replica r) i start digest rest) = Some (Abort r i)
+subject_of (content.TrimmedAbort (Client c) i start digest rest) = None
 
 -- two different contents are found that a correct replica states once
 pub record IsContradicted (found : List Content) (a : Accusation) : Type 0 where

@@ -1,5 +1,5 @@
 -- What shows an accusation: two contents that are found, with the numbers of their messages.
-use Rattle.std.specs.Prelude.{◌≡◌, ◌≢◌, ℕ, ◌+◌, Bool, false, not, List, [], ◌∷◌, ◌++◌, map, filter, take, Option, Some, None, Contains, slice_get, codes}
+use Rattle.std.specs.Prelude.{◌≡◌, ◌≢◌, ℕ, ◌+◌, Bool, false, not, List, [], ◌∷◌, ◌++◌, map, filter, take, Option, Some, None, Contains, slice_get, codes, decimal}
 use Rattle.std.specs.Str.{bytes_eq}
 use Rattle.hex.specs.Hex.{encode_lower}
 use Rattle.ab_num.specs.declared.party.Party.TheVariants.{Replica}
@@ -68,9 +68,14 @@ pub record Contradict (keys : List SignKey) (inputs : List (List ℕ)) (a : Accu
 
 -- ---- in words
 
--- the log that an ABORT states, or the digest that a PREPARE states
+-- how many entries of a log are trimmed, and their digest
+abbrev pub trimmed_line : ℕ → List ℕ → List ℕ
+trimmed_line start digest = codes "trimmed " then decimal start then codes " " then encode_lower digest then codes "\n"
+
+-- the log that an ABORT states, behind what is trimmed of it, or the digest that a PREPARE states
 abbrev pub words_of : Content → List ℕ
 words_of (content.Abort (Replica r) i h) = log_line r i (map key_of h)
 words_of (content.AbortZ (Replica r) i h z) = log_line r i (map key_of h)
+words_of (content.TrimmedAbort (Replica r) i start digest rest) = trimmed_line start digest ++ log_line r i (map key_of rest)
 words_of (content.Prepare maker i view slot x) = codes "digest " then encode_lower x then codes "\n"
 words_of _ = []

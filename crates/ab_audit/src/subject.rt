@@ -31,6 +31,14 @@ fn subject_in(content: &ContentRef<'_>) -> Option<Accusation>
             replica: *replica,
             instance: *instance,
         }),
+        ContentRef::TrimmedAbort {
+            maker: Party::Replica(replica),
+            instance,
+            ..
+        } => Some(Accusation::Abort {
+            replica: *replica,
+            instance: *instance,
+        }),
         ContentRef::Prepare {
             maker: Party::Replica(replica),
             instance,

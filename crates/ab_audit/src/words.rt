@@ -1,12 +1,12 @@
 //! What a content says, in words.
 
-ghost use Rattle.std.specs.Prelude.{◌≡◌, IfOk, codes, map, string_bytes};
+ghost use Rattle.std.specs.Prelude.{◌≡◌, ◌++◌, IfOk, codes, map, string_bytes};
 ghost use Rattle.hex.specs.Hex.{encode_lower};
 ghost use Rattle.ab_hist.specs.Requests.{key_of};
 ghost use Rattle.ab_text.specs.Reports.{◌then◌, log_line};
 ghost use Rattle.ab_check.specs.Listing.{claimed};
 ghost use Rattle.ab_content.specs.Views.{content as shown, history as requests_in};
-ghost use Rattle.ab_audit.specs.Exhibits.{words_of};
+ghost use Rattle.ab_audit.specs.Exhibits.{trimmed_line, words_of};
 
 use ab_check::ClaimRef;
 use ab_content::{ContentRef, HistoryRef};
@@ -36,6 +36,31 @@ fn log_words(
 {
     let entries = entries(alloc, history)?;
     let mut words = Vec::new(alloc);
+    write_log(alloc, &mut words, replica, instance, entries.as_slice())?;
+    Ok(words)
+}
+
+fn trimmed_string(alloc: Global, start: u16, digest: &[u8; 32]) -> Result<String, AllocError>
+    ensures { IfOk result (λ s. string_bytes s ≡ trimmed_line start digest.now) }
+{
+    let digits = hex::encode(alloc, digest)?;
+    format!(in alloc; "trimmed {start} {digits}\n")
+}
+
+/// The log that a replica states, and what is trimmed of it.
+fn trimmed_words(
+    alloc: Global,
+    replica: u8,
+    instance: u32,
+    start: u16,
+    digest: &[u8; 32],
+    rest: &HistoryRef<'_>,
+) -> Result<Vec<u8>, OutOfMemory>
+    ensures { IfOk result (λ v. v.items ≡ trimmed_line start digest.now ++ log_line replica instance (map key_of (requests_in rest.now))) }
+{
+    let line = trimmed_string(alloc, start, digest)?;
+    let entries = entries(alloc, rest)?;
+    let mut words = Vec::from_slice(alloc, line.as_bytes())?;
     write_log(alloc, &mut words, replica, instance, entries.as_slice())?;
     Ok(words)
 }
@@ -71,6 +96,13 @@ fn words_in(alloc: Global, content: &ContentRef<'_>) -> Result<Vec<u8>, OutOfMem
             history,
             ..
         } => log_words(alloc, *replica, *instance, history),
+        ContentRef::TrimmedAbort {
+            maker: Party::Replica(replica),
+            instance,
+            start,
+            digest,
+            rest,
+        } => trimmed_words(alloc, *replica, *instance, *start, digest, rest),
         ContentRef::Prepare { x, .. } => digest_words(alloc, x),
         _ => Ok(Vec::new(alloc)),
     }

@@ -32,6 +32,8 @@ abort_by true f j (content.Abort maker i h) is = sym (and-false (i == j))
 abort_by false f j (content.Abort maker i h) is = sym (and-true (i == j))
 abort_by true f j (content.AbortZ maker i h zcert) is = refl
 abort_by false f j (content.AbortZ maker i h zcert) is = sym (and-false (i == j))
+abort_by true f j (content.TrimmedAbort maker i start d rest) is = sym (and-false (i == j))
+abort_by false f j (content.TrimmedAbort maker i start d rest) is = sym (and-false (i == j))
 abort_by b f j _ is = absurd is
 
 -- an ABORT is one of the instance that it names, where it is as the instances of its kind have it

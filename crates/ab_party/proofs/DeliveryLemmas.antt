@@ -1,5 +1,6 @@
 -- A message opens where all that is looked at is right.
 use Rattle.std.proofs.Common.{◌≡◌, ℕ, suc, true, false, cond, IsTrue, List, [], ◌∷◌, Ok, Err, refl, sym, ap, ◌∙◌, All}
+use Rattle.std.specs.Prelude.{Bool, Result, ◌==◌, ◌&&◌}
 use Rattle.std.specs.List.{list_all}
 use Rattle.std.proofs.lemmas.Bool.{and_parts}
 use Rattle.std.proofs.lemmas.List.Elements.{All-head, All-tail}
@@ -14,6 +15,9 @@ use Rattle.ab_keys.specs.Keys.{is_party}
 use Rattle.ab_keys.specs.Rings.{Ring}
 use Rattle.ab_open.specs.declared.fault.OpenFault.TheVariants as fault
 use Rattle.ab_open.specs.Opening.{takes, verdict, judged, opening}
+use Rattle.ab_open.specs.Trimmed.{allowed, holds_trimmed}
+use Rattle.ab_form.specs.declared.bad.Bad.{Bad}
+use Rattle.ab_form.specs.declared.bad.Bad.TheVariants.{BadLength}
 use Rattle.ab_seal.specs.Sealing.{tagged}
 
 abbrev IsRight : Judge → Check → Type 0
@@ -32,11 +36,12 @@ checks_right judge f me m taken h =
     ap (λ b. cond b (Err 0) (outcome (checked_from judge 0 (checks_of f me m)))) taken ∙ ap outcome p.1
 
 -- the bytes of a message open
-pub spelled-open : (judge : Judge) (f clients : ℕ) (me : Party) (m : Msg) → IsMessage m → takes f clients me m ≡ true → is_refused me m ≡ false
-    → All (IsRight judge) (checks_of f me m) → opening judge f clients me (spell_message m) ≡ Ok m
-spelled-open judge f clients me m fits taken may h =
-    ap (judged judge f clients me) (message-law.again m fits)
-    ∙ (ap (λ b. cond b (verdict m (checks judge f me m)) (Err fault.NotMine)) taken ∙ ap (verdict m) (checks_right judge f me m may h))
+pub spelled-open : (judge : Judge) (f clients every : ℕ) (me : Party) (m : Msg) → IsMessage m → takes f clients me m ≡ true → is_refused me m ≡ false
+    → (every == 0 && holds_trimmed m) ≡ false → All (IsRight judge) (checks_of f me m) → opening judge f clients every me (spell_message m) ≡ Ok m
+spelled-open judge f clients every me m fits taken may whole h =
+    ap (λ (r : Result Msg Bad). judged judge f clients me (allowed every r)) (message-law.again m fits)
+    ∙ (ap (λ (b : Bool). judged judge f clients me (cond b (Err BadLength) (Ok m))) whole
+    ∙ (ap (λ b. cond b (verdict m (checks judge f me m)) (Err fault.NotMine)) taken ∙ ap (verdict m) (checks_right judge f me m may h)))
 
 -- whom a message goes to isn't a matter of its maker's tags
 goes-tagged : (ring : Ring) (b : Party) (m : Msg) → goes_to (tagged ring b m) b ≡ goes_to m b

@@ -24,9 +24,10 @@ pub record IsPartyRing (ring : Ring) : Type 0 where
   pub bounds : IsInBounds ring.f ring.clients
   pub party : IsTrue (is_party ring.f ring.clients ring.me)
 
--- the message that bytes are to the party, or why they don't open by its keys. A list with numbers above 255 is none of bytes
+-- the message that bytes are to the party, or why they don't open by its keys. A list with numbers above 255 is none of
+-- bytes. No checkpoint is ever due
 abbrev pub opening_by : Credentials → List ℕ → Result Msg OpenFault
-opening_by c bytes = if list_all (λ b. nat_lt b 256) bytes then opening (judge_of c.ring c.keys) c.ring.f c.ring.clients c.ring.me bytes else Err NotMine
+opening_by c bytes = if list_all (λ b. nat_lt b 256) bytes then opening (judge_of c.ring c.keys) c.ring.f c.ring.clients 0 c.ring.me bytes else Err NotMine
 
 -- a message with the tags of its maker, and to whom it goes
 abbrev pub sealed_by : Ring → Out → Packet

@@ -57,14 +57,14 @@ impl<'k> Credentials<'k> {
         Credentials { ring, signers }
     }
 
-    /// Opens bytes that came to the party.
+    /// Opens bytes that came to the party. No checkpoint is ever due.
     pub fn open<'a>(&self, alloc: Global, bytes: &'a [u8]) -> Result<Checked<'a>, OpenFault>
         ensures opening { MatchResult result (λ m. opening_by self.now bytes.now ≡ Ok m.msg) (λ e. opening_by self.now bytes.now ≡ Err e) }
         ensures me { IfOk result (λ m. m.me ≡ self.now.ring.me) }
     {
         let ring = self.ring;
         let mut verifier = Verifier::new(ring, self.signers);
-        open(alloc, ring.cluster(), ring.me(), &mut verifier, bytes)
+        open(alloc, ring.cluster(), 0, ring.me(), &mut verifier, bytes)
     }
 
     /// The replica whose they are, as one who has signed so often.

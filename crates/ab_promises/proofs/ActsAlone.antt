@@ -1,5 +1,5 @@
 -- In each run what a correct replica makes in an instance is what its own acts there make.
-use Rattle.std.proofs.Common.{◌≡◌, ◌≢◌, ℕ, ◌+◌, ◌<◌, ◌≤◌, Bool, true, false, Option, Some, None, List, [], ◌∷◌, ◌++◌, refl, sym, ap, ◌∙◌, subst, inl, inr, arith}
+use Rattle.std.proofs.Common.{◌≡◌, ◌≢◌, ℕ, ◌+◌, ◌<◌, ◌≤◌, Bool, true, false, Option, Some, None, List, [], ◌∷◌, ◌++◌, refl, sym, ap, ◌∙◌, subst, inl, inr, arith, length}
 use Rattle.std.specs.Prelude.{Contains, ◌==◌, ◌&&◌, nat_le, nat_lt, if◌then◌else◌}
 use Rattle.std.proofs.lemmas.Bool.{cases_eq, cases_lt, leb-true, eqb-true, and_parts}
 use Rattle.std.proofs.lemmas.List.Elements.{Contains-append_cases}
@@ -120,13 +120,13 @@ module _ {P : Type 0} (k : RunSetup) (proto : Proto P) (serves : Kind → Bool) 
   }
 
   -- it begins in a later instance
-  enters : (i j : ℕ) (p : P) (made : List Content) (e : Entry) → i ≤ j → IsHistory e.base → IsHere i p made → IsHere (j + 1) (proto.begin k.cluster (j + 1) r e) made
-  enters i j p made e le rises was =
+  enters : (i j : ℕ) (p : P) (made : List Content) (e : Entry) → e.trimmed ≤ length e.base → i ≤ j → IsHistory e.base → IsHere i p made → IsHere (j + 1) (proto.begin k.cluster (j + 1) r e) made
+  enters i j p made e fits le rises was =
       let may : MayStart (setting k.cluster [] (j + 1)) [] r e.base = record { within = lt; correct = refl; none = refl; rises = rises; nothing = λ first. absurd (omega (arith, first, le, was.one)) } in
       record {
         one = omega arith;
         acts = begin_of proto (setting k.cluster [] (j + 1)) r e ∷ [];
-        are = begins e may;
+        are = begins e fits may;
         said = λ s has mine is. absurd (omega (arith, was.within s has mine, is, le));
         past = λ n less.
             elim (cases_lt n i) [
@@ -188,7 +188,7 @@ module _ {P : Type 0} (k : RunSetup) (proto : Proto P) (serves : Kind → Bool) 
   Stays s made = IsHere s.at s.value made
 
   turn_stays : (s : Rep P) (t : RepAction) (made : List Content) → MayTurn s t → Stays s made → Stays (after_turn k proto r s t) (made_in_turn k proto r s t ++ made)
-  turn_stays s (turn_enter j cert h) made may was = enters s.at j s.value made (entry_of h (Some cert)) may.0 may.1 was
+  turn_stays s (turn_enter j cert h) made may was = enters s.at j s.value made (entry_of h (Some cert)) (omega arith) may.0 may.1 was
   turn_stays s (turn_call call) made may was =
       let pen = pen_of k proto r s in
       let x = setting k.cluster [] s.at in
@@ -369,7 +369,7 @@ module _ {P : Type 0} (k : RunSetup) (proto : Proto P) (serves : Kind → Bool) 
       record {
         one = omega arith;
         acts = begin_of proto (setting k.cluster [] 1) r (entry_of [] None) ∷ [];
-        are = begins (entry_of [] None) may;
+        are = begins (entry_of [] None) (omega arith) may;
         said = λ s has mine is. absurd (Contains-none s has);
         past = λ j less. inl (λ s has mine is. Contains-none s has);
         within = λ s has mine. absurd (Contains-none s has);

@@ -15,6 +15,8 @@ abort_of (content.Abort (Replica s) j h) q i is = let r_is : s ≡ q = cc (is) i
 abort_of (content.Abort (Client d) j h) q i is = absurd (cc (is))
 abort_of (content.AbortZ (Replica s) j h z) q i is = let r_is : s ≡ q = cc (is) in let i_is : j ≡ i = cc (is) in (refl, ap Replica r_is, i_is)
 abort_of (content.AbortZ (Client d) j h z) q i is = absurd (cc (is))
+abort_of (content.TrimmedAbort (Replica s) j start d rest) q i is = let r_is : s ≡ q = cc (is) in let i_is : j ≡ i = cc (is) in (refl, ap Replica r_is, i_is)
+abort_of (content.TrimmedAbort (Client d) j start x rest) q i is = absurd (cc (is))
 abort_of (content.Prepare (Replica s) j v n x) q i is = absurd (cc (is))
 abort_of (content.Prepare (Client d) j v n x) q i is = absurd (cc (is))
 abort_of _ q i is = absurd (cc (is))
@@ -26,6 +28,8 @@ prepare_of (content.Abort (Replica s) j h) q i v n is = absurd (cc (is))
 prepare_of (content.Abort (Client d) j h) q i v n is = absurd (cc (is))
 prepare_of (content.AbortZ (Replica s) j h z) q i v n is = absurd (cc (is))
 prepare_of (content.AbortZ (Client d) j h z) q i v n is = absurd (cc (is))
+prepare_of (content.TrimmedAbort (Replica s) j start d rest) q i v n is = absurd (cc (is))
+prepare_of (content.TrimmedAbort (Client d) j start x rest) q i v n is = absurd (cc (is))
 prepare_of _ q i v n is = absurd (cc (is))
 
 module _ (made : List Content) where

@@ -9,6 +9,7 @@ use Rattle.ab_num.specs.Places.{position_in}
 use Rattle.ab_num.proofs.Lists.{Contains-none, Contains-one, Contains-cons_cases, Contains-map_cases, flat_map_cases}
 use Rattle.ab_hist.specs.declared.request.Request.{Request}
 use Rattle.ab_hist.specs.Histories.{place_in}
+use Rattle.ab_hist.specs.Known.{known_place}
 use Rattle.ab_svc.specs.Machines.{Machine}
 use Rattle.ab_msg.specs.declared.content.Content.{Content}
 use Rattle.ab_msg.specs.declared.content.Content.TheVariants.{Order, Resp, ChainTag, PrePrepare, Prepare, Commit, ViewChange, NewView, Spec, LocalCommit}
@@ -109,7 +110,7 @@ orders_where f q m tags (Some x) o sent = orders_all (3 * f + 1) q m x tags o se
 
 orders_with : (f : ℕ) (q : Member) (m : Request) (tags : List (ℕ × List ℕ)) (vote : Option Vote) (o : Out) → Contains (orders_by f q m tags vote) o → Answers o
 orders_with f q m tags None o sent = absurd (Contains-none o sent)
-orders_with f q m tags (Some vote) o sent = orders_where f q m tags (place_in (lights.log_with q m) m) o sent
+orders_with f q m tags (Some vote) o sent = orders_where f q m tags (known_place q.trimmed (lights.log_with q m) m) o sent
 
 module _ {S : Type 0} (machine : Machine S) where
   light_with : (f : ℕ) (q : Member) (t : lights.Task) (o : Out) → Contains (lights.sends_with machine f q t) o → Answers o

@@ -28,8 +28,8 @@ module _ {P Q : Type 0} (p : Proto P) (q : Proto Q) (serves : Kind → Bool) whe
   begun_at x r e b = begins_by p q b x.cluster x.i r e
 
   first_acts : (x : Setting) (r : ℕ) (acts : List Act) (v : Choice P Q) → serves (kind_in x) ≡ true → AreActsOf both x r acts v → IsFirst x r acts v
-  first_acts x r _ _ first (begins e may) =
-      subst (λ (b : Bool). IsFirst x r (start_of x r e.base (both.state (begins_by p q b x.cluster x.i r e)) ∷ []) (begins_by p q b x.cluster x.i r e)) (sym first) (p.begin x.cluster x.i r e, refl, begins e may)
+  first_acts x r _ _ first (begins e fits may) =
+      subst (λ (b : Bool). IsFirst x r (start_of x r e.base (both.state (begins_by p q b x.cluster x.i r e)) ∷ []) (begins_by p q b x.cluster x.i r e)) (sym first) (p.begin x.cluster x.i r e, refl, begins e fits may)
   first_acts x r _ _ first (takes {acts} {p = v} pen call seen before may) =
       let was = first_acts x r acts v first before in
       let next : MayTake both x acts r pen (First was.0) call seen → IsFirst x r (asked_of both x r pen (First was.0) call seen ∷ acts) (both.after pen (First was.0) call) =
@@ -45,8 +45,8 @@ module _ {P Q : Type 0} (p : Proto P) (q : Proto Q) (serves : Kind → Bool) whe
       subst (λ (z : Choice P Q). (both.state z).stopped ≡ true → IsFirst x r (abort_by (rule_in x) x r (both.state z) ∷ acts) z) (sym was.1) next stopped
 
   second_acts : (x : Setting) (r : ℕ) (acts : List Act) (v : Choice P Q) → serves (kind_in x) ≡ false → AreActsOf both x r acts v → IsSecond x r acts v
-  second_acts x r _ _ second (begins e may) =
-      subst (λ (b : Bool). IsSecond x r (start_of x r e.base (both.state (begins_by p q b x.cluster x.i r e)) ∷ []) (begins_by p q b x.cluster x.i r e)) (sym second) (q.begin x.cluster x.i r e, refl, begins e may)
+  second_acts x r _ _ second (begins e fits may) =
+      subst (λ (b : Bool). IsSecond x r (start_of x r e.base (both.state (begins_by p q b x.cluster x.i r e)) ∷ []) (begins_by p q b x.cluster x.i r e)) (sym second) (q.begin x.cluster x.i r e, refl, begins e fits may)
   second_acts x r _ _ second (takes {acts} {p = v} pen call seen before may) =
       let was = second_acts x r acts v second before in
       let next : MayTake both x acts r pen (Second was.0) call seen → IsSecond x r (asked_of both x r pen (Second was.0) call seen ∷ acts) (both.after pen (Second was.0) call) =

@@ -66,10 +66,10 @@ module _ {P Q : Type 0} (p : Proto P) (q : Proto Q) (serves : Kind → Bool) (x 
 
   second_own : (acts : List Act) (left : ℕ → Option (Choice P Q)) → AreOwnCalls both x acts left → AreSecond acts left
   second_own _ _ none_yet = record { values = λ r. None; calls = none_yet; same = λ r. refl }
-  second_own _ _ (begins {acts} {left} me e before may) =
+  second_own _ _ (begins {acts} {left} me e fits before may) =
       let was = second_own acts left before in
       let now : AreSecond (begin_of q x me e ∷ acts) (put left me (Some (Second (q.begin x.cluster x.i me e)))) =
-      record { values = put was.values me (Some (q.begin x.cluster x.i me e)); calls = begins me e was.calls may; same = put_second left was.values me (q.begin x.cluster x.i me e) was.same } in
+      record { values = put was.values me (Some (q.begin x.cluster x.i me e)); calls = begins me e fits was.calls may; same = put_second left was.values me (q.begin x.cluster x.i me e) was.same } in
       subst (λ (v : Choice P Q). AreSecond (record { party = (begin_of q x me e).party; claims = []; values = []; made = []; observations = (begin_of q x me e).observations; state = Some (both.state v) } ∷ acts) (put left me (Some v))) (sym (begun_second me e)) now
   second_own _ _ (takes {acts} {left} me v pen call seen before at may) =
       let was = second_own acts left before in

@@ -1,5 +1,5 @@
 -- Own calls keep acts sound.
-use Rattle.std.proofs.Common.{◌≡◌, ℕ, ◌≤◌, Bool, false, Option, Some, List, [], ◌∷◌, refl, sym, ap, ◌∙◌, subst, inl, inr}
+use Rattle.std.proofs.Common.{◌≡◌, ℕ, ◌≤◌, Bool, false, Option, Some, List, [], ◌∷◌, refl, sym, ap, ◌∙◌, subst, inl, inr, length}
 use Rattle.std.specs.Prelude.{Contains, IsTrue}
 use Rattle.std.proofs.lemmas.Bool.{cases_eq}
 use Rattle.std.proofs.lemmas.Option.{none-some, same_Some}
@@ -47,7 +47,7 @@ other_still x acts a (aborts q s lt was stopped is) r =
 module _ {P : Type 0} (proto : Proto P) (sound : Setting → List Act → Type 0) (stands : Setting → P → ℕ → List Act → Type 0) (serves : Kind → Bool)
     (stay : (x : Setting) (acts : List Act) (a : Act) (me : ℕ) (p : P) → IsStill me a → stands x p me acts → stands x p me (a ∷ acts))
     (nil : (x : Setting) → IsTrue (serves (kind_in x)) → 1 ≤ x.i → Premises x [] → sound x [])
-    (start : (x : Setting) (acts : List Act) (me : ℕ) (e : Entry) → IsTrue (serves (kind_in x)) → MayStart x acts me e.base → sound x acts → stands x (proto.begin x.cluster x.i me e) me (begin_of proto x me e ∷ acts) × (Premises x (begin_of proto x me e ∷ acts) → sound x (begin_of proto x me e ∷ acts)))
+    (start : (x : Setting) (acts : List Act) (me : ℕ) (e : Entry) → IsTrue (serves (kind_in x)) → e.trimmed ≤ length e.base → MayStart x acts me e.base → sound x acts → stands x (proto.begin x.cluster x.i me e) me (begin_of proto x me e ∷ acts) × (Premises x (begin_of proto x me e ∷ acts) → sound x (begin_of proto x me e ∷ acts)))
     (answer : (x : Setting) (acts : List Act) (me : ℕ) (pen : Pen) (p : P) (m : Call) (seen : List Seen) → IsTrue (serves (kind_in x)) → MayTake proto x acts me pen p m seen → stands x p me acts → stands x (proto.after pen p m) me (asked_of proto x me pen p m seen ∷ acts) × (sound x acts → Premises x (asked_of proto x me pen p m seen ∷ acts) → sound x (asked_of proto x me pen p m seen ∷ acts)))
     (halt : (x : Setting) (acts : List Act) (me : ℕ) (p : P) → IsTrue (serves (kind_in x)) → stands x p me acts → stands x (proto.halt p) me (halt_of proto me p ∷ acts) × (sound x acts → Premises x (halt_of proto me p ∷ acts) → sound x (halt_of proto me p ∷ acts)))
     (more : (x : Setting) (acts : List Act) (a : Act) → IsTrue (serves (kind_in x)) → is_faulty x.faulty a.party ≡ false → IsOther x acts a → sound x acts → Premises x (a ∷ acts) → sound x (a ∷ acts))
@@ -70,9 +70,9 @@ module _ {P : Type 0} (proto : Proto P) (sound : Setting → List Act → Type 0
 
   pub own_sound : (acts : List Act) (left : ℕ → Option P) → AreOwnCalls proto x acts left → Premises x acts → AreSound acts left
   own_sound _ _ none_yet premises = record { sounds = nil x served one premises; stand = λ r p is. absurd (none-some p is) }
-  own_sound _ _ (begins {acts} {left} me e before may) premises =
+  own_sound _ _ (begins {acts} {left} me e fits before may) premises =
       let was = own_sound acts left before (premises_before x (begin_of proto x me e) acts premises) in
-      let law = start x acts me e served may was.sounds in
+      let law = start x acts me e served fits may was.sounds in
       record { sounds = law.1 premises; stand = goes_on acts left (begin_of proto x me e) me (proto.begin x.cluster x.i me e) refl was law.0 }
   own_sound _ _ (takes {acts} {left} me p pen call seen before at may) premises =
       let was = own_sound acts left before (premises_before x (asked_of proto x me pen p call seen) acts premises) in

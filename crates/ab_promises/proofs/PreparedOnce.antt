@@ -48,8 +48,8 @@ module _ {S Q : Type 0} (machine : Machine S) (orders : OrderProto Q Pbft) (obey
 
   -- the value stands where the acts left it
   stands : (acts : List Act) (v : Backing Q) → AreActsOf (backup orders pbft machine) x r acts v → backup_stands orders pbft PbftStands x v r acts
-  stands _ _ (begins e may) =
-      (laws.start machine orders pbft obeys pbft_orderly IsPbftSound PbftStands pbft_lawful x [] r e served may
+  stands _ _ (begins e fits may) =
+      (laws.start machine orders pbft obeys pbft_orderly IsPbftSound PbftStands pbft_lawful x [] r e served fits may
       (laws.nil machine orders pbft obeys pbft_orderly IsPbftSound PbftStands pbft_lawful x served one (no_premises c i))).0
   stands _ _ (takes {acts} {p = v} pen call seen before may) =
       (laws.takes machine orders pbft obeys pbft_orderly IsPbftSound PbftStands pbft_lawful x acts r pen v call seen may (stands acts v before) served).0
@@ -61,7 +61,7 @@ module _ {S Q : Type 0} (machine : Machine S) (orders : OrderProto Q Pbft) (obey
 
   -- they are its own
   own : (acts : List Act) (v : Backing Q) → AreActsOf (backup orders pbft machine) x r acts v → own_acts r acts ≡ acts
-  own _ _ (begins e may) = own_own (begin_of (backup orders pbft machine) x r e) [] r refl
+  own _ _ (begins e fits may) = own_own (begin_of (backup orders pbft machine) x r e) [] r refl
   own _ _ (takes {acts} {p = v} pen call seen before may) =
       let a = asked_of (backup orders pbft machine) x r pen v call seen in own_own a acts r refl ∙ ap (λ l. a ∷ l) (own acts v before)
   own _ _ (stops {acts} {p = v} before) = let a = halt_of (backup orders pbft machine) r v in own_own a acts r refl ∙ ap (λ l. a ∷ l) (own acts v before)

@@ -1,5 +1,5 @@
 -- Each instance of a run over a protocol is a list of acts in which each call is its own.
-use Rattle.std.proofs.Common.{◌≡◌, ◌≢◌, ℕ, ◌+◌, ◌*◌, ◌<◌, ◌≤◌, true, false, Option, None, Some, List, [], ◌∷◌, ◌⊎◌, refl, sym, ap, ◌∙◌, subst, inl, inr, arith}
+use Rattle.std.proofs.Common.{◌≡◌, ◌≢◌, ℕ, ◌+◌, ◌*◌, ◌<◌, ◌≤◌, true, false, Option, None, Some, List, [], ◌∷◌, ◌⊎◌, refl, sym, ap, ◌∙◌, subst, inl, inr, arith, length}
 use Rattle.std.proofs.lemmas.Bool.{cases_Bool, cases_eq}
 use Rattle.ab_num.specs.declared.cluster.Cluster.{Cluster}
 use Rattle.ab_num.specs.declared.party.Party.{Party}
@@ -101,9 +101,9 @@ module _ {P : Type 0} (proto : Proto P) (c : Cluster) (faulty : List Party) wher
   }
 
   -- replica r begins in a later instance k
-  starts : (w : Ensemble P) (r k : ℕ) (e : Entry) → r < 3 * c.f + 1 → is_faulty faulty (Replica r) ≡ false → 1 ≤ k → w.at r < k → IsHistory e.base → (k ≡ 1 → e.base ≡ []) → Keeps w
+  starts : (w : Ensemble P) (r k : ℕ) (e : Entry) → e.trimmed ≤ length e.base → r < 3 * c.f + 1 → is_faulty faulty (Replica r) ≡ false → 1 ≤ k → w.at r < k → IsHistory e.base → (k ≡ 1 → e.base ≡ []) → Keeps w
       → Keeps (record { at = put w.at r k; value = put w.value r (proto.begin c k r e); base = put w.base r e.base; run = did k (begin_of proto (at k) r e) w.run })
-  starts w r k e lt good one above rises nothing was =
+  starts w r k e fits lt good one above rises nothing was =
       let a = begin_of proto (at k) r e in
       let p = proto.begin c k r e in
       let may : MayStart (at k) (acts_in k w.run) r e.base = record { within = lt; correct = good; none = was.fresh r k above; rises = rises; nothing = nothing } in
@@ -139,7 +139,7 @@ module _ {P : Type 0} (proto : Proto P) (c : Cluster) (faulty : List Party) wher
                   let before = was.own k one in
                   record {
                     left = put before.left r (Some p);
-                    calls = calls_here k a w.run i (put before.left r (Some p)) now.0 now.1 (begins r e before.calls may);
+                    calls = calls_here k a w.run i (put before.left r (Some p)) now.0 now.1 (begins r e fits before.calls may);
                     here = λ q in_i.
                         elim (cases_eq q r) [
                           | inl same ↦ subst (λ (z : ℕ). put before.left r (Some p) z ≡ Some (put w.value r p z)) (sym same) (put_same before.left r (Some p) ∙ ap Some (sym (put_same w.value r p)))
@@ -164,7 +164,7 @@ module _ {P : Type 0} (proto : Proto P) (c : Cluster) (faulty : List Party) wher
   none_before i j e less in_h = absurd (omega (arith, in_h))
 
   step_keeps : (w v : Ensemble P) → EnsembleEvent proto c faulty w v → Keeps w → Keeps v
-  step_keeps w v (begins_in r lt good zero') was = starts w r 1 (entry_of [] None) lt good (omega arith) (omega (arith, zero')) none_before (λ _. refl) was
+  step_keeps w v (begins_in r lt good zero') was = starts w r 1 (entry_of [] None) (omega arith) lt good (omega arith) (omega (arith, zero')) none_before (λ _. refl) was
   step_keeps w v (asked r pen m lt good begun formed for settled) was =
       let x = at (w.at r) in
       let acts = acts_in (w.at r) w.run in
@@ -202,7 +202,7 @@ module _ {P : Type 0} (proto : Proto P) (c : Cluster) (faulty : List Party) wher
         };
   }
   step_keeps w v (enters r j held h lt good begun le rises took_it) was =
-      starts w r (j + 1) (entry_of h (Some held)) lt good (omega arith) (omega (arith, le)) rises (λ e. absurd (omega (arith, e, begun, le))) was
+      starts w r (j + 1) (entry_of h (Some held)) (omega arith) lt good (omega arith) (omega (arith, le)) rises (λ e. absurd (omega (arith, e, begun, le))) was
 
   keeps : (w : Ensemble P) → Reached proto c faulty w → Keeps w
   keeps w (at_first value base) = record {

@@ -299,8 +299,8 @@ module _ {S P : Type 0} (machine : Machine S) (orders : OrderProto P Pbft) (obey
           let lt_0 : 0 < 4 = omega arith in
           let lt_1 : 1 < 4 = omega arith in
           let lt_2 : 2 < 4 = omega arith in
-          let b1 = begins 1 (entry_of [] None) none_yet (record { within = lt_1; correct = refl; none = refl; rises = rises; nothing = λ _. refl }) in
-          let b2 = begins 2 (entry_of [] None) b1 (record { within = lt_2; correct = refl; none = refl; rises = rises; nothing = λ _. refl }) in
+          let b1 = begins 1 (entry_of [] None) (omega arith) none_yet (record { within = lt_1; correct = refl; none = refl; rises = rises; nothing = λ _. refl }) in
+          let b2 = begins 2 (entry_of [] None) (omega arith) b1 (record { within = lt_2; correct = refl; none = refl; rises = rises; nothing = λ _. refl }) in
           let o1 = takes 1 (once machine orders 1 []) no_pen (took offers) [] b2 refl (may_accept _ 1 2 one_two) in
           let o2 = takes 2 (once machine orders 2 []) no_pen (took offers) [] o1 refl (may_accept _ 2 1 two_one) in
           let p1 = takes 1 (once machine orders 1 (offers ∷ [])) no_pen (took (prepared_by sig 0)) [] o2 refl (may_count _ 1 0 _ lt_0 is_sig) in

@@ -31,7 +31,7 @@ module _ {S : Type 0} (machine : Machine S) (m : Request) (fits : IsRequest 0 15
   formed = ((refl, ((omega arith, omega arith), fits)), ((omega arith, omega arith), (((omega arith, omega arith), refl), tt)))
 
   starts : (acts : List Act) (left : ℕ → Option Member) (r : ℕ) → r < 4 → state_of acts r ≡ None → Own acts left → Own (begins_small r ∷ acts) (put left r (Some (member r [] false)))
-  starts acts left r lt none was = begins r (entry_of [] None) was (record { within = lt; correct = refl; none = none; rises = λ i j e less in_h. absurd (omega (arith, in_h)); nothing = λ _. refl })
+  starts acts left r lt none was = begins r (entry_of [] None) (omega arith) was (record { within = lt; correct = refl; none = none; rises = λ i j e less in_h. absurd (omega (arith, in_h)); nothing = λ _. refl })
 
   may : (acts : List Act) (r : ℕ) → MayTake (quorum machine) small acts r no_pen (member r [] false) (took (asking m)) []
   may acts r = record { formed = formed; for = refl; noted = unmarked refl; settled = λ c is. absurd (none-some c is) }

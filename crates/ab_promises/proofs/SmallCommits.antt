@@ -94,7 +94,7 @@ module _ {P : Type 0} (proto : Proto P) (p : Plan) where
     })
 
   begins_one : (acts : List Act) (left : ℕ → Option P) (r : ℕ) → r < 4 → is_faulty (Replica 3 ∷ []) (Replica r) ≡ false → state_of acts r ≡ None → Own acts left → Own (begun_by proto p r ∷ acts) (put left r (Some (begun proto p r)))
-  begins_one acts left r lt good none was = begins r (entry_of [] None) was (record { within = lt; correct = good; none = none; rises = rises; nothing = λ _. refl })
+  begins_one acts left r lt good none was = begins r (entry_of [] None) (omega arith) was (record { within = lt; correct = good; none = none; rises = rises; nothing = λ _. refl })
 
   -- three replicas take the request, each by its first message
   taken : (m : Msg) → IsTakable m → (left : ℕ → Option P) × Own (three_take proto p m) left

@@ -37,7 +37,7 @@ module _ {P : Type 0} (proto : Proto P) (serves : Kind → Bool) (form : KeepsFo
 
   starts_one : (acts : List Act) (left : ℕ → Option P) (r : ℕ) → r < 4 → state_of acts r ≡ None → AreOwnCalls proto (all_correct p) acts left
       → AreOwnCalls proto (all_correct p) (begun_by proto p r ∷ acts) (put left r (Some (proto.begin (four p) 1 r (entry_of [] None))))
-  starts_one acts left r lt none was = begins r (entry_of [] None) was (record { within = lt; correct = refl; none = none; rises = rises; nothing = λ _. refl })
+  starts_one acts left r lt none was = begins r (entry_of [] None) (omega arith) was (record { within = lt; correct = refl; none = none; rises = rises; nothing = λ _. refl })
 
   pub starts_own : (left : ℕ → Option P) × AreOwnCalls proto (all_correct p) (starts proto p) left
   starts_own =

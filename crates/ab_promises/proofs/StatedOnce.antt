@@ -67,7 +67,7 @@ stop_same rules.Certified i r s t log zcert = ap (λ h. AbortZ (Replica r) i h s
 
 module _ {P : Type 0} (proto : Proto P) (serves : Kind → Bool) where
   pub acts_belong : (x : Setting) (r : ℕ) (acts : List Act) (p : P) → AreActsOf proto x r acts p → IsTrue (serves (kind_in x)) → Belongs proto serves x.cluster x.i r p
-  acts_belong x r _ _ (begins e may) served = begun e served
+  acts_belong x r _ _ (begins e fits may) served = begun e served fits
   acts_belong x r _ _ (takes {acts} {p} pen call seen before may) served = called pen p call (acts_belong x r acts p before served)
   acts_belong x r _ _ (stops {acts} {p} before) served = halted p (acts_belong x r acts p before served)
   acts_belong x r _ _ (aborts {acts} {p} before stopped) served = acts_belong x r acts p before served
@@ -75,7 +75,7 @@ module _ {P : Type 0} (proto : Proto P) (serves : Kind → Bool) where
   -- a content that no call states and that is no ABORT isn't made
   pub never_made : (test : Content → Bool) → StatesNone proto serves test → ((rule : ReplyRule) (r i : ℕ) (s : State) → test (abort_content rule i r s) ≡ false)
       → (x : Setting) (r : ℕ) (acts : List Act) (p : P) → IsTrue (serves (kind_in x)) → AreActsOf proto x r acts p → (s : Content) → WasMade acts s → test s ≡ false
-  never_made test none no_abort x r _ _ served (begins e may) s was =
+  never_made test none no_abort x r _ _ served (begins e fits may) s was =
       elim (made_cases (begin_of proto x r e) [] s was) [
         | inl new ↦ absurd (Contains-none s new)
         | inr old ↦ absurd (Contains-none old.0 old.1)
@@ -104,7 +104,7 @@ module _ {P : Type 0} (proto : Proto P) (serves : Kind → Bool) where
 
     -- after an ABORT the replica is stopped, and would state the same again
     held : (x : Setting) (r : ℕ) (acts : List Act) (p : P) → IsTrue (serves (kind_in x)) → AreActsOf proto x r acts p → (s : Content) → is_abort s ≡ true → WasMade acts s → IsHeld x r p s
-    held x r _ _ served (begins e may) s is_one was =
+    held x r _ _ served (begins e fits may) s is_one was =
         elim (made_cases (begin_of proto x r e) [] s was) [
           | inl new ↦ absurd (Contains-none s new)
           | inr old ↦ absurd (Contains-none old.0 old.1)

@@ -1,5 +1,5 @@
 -- The acts of an instance in which each call of the protocol is its own.
-use Rattle.std.specs.Prelude.{◌≡◌, ℕ, ◌≤◌, false, Option, None, Some, List, [], ◌∷◌}
+use Rattle.std.specs.Prelude.{◌≡◌, ℕ, ◌≤◌, false, Option, None, Some, List, [], ◌∷◌, length}
 use Rattle.ab_num.specs.declared.plan.Kind.{Kind}
 use Rattle.ab_svc.specs.Machines.{Machine}
 use Rattle.ab_msg.specs.Pens.{Pen}
@@ -18,7 +18,7 @@ use Rattle.ab_abs.specs.Ensembles.{Proto, MayTake, begin_of, asked_of, halt_of, 
 -- no call of the protocol
 pub data AreOwnCalls {P : Type 0} (proto : Proto P) (x : Setting) : List Act → (ℕ → Option P) → Type 0 where
   none_yet : AreOwnCalls proto x [] (λ r. None)
-  begins : {acts : List Act} {left : ℕ → Option P} (me : ℕ) (e : Entry) → AreOwnCalls proto x acts left → MayStart x acts me e.base
+  begins : {acts : List Act} {left : ℕ → Option P} (me : ℕ) (e : Entry) → e.trimmed ≤ length e.base → AreOwnCalls proto x acts left → MayStart x acts me e.base
       → AreOwnCalls proto x (begin_of proto x me e ∷ acts) (put left me (Some (proto.begin x.cluster x.i me e)))
   takes : {acts : List Act} {left : ℕ → Option P} (me : ℕ) (p : P) (pen : Pen) (call : Call) (seen : List Seen) → AreOwnCalls proto x acts left → left me ≡ Some p → MayTake proto x acts me pen p call seen
       → AreOwnCalls proto x (asked_of proto x me pen p call seen ∷ acts) (put left me (Some (proto.after pen p call)))

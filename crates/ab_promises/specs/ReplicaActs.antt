@@ -1,11 +1,11 @@
 -- The acts of one replica in an instance, whatever the others do and whoever is faulty.
-use Rattle.std.specs.Prelude.{◌≡◌, ◌⊎◌, ℕ, ◌≤◌, Bool, true, false, IsTrue, List, [], ◌∷◌, Contains}
+use Rattle.std.specs.Prelude.{◌≡◌, ◌⊎◌, ℕ, ◌≤◌, Bool, true, false, IsTrue, List, [], ◌∷◌, Contains, length}
 use Rattle.ab_num.specs.declared.cluster.Cluster.{Cluster}
 use Rattle.ab_num.specs.declared.party.Party.TheVariants.{Replica}
 use Rattle.ab_num.specs.declared.plan.Kind.{Kind}
 use Rattle.ab_num.specs.Places.{kind_of}
 use Rattle.ab_msg.specs.declared.content.Content.{Content}
-use Rattle.ab_msg.specs.declared.content.Content.TheVariants.{Abort, AbortZ, Prepare}
+use Rattle.ab_msg.specs.declared.content.Content.TheVariants.{Abort, AbortZ, TrimmedAbort, Prepare}
 use Rattle.ab_msg.specs.declared.message.Out.{Out}
 use Rattle.ab_msg.specs.Claims.{maker_of, instance_of, fresh}
 use Rattle.ab_msg.specs.Pens.{Pen}
@@ -20,7 +20,7 @@ use Rattle.ab_abs.specs.Ensembles.{Proto, MayTake, begin_of, asked_of, halt_of}
 -- the acts of replica r, the newest first, leave it with this value. It begins with whatever base; then it takes each call, or a stop, with
 -- the value that its earlier acts left; and once it is stopped it may make its ABORT
 pub data AreActsOf {P : Type 0} (proto : Proto P) (x : Setting) (r : ℕ) : List Act → P → Type 0 where
-  begins : (e : Entry) → MayStart x [] r e.base → AreActsOf proto x r (begin_of proto x r e ∷ []) (proto.begin x.cluster x.i r e)
+  begins : (e : Entry) → e.trimmed ≤ length e.base → MayStart x [] r e.base → AreActsOf proto x r (begin_of proto x r e ∷ []) (proto.begin x.cluster x.i r e)
   takes : {acts : List Act} {p : P} (pen : Pen) (call : Call) (seen : List Seen) → AreActsOf proto x r acts p → MayTake proto x acts r pen p call seen
       → AreActsOf proto x r (asked_of proto x r pen p call seen ∷ acts) (proto.after pen p call)
   stops : {acts : List Act} {p : P} → AreActsOf proto x r acts p → AreActsOf proto x r (halt_of proto r p ∷ acts) (proto.halt p)
@@ -39,6 +39,7 @@ ActsKeep {P} proto serves Promise = (c : Cluster) (i r : ℕ) (acts : List Act) 
 abbrev pub is_abort : Content → Bool
 is_abort (Abort maker i h) = true
 is_abort (AbortZ maker i h zcert) = true
+is_abort (TrimmedAbort maker i start digest rest) = true
 is_abort _ = false
 
 abbrev pub is_prepare : Content → Bool

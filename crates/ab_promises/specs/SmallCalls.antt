@@ -11,4 +11,4 @@ abbrev pub asking : Request → Msg
 asking m = msg.Req (Req (Client m.client) 1 m) (record { items = (0, replicate 32 0) ∷ [] })
 
 abbrev pub member : ℕ → List Request → Bool → Member
-member r log stopped = record { instance = 1; me = r; base = []; log = log; stopped = stopped }
+member r log stopped = record { instance = 1; me = r; base = []; trimmed = 0; log = log; stopped = stopped }

@@ -62,6 +62,7 @@ fn crossing_with<'a>(
             instance: j + 1,
             entry: Entry {
                 base,
+                trimmed: 0,
                 cert: Some(aborts),
             },
         })),

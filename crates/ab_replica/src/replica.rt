@@ -97,6 +97,7 @@ impl<S: Service, P: Protocol<S>> Replica<S, P> {
     {
         let entry = Entry {
             base: History::new(alloc),
+            trimmed: 0,
             cert: None,
         };
         let value = P::start(alloc, cluster, 1, me, &entry)?;
@@ -210,7 +211,8 @@ impl<S: Service, P: Protocol<S>> Replica<S, P> {
 
     /// The replica as it enters another instance.
     fn entered(&self, alloc: Global, next: Crossing) -> Result<Self, OutOfMemory>
-        requires { self.now.rep.at < next.instance }
+        requires higher { self.now.rep.at < next.instance }
+        requires whole { next.entry.trimmed ≡ 0 }
         ensures { IfOk result (λ q. q ≡ record self.now { rep = record { at = next.instance; value = P.proto.begin self.now.cluster next.instance self.now.me next.entry; entry = next.entry; abort = None; used = self.now.rep.used }; entries = self.now.entries + 1 }) }
     {
         let value = P::start(alloc, &self.cluster, next.instance, self.me, &next.entry)?;
@@ -237,6 +239,7 @@ impl<S: Service, P: Protocol<S>> Replica<S, P> {
         n: &mut N,
     ) -> Result<Effects, OutOfMemory>
         requires higher { self.old.rep.at < next.instance }
+        requires whole { next.entry.trimmed ≡ 0 }
         requires received { IsReceived m }
         requires pen { IsPenOf (N.pen n.old) (N.remains n.old) self.old }
         ensures does { (j : ℕ) (cert : List SignedContent) (h : List Request) → next ≡ record { instance = j + 1; entry = entry_of h (Some cert) } → IfOk result (λ e. Does P.proto (N.pen n.old) self.old (entering (setup_of self.old (N.pen n.old)) P.proto self.old.me self.old.rep (message m.entry) j cert h) self.new e.outs e.marks.items e.spent) }

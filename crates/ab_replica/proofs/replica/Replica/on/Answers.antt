@@ -19,6 +19,17 @@ enter-requires-clause-higher g c =
     sym (ap (λ (t : Site g.row.P.Denot). crossing_in t.cluster t.rep.at (brought m)) c.self.view_is) ∙ (sym c.in_ok-next.ensures ∙ c.in-Some.is) in
     subst (λ (o : Option Crossing). IsAhead s.rep.at o) led (ahead s.cluster s.rep.at (brought m))
 
+pub enter-requires-clause-whole : goal.enter-requires-clause-whole
+enter-requires-clause-whole g c =
+    let proto = g.P.Protocol.proto in
+    let pen : Pen = g.N.Notary.pen c.args.n.now in
+    let s : Site g.row.P.Denot = c.args.self.now in
+    let m = message c.args.m in
+    let led : crossing_in s.cluster s.rep.at (brought m) ≡ Some c.in-Some.next =
+    sym (ap (λ (t : Site g.row.P.Denot). crossing_in t.cluster t.rep.at (brought m)) c.self.view_is) ∙ (sym c.in_ok-next.ensures ∙ c.in-Some.is) in
+    let d = subst (λ (o : Option Crossing). IsDue (setup_of s pen) proto s.me s.rep m o (due (setup_of s pen) proto s.me s.rep (took m))) led (due_is (setup_of s pen) proto s.me s.rep m) in
+    ap (λ (next : Crossing). next.entry.trimmed) d.3
+
 pub returns-in-Some-clause-hears : goal.returns-in-Some-clause-hears
 returns-in-Some-clause-hears g c k of =
     let proto = g.P.Protocol.proto in
