@@ -2,12 +2,12 @@
 
 ghost use Rattle.std.specs.Prelude.{◌≡◌};
 
+use ab_content::{
+    histories_forget_nothing, trimmed_at, trimmed_lists_are_formats, whole_lists_are_histories,
+};
 use ab_form::Bad;
 use ab_hist::Request;
-use ab_trim::{
-    Trimmed, histories_forget_nothing, put_trimmed, trimmed_at, trimmed_lists_are_formats,
-    whole_lists_are_histories,
-};
+use ab_trim::{Trimmed, own_trimmed, put_trimmed};
 use arrayvec::ArrayVec;
 use std::alloc::Global;
 use std::process::Abort;
@@ -53,7 +53,7 @@ fn defect(forgets: bool, bytes: &[u8]) -> Option<Bad> {
 fn read(rt: &impl Abort, alloc: Global, forgets: bool, bytes: &[u8]) -> Trimmed {
     let (list, rest) = trimmed_at(forgets, bytes).expect(rt, "a list");
     assert!(rt; rest == [0xee, 0xff].as_slice());
-    list.own(alloc).expect(rt, "memory")
+    own_trimmed(alloc, &list).expect(rt, "memory")
 }
 
 /// The bytes of the list.

@@ -125,7 +125,7 @@ fn a_claim_that_nobody_made_is_forged(rt: HostRuntime) {
     if !is_party(&k, me) {
         panic!(rt; "a party");
     }
-    let checked = open(alloc, &k, me, &mut Trusting, &CHAIN)
+    let checked = open(alloc, &k, k.every, me, &mut Trusting, &CHAIN)
         .ok()
         .expect(&rt, "it opens");
     let watch = Watch::new(alloc).expect(&rt, "memory");

@@ -74,6 +74,7 @@ fn start<S: Service, P: Protocol<S>>(alloc: Global, c: &Cluster, me: u8) -> Resu
 {
     let entry = Entry {
         base: History::new(alloc),
+        trimmed: 0,
         cert: None,
     };
     P::start(alloc, c, 1, me, &entry)

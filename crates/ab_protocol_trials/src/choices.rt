@@ -29,6 +29,7 @@ fn begins<P: Protocol<Echo>>(
 {
     let entry = Entry {
         base: History::new(alloc),
+        trimmed: 0,
         cert: None,
     };
     let replica = P::start(alloc, c, i, 0, &entry)?;

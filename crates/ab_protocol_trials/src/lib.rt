@@ -26,6 +26,8 @@ mod solos;
 #[cfg(test)]
 mod trees;
 #[cfg(test)]
+mod trims;
+#[cfg(test)]
 mod views;
 #[cfg(test)]
 mod zcerts;

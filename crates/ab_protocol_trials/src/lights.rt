@@ -58,6 +58,7 @@ fn start<P: Protocol<Echo>>(alloc: Global, c: &Cluster, me: u8) -> Result<P, Out
 {
     let entry = Entry {
         base: History::new(alloc),
+        trimmed: 0,
         cert: None,
     };
     P::start(alloc, c, 1, me, &entry)

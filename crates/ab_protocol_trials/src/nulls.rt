@@ -16,6 +16,7 @@ fn rests<P: Protocol<Echo>>(alloc: Global, c: &Cluster) -> Result<bool, OutOfMem
 {
     let entry = Entry {
         base: History::new(alloc),
+        trimmed: 0,
         cert: None,
     };
     let mut replica = P::start(alloc, c, 2, 0, &entry)?;

@@ -54,6 +54,7 @@ fn keeps_rules<P: Protocol<Echo>>(alloc: Global, c: &Cluster) -> Result<bool, Ou
 {
     let entry = Entry {
         base: History::new(alloc),
+        trimmed: 0,
         cert: None,
     };
     let mut replica = P::start(alloc, c, 1, 2, &entry)?;

@@ -98,6 +98,7 @@ fn sent_first<S: Service, P: Protocol<S>>(
 {
     let entry = Entry {
         base: History::new(alloc),
+        trimmed: 0,
         cert: None,
     };
     let mut replica: P = P::start(alloc, c, 1, me, &entry)?;
@@ -191,6 +192,7 @@ fn refuses<S: Service, P: Protocol<S>>(alloc: Global, c: &Cluster) -> Result<boo
     let d = other.digest_at(other.len());
     let entry = Entry {
         base: history(alloc, [1].as_slice()),
+        trimmed: 0,
         cert: None,
     };
     let mut replica = P::start(alloc, c, 2, 2, &entry)?;

@@ -1,6 +1,6 @@
 //! A Backup over it answers what replica 0 orders.
 
-ghost use Rattle.std.specs.Prelude.{IsTrue};
+ghost use Rattle.std.specs.Prelude.{◌≤◌, length, IsTrue, IfSome};
 ghost use Rattle.ab_num.specs.Places.{kind_of};
 
 use ab_abs::{Entry, Protocol};
@@ -64,7 +64,9 @@ fn answers<S: Service, P: Protocol<S>>(
 }
 
 /// The entry with one request of client 3.
-fn entry(alloc: Global) -> Option<Entry> {
+fn entry(alloc: Global) -> Option<Entry>
+    ensures { IfSome result (λ e. e.trimmed ≤ length e.base) }
+{
     let mut base = History::new(alloc);
     base.push(
         alloc,
@@ -75,7 +77,11 @@ fn entry(alloc: Global) -> Option<Entry> {
         },
     )
     .ok()?;
-    Some(Entry { base, cert: None })
+    Some(Entry {
+        base,
+        trimmed: 0,
+        cert: None,
+    })
 }
 
 /// Whether a replica of instance 2, which commits two requests behind its base, answers those and no more.

@@ -125,6 +125,7 @@ fn start<P: Protocol<Echo>>(alloc: Global, c: &Cluster) -> Result<P, OutOfMemory
 {
     let entry = Entry {
         base: History::new(alloc),
+        trimmed: 0,
         cert: None,
     };
     P::start(alloc, c, 1, 0, &entry)

@@ -1,6 +1,8 @@
-//! Tests of key rings, one-time signatures, trees, signers, signatures in two levels and schemes: apart from their crates, so that these aren't proved once more for them.
+//! Tests of audits, key rings, one-time signatures, trees, signers, signatures in two levels and schemes: apart from their crates, so that these aren't proved once more for them.
 #![tactic(auto)]
 
+#[cfg(test)]
+mod audits;
 #[cfg(test)]
 mod known;
 #[cfg(test)]

@@ -82,7 +82,7 @@ fn commands(rt: HostRuntime) {
         ),
         ("node --base 1 --wait 1 --turns 1 --journal .r0", false),
         ("node --base 1 --wait 1 --turns 1 --journal=-r0", false),
-        ("node --base 1 --wait 1 --turns 1 --journal R0", false),
+        ("node --base 1 --wait 1 --turns 1 --journal C0", false),
         ("node --base 1 --wait 1 --turns 1 --journal a/b", false),
         ("node --base 1 --wait 1 --turns 1 --journal=", false),
         ("node --base 1 --wait 1 --turns 1 --journal", false),

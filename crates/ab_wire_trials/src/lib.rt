@@ -1,4 +1,4 @@
-//! Tests of messages that are copied, of the longest ones, of opening, of pieces, of a node's loop and of the journal that it goes on with: apart from their crates, so that none is proved once more.
+//! Tests of messages that are copied, of the longest ones, of opening, of pieces, of a node's loop and of the journal that it goes on with, and of ABORTs of trimmed logs: apart from their crates, so that none is proved once more.
 #![tactic(auto)]
 
 #[cfg(test)]
@@ -13,3 +13,5 @@ mod nodes;
 mod opening;
 #[cfg(test)]
 mod pieces;
+#[cfg(test)]
+mod trimmed;

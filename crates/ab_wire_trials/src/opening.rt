@@ -4,7 +4,7 @@ use ab_check::Checker;
 use ab_keys::is_party;
 use ab_msg::Tag;
 use ab_num::{Cluster, OutOfMemory, Party, Plan};
-use ab_open::{OpenFault, claims, open};
+use ab_open::{Bad, OpenFault, claims, open};
 use std::alloc::Global;
 
 /// A checker with one answer.
@@ -67,13 +67,52 @@ fn abort(alloc: Global, replica: u8) -> Result<Vec<u8>, OutOfMemory> {
     Ok(out)
 }
 
-/// Why bytes don't open at a party of a cluster of four replicas and one client.
+/// Adds a signed ABORT of replica 0 in instance 1. The first 3 entries of its log are trimmed, and behind them stands a request of this client.
+fn put_trimmed(out: &mut Vec<u8>, client: u8) -> Result<(), OutOfMemory> {
+    out.extend_from_slice(&[6, 0, 0, 0, 0, 0, 0, 1, 255, 255, 0, 3])?;
+    out.extend_from_slice(&[9; 32])?;
+    out.extend_from_slice(&[0, 1, 0, client, 0, 0, 0, 0, 0, 0, 0, 4, 0, 1, 97])?;
+    put_sig(out)
+}
+
+/// Such an ABORT.
+fn trimmed_abort(alloc: Global, client: u8) -> Result<Vec<u8>, OutOfMemory> {
+    let mut out = Vec::new(alloc);
+    out.push(6)?;
+    put_trimmed(&mut out, client)?;
+    Ok(out)
+}
+
+/// An INIT with an ABORT of replica 1 in instance 1, whose log is empty, and with such an ABORT if asked.
+fn init(alloc: Global, trimmed: bool) -> Result<Vec<u8>, OutOfMemory> {
+    let mut out = Vec::new(alloc);
+    out.extend_from_slice(&[7, 1 + u8::from(trimmed)])?;
+    out.extend_from_slice(&[6, 0, 0, 1, 0, 0, 0, 1, 0, 0])?;
+    put_sig(&mut out)?;
+    if trimmed {
+        put_trimmed(&mut out, 0)?;
+    }
+    Ok(out)
+}
+
+/// Why bytes don't open at a party of a cluster of four replicas and one client, without checkpoints.
 fn fault(alloc: Global, me: Party, right: bool, bytes: &[u8]) -> Option<OpenFault> {
-    let k = Cluster::new(1, 1, Plan::Chain, 0)?;
+    fault_every(alloc, 0, me, right, bytes)
+}
+
+/// The same where a checkpoint is due after so many requests.
+fn fault_every(
+    alloc: Global,
+    every: u16,
+    me: Party,
+    right: bool,
+    bytes: &[u8],
+) -> Option<OpenFault> {
+    let k = Cluster::new(1, 1, Plan::Chain, every)?;
     if !is_party(&k, me) {
         return None;
     }
-    match open(alloc, &k, me, &mut Always(right), bytes) {
+    match open(alloc, &k, k.every, me, &mut Always(right), bytes) {
         Ok(_) => None,
         Err(fault) => Some(fault),
     }
@@ -100,7 +139,7 @@ fn what_is_checked_of_a_chain_is_told(rt: HostRuntime) {
     if !is_party(&k, me) {
         panic!(rt; "a party");
     }
-    let checked = open(alloc, &k, me, &mut Always(true), &CHAIN)
+    let checked = open(alloc, &k, k.every, me, &mut Always(true), &CHAIN)
         .ok()
         .expect(&rt, "it opens");
     let all = claims(alloc, &k, &checked).expect(&rt, "memory");
@@ -140,7 +179,7 @@ fn the_answers_that_an_abort_holds_are_checked_behind_it(rt: HostRuntime) {
     if !is_party(&k, me) {
         panic!(rt; "a party");
     }
-    let checked = open(alloc, &k, me, &mut Always(true), bytes.as_slice())
+    let checked = open(alloc, &k, k.every, me, &mut Always(true), bytes.as_slice())
         .ok()
         .expect(&rt, "it opens");
     let mut checks = checked.checks(&k);
@@ -149,4 +188,39 @@ fn the_answers_that_an_abort_holds_are_checked_behind_it(rt: HostRuntime) {
     let answered = checks.next().expect(&rt, "the answer").claim;
     assert!(rt; answered.maker() == Party::Replica(3) && answered.text().as_slice().len() == 55);
     assert!(rt; checks.next().is_none());
+}
+
+/// A list that isn't whole.
+const NOT_WHOLE: Option<OpenFault> = Some(OpenFault::Bad(Bad::BadLength));
+
+#[test]
+fn an_abort_of_a_trimmed_log_needs_checkpoints(rt: HostRuntime) {
+    let alloc = rt.alloc();
+    let client = Party::Client(0);
+    let bytes = trimmed_abort(alloc, 0).expect(&rt, "memory");
+    assert!(rt; fault(alloc, client, true, bytes.as_slice()) == NOT_WHOLE);
+    assert!(rt; fault(alloc, Party::Replica(1), false, bytes.as_slice()) == NOT_WHOLE);
+    assert!(rt; fault_every(alloc, 2, client, true, bytes.as_slice()) == None);
+    assert!(rt;
+        fault_every(alloc, 2, client, false, bytes.as_slice()) == Some(OpenFault::BadTag(0))
+    );
+    assert!(rt;
+        fault_every(alloc, 2, Party::Replica(1), true, bytes.as_slice()) == Some(OpenFault::NotMine)
+    );
+    let bytes = trimmed_abort(alloc, 1).expect(&rt, "memory");
+    assert!(rt; fault(alloc, client, true, bytes.as_slice()) == NOT_WHOLE);
+    assert!(rt; fault_every(alloc, 2, client, true, bytes.as_slice()) == Some(OpenFault::NotMine));
+}
+
+#[test]
+fn an_init_with_a_trimmed_log_needs_checkpoints(rt: HostRuntime) {
+    let alloc = rt.alloc();
+    let me = Party::Replica(2);
+    let bytes = init(alloc, false).expect(&rt, "memory");
+    assert!(rt; fault(alloc, me, true, bytes.as_slice()) == None);
+    assert!(rt; fault_every(alloc, 2, me, true, bytes.as_slice()) == None);
+    let bytes = init(alloc, true).expect(&rt, "memory");
+    assert!(rt; fault(alloc, me, true, bytes.as_slice()) == NOT_WHOLE);
+    assert!(rt; fault_every(alloc, 2, me, true, bytes.as_slice()) == None);
+    assert!(rt; fault_every(alloc, 2, me, false, bytes.as_slice()) == Some(OpenFault::BadTag(0)));
 }
