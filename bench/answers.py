@@ -1,11 +1,11 @@
 #!/usr/bin/env python3
-"""Makes the messages with certificates of answers that some rows inject, and compares them with what is stored.
+"""Makes the messages that some rows inject or audit, with certificates of answers or with trimmed logs, and compares them with what is stored.
 
 usage: answers.py [make]
 
 It shares no code with the programs: contents and messages are spelled as docs/FORMATS.md says, and signed by the keys of the seed of zeros
-with `bench/two_levels.py`. For each row it tells whether the stored lines `inject` are those messages; with `make` it writes these lines
-into the rows. It ends with 1 if one differs."""
+with `bench/two_levels.py`. For each row it tells whether the stored lines `inject` or `message` are those messages; with `make` it writes
+these lines into the rows. It ends with 1 if one differs."""
 
 import re
 import sys
@@ -15,7 +15,7 @@ from programs import TOP, parser_of
 
 # The rows have keys with one tree of height 5.
 lms.H, lms.TREE_TYPE = 5, 5
-ROWS = TOP / "rows" / "hostile"
+ROWS = TOP / "rows"
 COMMAND, REPLY = b"put a 1", b"ok"
 ABORT, CERT = 6, 16
 REPLICA, CLIENT = lms.u8(0), lms.u8(1)
@@ -64,18 +64,44 @@ def turned(data):
     return data[:-1] + bytes([data[-1] ^ 1])
 
 
-def abort(replica, number, *requests, signers):
-    history = lms.u16(len(requests)) + b"".join(requests)
-    text = content(15, replica, history + answers(signers))
+def signed_abort(code, replica, number, behind):
+    text = content(code, replica, behind)
     return lms.u8(ABORT) + text + signature(replica, number, text)
 
 
-# Of each row the messages that it injects, in their order.
-INJECTED = {
-    "a_certificate_of_answers_with_a_doubled_signer": [cert([0, 0, 1]), cert([0, 1]), cert([0, 1, 2])],
-    "a_certificate_of_answers_with_a_turned_bit": [turned(cert([0, 1, 2]))],
-    "a_certificate_of_answers_for_another_stamp": [cert([0, 1, 2], stamp=2)],
-    "an_abort_whose_log_lacks_what_it_keeps": [abort(3, 1, signers=[0, 1, 3]), abort(3, 2, request(0, 1), signers=[0, 1, 3])],
+def history(*requests):
+    return lms.u16(len(requests)) + b"".join(requests)
+
+
+def abort(replica, number, *requests, signers):
+    """An ABORT with a certificate of answers, or with none if nobody signed one."""
+    kept = answers(signers) if signers else lms.u8(0)
+    return signed_abort(15, replica, number, history(*requests) + kept)
+
+
+def whole_abort(replica, number, *requests):
+    return signed_abort(6, replica, number, history(*requests))
+
+
+def trimmed_abort(replica, number, trimmed, *requests):
+    """An ABORT of a log of which these first requests are trimmed."""
+    front = lms.u16(65_535) + lms.u16(len(trimmed)) + digest(*trimmed)
+    return signed_abort(6, replica, number, front + history(*requests))
+
+
+FIRST, SECOND, OTHER = request(0, 1), request(0, 2), request(1, 1)
+# Of each row the messages that it injects or audits, in their order.
+MESSAGES = {
+    "hostile/a_certificate_of_answers_with_a_doubled_signer.sched": [cert([0, 0, 1]), cert([0, 1]), cert([0, 1, 2])],
+    "hostile/a_certificate_of_answers_with_a_turned_bit.sched": [turned(cert([0, 1, 2]))],
+    "hostile/a_certificate_of_answers_for_another_stamp.sched": [cert([0, 1, 2], stamp=2)],
+    "hostile/an_abort_whose_log_lacks_what_it_keeps.sched": [abort(3, 1, signers=[0, 1, 3]), abort(3, 2, FIRST, signers=[0, 1, 3])],
+    "audits/why_of_two_aborts_with_answers.node": [abort(1, 0, FIRST, signers=[0, 1, 2]), abort(1, 1, FIRST, signers=[])],
+    "audits/why_of_a_trimmed_log_and_a_whole_one.node": [
+        trimmed_abort(1, 0, [FIRST, OTHER], SECOND),
+        whole_abort(1, 1, FIRST, OTHER, SECOND),
+        trimmed_abort(2, 0, [FIRST, OTHER, SECOND]),
+    ],
 }
 
 
@@ -84,10 +110,10 @@ def main():
     parser.add_argument("make", nargs="?", choices=["make"])
     makes = parser.parse_args().make
     status = 0
-    for name, messages in INJECTED.items():
-        path = ROWS / f"{name}.sched"
+    for name, messages in MESSAGES.items():
+        path = ROWS / name
         text, left = path.read_text(), iter(messages)
-        made = re.sub(r"^(inject \S+) .*$", lambda found: f"{found[1]} {next(left).hex()}", text, flags=re.MULTILINE)
+        made = re.sub(r"^(inject \S+|message) .*$", lambda found: f"{found[1]} {next(left).hex()}", text, flags=re.MULTILINE)
         same = made == text and next(left, None) is None
         if makes:
             path.write_text(made)

@@ -54,7 +54,7 @@ def tried(plan, asked):
     with tempfile.TemporaryDirectory() as folder:
         nodes = Apart(folder, asked)
         try:
-            seconds = cluster.run(nodes, asked)
+            _, seconds = cluster.run(nodes, asked)
             running = nodes.running()
         finally:
             statuses, _ = nodes.stop()

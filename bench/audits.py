@@ -5,10 +5,10 @@ usage: audits.py [--why] [FILE]
 
 It shares no code with the programs: it reads messages by the grammar of docs/FORMATS.md, verifies signatures by RFC 8554 as the standard
 words it, and tells who contradicts itself. With a FILE (`-` for standard input) it audits that text, and writes the report. With `--why`
-two lines for each of two contents stand behind each accusation: `why N DIGEST`, with the number of the first message that states it, from
-1, and the SHA-256 digest of its bytes; and the log that an ABORT states, as a report spells it, or the digest that a PREPARE states.
-Without a FILE it goes through the cases of rows/audits that have a report and through examples/audit, and tells which of the stored
-reports differ from its own; the status is then 1 if one does. It takes some seconds."""
+lines for each of two contents stand behind each accusation: `why N DIGEST`, with the number of the first message that states it, from 1, and
+the SHA-256 digest of its bytes; how many first entries of an ABORT's log are trimmed, if any, with their digest, and the others, as a report
+spells them; or the digest that a PREPARE states. Without a FILE it goes through the cases of rows/audits that have a report and through
+examples/audit, and tells which of the stored reports differ from its own; the status is then 1 if one does. It takes some seconds."""
 
 import hashlib
 import shlex
@@ -19,6 +19,8 @@ from programs import TOP, parser_of
 
 HEIGHTS = {5: 5, 6: 10}
 LENGTHS = (2348, 2508, 5076)
+# What stands in place of a count where the first entries are trimmed.
+TRIMMED = 65535
 # The bytes of a public key in two levels, whose trees have height 10.
 TWO_LEVELS = 60
 
@@ -60,15 +62,30 @@ def request(b):
     return client, stamp
 
 
-def history(b):
-    last, entries = {}, []
-    for _ in range(b.number(2, 0, 1024)):
+def entries(b, count):
+    last, found = {}, []
+    for _ in range(count):
         client, stamp = request(b)
         if stamp <= last.get(client, 0):
             raise Bad
         last[client] = stamp
-        entries.append((client, stamp))
-    return entries
+        found.append((client, stamp))
+    return found
+
+
+def history(b):
+    return entries(b, b.number(2, 0, 1024))
+
+
+def log(b):
+    """A log, of which the first entries may be trimmed: how many are, with their digest, and the others."""
+    trimmed, count = None, b.number(2)
+    if count == TRIMMED:
+        trimmed = b.number(2, 1, 65535), b.take(32)
+        count = b.number(2, 0, 65535 - trimmed[0])
+    if count > 1024:
+        raise Bad
+    return trimmed, entries(b, count)
 
 
 def listed(b, low, high, item):
@@ -92,10 +109,10 @@ def answers(b):
 
 def log_and_answers(b):
     """A history, and a certificate of answers if there is one."""
-    log = history(b)
+    found = history(b)
     if b.number(1, 0, 1):
         answers(b)
-    return log
+    return None, found
 
 
 BEHIND = {
@@ -104,7 +121,7 @@ BEHIND = {
     3: answer,
     4: lambda b: (b.number(2, 0, 15), b.number(8, 1), b.number(2, 1, 65535), b.take(32)),
     5: lambda b: None,
-    6: history,
+    6: log,
     7: slot_of,
     8: slot_of,
     9: slot_of,
@@ -260,10 +277,12 @@ def subject(content):
 
 
 def words(content):
-    """What a content says."""
-    if content.code in STOPS:
-        return f"log r{content.maker[1]} {content.instance} " + (",".join(f"c{c}.{s}" for c, s in content.rest) or "-")
-    return f"digest {content.rest[2].hex()}"
+    """What a content says, a line each."""
+    if content.code not in STOPS:
+        return [f"digest {content.rest[2].hex()}"]
+    trimmed, behind = content.rest
+    front = [f"trimmed {trimmed[0]} {trimmed[1].hex()}"] if trimmed else []
+    return [*front, f"log r{content.maker[1]} {content.instance} " + (",".join(f"c{c}.{s}" for c, s in behind) or "-")]
 
 
 class Audit:
@@ -299,7 +318,7 @@ class Audit:
                 continue
             told.append(accusation)
             for n, content in list(contents.values())[:2] if why else ():
-                told += [f"why {n} {hashlib.sha256(content.text).hexdigest()}", words(content)]
+                told += [f"why {n} {hashlib.sha256(content.text).hexdigest()}", *words(content)]
         status = 1 if told else 0
         told += [f"messages {len(self.messages)}", f"bad {self.bad}", "end"]
         return status, "".join(line + "\n" for line in told).encode()

@@ -1,11 +1,13 @@
 #!/usr/bin/env python3
 """Runs a cluster of nodes over UDP on this machine, and replays what they did, or times them.
 
-usage: cluster.py [--plan P] [--clients N] [--commands N] [--length L] [--wait W] [--base B] [--lms H] [--stop R@N] [--noise] [--quiet]
+usage: cluster.py [--plan P] [--clients N] [--commands N] [--length L] [--wait W] [--base B] [--lms H] [--stop R@N] [--late R@M] [--noise]
+                  [--quiet]
 
 Four replicas of the plan P (quorum) are started. When all of them listen, so are N clients (1), each with so many commands (1,000) of
 L bytes or more (0; 128 at most), one after the other; a cluster takes 1,024 requests in its life. Ports begin at B (where they are free).
-With `--stop r1@100` replica r1 is killed once 100 commands are answered, and with `--noise` random datagrams go to every port meanwhile.
+With `--stop r1@100` replica r1 is killed once 100 commands are answered (`r1@0`: at once). With `--late r1@20` it runs for a
+millisecond and sleeps for 20, again and again, once a command is answered. With `--noise` random datagrams go to every port meanwhile.
 It tells how many datagrams the system dropped at each port, since they came faster than they were taken.
 
 All nodes append their traces to one file, each a line before it sends what comes of it, so the lines of the file are a schedule in
@@ -30,6 +32,7 @@ import socket
 import subprocess
 import sys
 import tempfile
+import threading
 import time
 
 from programs import PROGRAM, end_in_order, need, parser_of, ran
@@ -322,13 +325,43 @@ class Trouble:
             self.sender.sendto(data, (HOST, port))
 
 
+class Watch(threading.Thread):
+    """Looks when the first command is answered. From then on a node sleeps for so many milliseconds, runs for one, and sleeps again, if
+    that is asked for. Nothing else is done while commands are answered."""
+
+    def __init__(self, cluster, late):
+        super().__init__()
+        self.cluster, self.late = cluster, late
+        self.ended, self.first = threading.Event(), None
+
+    def run(self):
+        with self.cluster.lines.open("rb") as lines:
+            while b"reply " not in lines.read() and not self.ended.wait(PAUSE):
+                pass
+        self.first = time.monotonic()
+        party, _, pause = (self.late or "").partition("@")
+        while party and not self.ended.wait(0.001):
+            self.cluster.nodes[party].send_signal(signal.SIGSTOP)
+            self.ended.wait(int(pause) / 1000)
+            self.cluster.nodes[party].send_signal(signal.SIGCONT)
+
+    def __enter__(self):
+        self.start()
+        return self
+
+    def __exit__(self, *_):
+        self.ended.set()
+        self.join()
+
+
 def command_of(asked, client, number):
     """A client's command, of at least the bytes that are asked for."""
     return (b"put k%d_%d v%d" % (client, number % 50, number)).ljust(asked.length, b"x")
 
 
 def run(cluster, asked):
-    """Lets the clients' commands be answered, and returns the seconds that took, from when all replicas listened."""
+    """Lets the clients' commands be answered, and returns the seconds that the first one took and those that all took, from when all replicas
+    listened."""
     replicas, clients = [f"r{r}" for r in range(REPLICAS)], [f"c{c}" for c in range(asked.clients)]
     for c, client in enumerate(clients):
         cluster.set_up(client, [command_of(asked, c, n) for n in range(asked.commands)])
@@ -342,7 +375,9 @@ def run(cluster, asked):
         for client in clients:
             cluster.start(client, 100 * asked.commands + 1000, asked.wait)
         seconds = 60 + asked.commands * asked.clients
-        return cluster.wait_for(clients, seconds, trouble.make if asked.noise or asked.stop else None) - begin
+        with Watch(cluster, asked.late) as watch:
+            end = cluster.wait_for(clients, seconds, trouble.make if asked.noise or asked.stop else None)
+        return watch.first - begin, end - begin
 
 
 def faults_of(asked, running, statuses, answered):
@@ -387,6 +422,7 @@ def options():
     parser.add_argument("--base", type=int)
     parser.add_argument("--lms", default="10")
     parser.add_argument("--stop")
+    parser.add_argument("--late")
     parser.add_argument("--noise", action="store_true")
     parser.add_argument("--quiet", action="store_true")
     return parser.parse_args()
@@ -400,13 +436,15 @@ def main():
     with tempfile.TemporaryDirectory() as folder:
         cluster = Cluster(folder, asked)
         try:
-            seconds = run(cluster, asked)
+            first, seconds = run(cluster, asked)
             running, dropped = cluster.running(), cluster.dropped()
         finally:
             statuses, said = cluster.stop()
         answered = len(cluster.replies())
         told = f"{answered} of {asked.commands * asked.clients} commands answered in {seconds:.3f} s"
         print(f"{told}, {answered / seconds:.0f} a second, {'without' if asked.quiet else 'with'} traces")
+        if answered > 1:
+            print(f"the first one after {first:.3f} s, then {(answered - 1) / (seconds - first):.0f} a second")
         print(f"datagrams that the system dropped: {dropped}")
         print(f"nodes said: {[f'{party}: {text.strip()}' for party, text in said.items() if text]}")
         faults = [*faults_of(asked, running, statuses, answered), *([] if asked.quiet else compared(cluster))]

@@ -3,7 +3,7 @@
 
 usage: flood.py [--plan P] [--rate N] [--commands N] [--wait W] [--base B] [--lms H]
 
-A cluster of each plan (of all six without `--plan`) runs twice: without junk, and while N datagrams a second (20,000) go to its nodes, to
+A cluster of each plan (of all seven without `--plan`) runs twice: without junk, and while N datagrams a second (20,000) go to its nodes, to
 one port after the other. A quarter of them are random bytes. A quarter are pieces of messages of 512 pieces that never come whole, in the
 name of each party. A quarter are one right request of a client whose keys the sender has, which the replicas have answered long ago. A
 quarter are messages with right tags of replica r3, whose keys the sender has too, of an instance that is far away. The other client has so

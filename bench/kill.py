@@ -218,7 +218,7 @@ def timed(plan, asked, with_journals):
             nodes.journals = nodes.folder / "journals"
             nodes.journals.mkdir()
         try:
-            seconds = cluster.run(nodes, asked)
+            _, seconds = cluster.run(nodes, asked)
         finally:
             nodes.stop()
         answered = len(nodes.replies())
