@@ -1,6 +1,3 @@
 -- Lemmas of this crate.
 pub mod MarkLemmas
-pub mod LedgerLemmas
-pub mod AccountLemmas
-pub mod LedgerLaws
-pub mod SmallLemmas
+pub mod StableLemmas

@@ -6,9 +6,8 @@ use Rattle.std.proofs.lemmas.Bool.{cases_Bool, cases_order, and_parts}
 use Rattle.std.proofs.lemmas.Bool.Decides.{nat_tests}
 use Rattle.std.proofs.lemmas.Slice.Eq.{bytes_eq-Decides}
 use Rattle.std.proofs.Math.Bool.{and-false}
-use Rattle.ab_hist.specs.Trimmed.{Trimmed, holds}
-use Rattle.ab_stable.specs.Checkpoints.{Mark, has_mark, all_have, is_stable}
-use Rattle.ab_ckpt.specs.Marks.{AreByReplica, mark_by, later_mark, keep_mark, later_of, stable_by, stable_of, marks_from, is_more, is_point}
+use Rattle.ab_hist.specs.declared.request.Request.{Request}
+use Rattle.ab_ckpt.specs.Marks.{Mark, has_mark, all_have, is_front, is_stable, AreByReplica, mark_by, later_mark, keep_mark, later_of, stable_by, stable_of, marks_from, is_more, is_point}
 
 abbrev Slots : Type 0
 Slots = List (Option (ℕ × List ℕ))
@@ -239,50 +238,50 @@ first_has : (n : ℕ) (d : List ℕ) (k : ℕ) (kept : List Mark) → all_have n
 first_has n d zero kept is = (and_parts (has_mark n d 0 kept) (all_have n d 0 kept) is).0
 first_has n d (suc k) kept is = first_has n d k kept (and_parts (has_mark n d (suc k) kept) (all_have n d (suc k) kept) is).1
 
-module _ (replicas : ℕ) (log : Trimmed) (marks : List Mark) (all : AreByReplica 0 marks) (some : 1 ≤ replicas) where
-  told_by : (n : ℕ) (o : Option Mark) → stable_by replicas log marks o ≡ Some n → (d : List ℕ) × (is_stable replicas log n d marks ≡ true)
+module _ (replicas trimmed : ℕ) (log : List Request) (marks : List Mark) (all : AreByReplica 0 marks) (some : 1 ≤ replicas) where
+  told_by : (n : ℕ) (o : Option Mark) → stable_by replicas trimmed log marks o ≡ Some n → (d : List ℕ) × (is_stable replicas trimmed log n d marks ≡ true)
   told_by n None is = absurd (cc (is))
-  told_by n (Some v) is = by_test (is_stable replicas log v.n v.d marks) refl
+  told_by n (Some v) is = by_test (is_stable replicas trimmed log v.n v.d marks) refl
     where
-      by_test : (c : Bool) → is_stable replicas log v.n v.d marks ≡ c → (d : List ℕ) × (is_stable replicas log n d marks ≡ true)
+      by_test : (c : Bool) → is_stable replicas trimmed log v.n v.d marks ≡ c → (d : List ℕ) × (is_stable replicas trimmed log n d marks ≡ true)
       by_test true test =
           let e : Some v.n ≡ Some n = sym (ap (λ b. if b then Some v.n else None) test) ∙ is in
           let f : v.n ≡ n = cc (e) in
-          (v.d, subst (λ (j : ℕ). is_stable replicas log j v.d marks ≡ true) f test)
+          (v.d, subst (λ (j : ℕ). is_stable replicas trimmed log j v.d marks ≡ true) f test)
       by_test false test = let e : None ≡ Some n = sym (ap (λ b. if b then Some v.n else None) test) ∙ is in absurd (cc (e))
 
-  found_by : (n : ℕ) (d : List ℕ) (v : Mark) → mark_by 0 marks ≡ Some v → v.n ≡ n → v.d ≡ d → is_stable replicas log n d marks ≡ true → stable_of replicas log marks ≡ Some n
+  found_by : (n : ℕ) (d : List ℕ) (v : Mark) → mark_by 0 marks ≡ Some v → v.n ≡ n → v.d ≡ d → is_stable replicas trimmed log n d marks ≡ true → stable_of replicas trimmed log marks ≡ Some n
   found_by n d v at n_is d_is is =
-      let test : is_stable replicas log v.n v.d marks ≡ true = (λ i. is_stable replicas log (n_is i) (d_is i) marks) ∙ is in
-      ap (stable_by replicas log marks) at ∙ (ap (λ b. if b then Some v.n else None) test ∙ ap Some n_is)
+      let test : is_stable replicas trimmed log v.n v.d marks ≡ true = (λ i. is_stable replicas trimmed log (n_is i) (d_is i) marks) ∙ is in
+      ap (stable_by replicas trimmed log marks) at ∙ (ap (λ b. if b then Some v.n else None) test ∙ ap Some n_is)
 
-  found : (n : ℕ) (d : List ℕ) → is_stable replicas log n d marks ≡ true → stable_of replicas log marks ≡ Some n
+  found : (n : ℕ) (d : List ℕ) → is_stable replicas trimmed log n d marks ≡ true → stable_of replicas trimmed log marks ≡ Some n
   found n d is =
-      let one = and_parts (nat_lt log.start n) (holds n d log && all_have n d replicas marks) is in
-      let two = and_parts (holds n d log) (all_have n d replicas marks) one.1 in
+      let one = and_parts (nat_lt trimmed n) (is_front log n d && all_have n d replicas marks) is in
+      let two = and_parts (is_front log n d) (all_have n d replicas marks) one.1 in
       let more : replicas ≡ suc (replicas - 1) = omega (arith, some) in
       let first = one_by n 0 0 d marks all (first_has n d (replicas - 1) marks (sym (ap (λ k. all_have n d k marks) more) ∙ two.1)) in
       found_by n d first.0 first.1.0 first.1.1.0 first.1.1.1 is
 
-  pub exact_from : (o : Option ℕ) → o ≡ stable_of replicas log marks → (n : ℕ) → o ≡ Some n ↔ ((d : List ℕ) × (is_stable replicas log n d marks ≡ true))
+  pub exact_from : (o : Option ℕ) → o ≡ stable_of replicas trimmed log marks → (n : ℕ) → o ≡ Some n ↔ ((d : List ℕ) × (is_stable replicas trimmed log n d marks ≡ true))
   exact_from o is n = (λ e. told_by n (mark_by 0 marks) (sym is ∙ e), λ s. is ∙ found n s.0 s.1)
 
-  pub exact : (n : ℕ) → stable_of replicas log marks ≡ Some n ↔ ((d : List ℕ) × (is_stable replicas log n d marks ≡ true))
+  pub exact : (n : ℕ) → stable_of replicas trimmed log marks ≡ Some n ↔ ((d : List ℕ) × (is_stable replicas trimmed log n d marks ≡ true))
   exact n = (told_by n (mark_by 0 marks), λ s. found n s.0 s.1)
 
 -- the first slot tells how many entries are stable
-module _ (replicas : ℕ) (log : Trimmed) (slots : Slots) (marks : List Mark) (is : marks_from 0 slots ≡ marks) (some : 0 < length slots) where
-  told : (o : Option (ℕ × List ℕ)) → get_or slots 0 None ≡ o → stable_of replicas log marks ≡ stable_by replicas log marks (marked 0 o)
-  told o at = ap (stable_by replicas log marks) (ap (mark_by 0) (sym is) ∙ first_slot slots some ∙ ap (marked 0) at)
+module _ (replicas trimmed : ℕ) (log : List Request) (slots : Slots) (marks : List Mark) (is : marks_from 0 slots ≡ marks) (some : 0 < length slots) where
+  told : (o : Option (ℕ × List ℕ)) → get_or slots 0 None ≡ o → stable_of replicas trimmed log marks ≡ stable_by replicas trimmed log marks (marked 0 o)
+  told o at = ap (stable_by replicas trimmed log marks) (ap (mark_by 0) (sym is) ∙ first_slot slots some ∙ ap (marked 0) at)
 
-  pub stable_slot : (p : ℕ × List ℕ) → get_or slots 0 None ≡ Some p → is_stable replicas log p.0 p.1 marks ≡ true → Some p.0 ≡ stable_of replicas log marks
+  pub stable_slot : (p : ℕ × List ℕ) → get_or slots 0 None ≡ Some p → is_stable replicas trimmed log p.0 p.1 marks ≡ true → Some p.0 ≡ stable_of replicas trimmed log marks
   stable_slot p at test = sym (told (Some p) at ∙ ap (λ b. if b then Some p.0 else None) test)
 
-  pub other_slot : (p : ℕ × List ℕ) → get_or slots 0 None ≡ Some p → is_stable replicas log p.0 p.1 marks ≡ false → None ≡ stable_of replicas log marks
+  pub other_slot : (p : ℕ × List ℕ) → get_or slots 0 None ≡ Some p → is_stable replicas trimmed log p.0 p.1 marks ≡ false → None ≡ stable_of replicas trimmed log marks
   other_slot p at test = sym (told (Some p) at ∙ ap (λ b. if b then Some p.0 else None) test)
 
-  pub empty_slot : get_or slots 0 None ≡ None → None ≡ stable_of replicas log marks
+  pub empty_slot : get_or slots 0 None ≡ None → None ≡ stable_of replicas trimmed log marks
   empty_slot at = sym (told None at)
 
-  pub exactly : (o : Option ℕ) → 1 ≤ replicas → o ≡ stable_of replicas log marks → (n : ℕ) → o ≡ Some n ↔ ((d : List ℕ) × (is_stable replicas log n d marks ≡ true))
-  exactly o many e = exact_from replicas log marks (subst (AreByReplica 0) is (by_replica 0 slots)) many o e
+  pub exactly : (o : Option ℕ) → 1 ≤ replicas → o ≡ stable_of replicas trimmed log marks → (n : ℕ) → o ≡ Some n ↔ ((d : List ℕ) × (is_stable replicas trimmed log n d marks ≡ true))
+  exactly o many e = exact_from replicas trimmed log marks (subst (AreByReplica 0) is (by_replica 0 slots)) many o e

@@ -1,10 +1,15 @@
--- The CHECKPOINTs that a replica keeps: of each replica the one of the most entries.
-use Rattle.std.specs.Prelude.{◌≡◌, ℕ, ◌+◌, ◌<◌, ◌≤◌, Bool, true, false, ◌&&◌, nat_eq, nat_lt, if◌then◌else◌, Option, None, Some, List, [], ◌∷◌, Contains}
+-- The CHECKPOINTs that a replica keeps: of each replica the one of the most entries; which one is due, and what is stable.
+use Rattle.std.specs.Prelude.{◌≡◌, ℕ, zero, suc, ◌+◌, ◌*◌, ◌/◌, ◌<◌, ◌≤◌, Bool, true, false, ◌&&◌, ◌||◌, nat_eq, nat_le, nat_lt, if◌then◌else◌, Option, None, Some, List, [], ◌∷◌, Contains, length, take}
+use Rattle.std.specs.List.{list_any}
 use Rattle.std.specs.Str.{bytes_eq}
 use Rattle.ab_hist.specs.declared.request.Request.{Request}
-use Rattle.ab_hist.specs.Trimmed.{Trimmed}
-use Rattle.ab_stable.specs.Checkpoints.{Mark, is_stable}
-use Rattle.ab_stable.specs.Stable.{HasFront}
+use Rattle.ab_hist.specs.Digests.{digest_of}
+
+-- a replica's CHECKPOINT of its first n entries, which have the digest d
+pub record Mark : Type 0 where
+  pub by : ℕ
+  pub n : ℕ
+  pub d : List ℕ
 
 -- those of this instance, one replica's after another's, and for how many entries the own last one was sent
 pub record KeptMarks : Type 0 where
@@ -42,22 +47,48 @@ abbrev pub later_of : Mark → Option Mark → Option Mark
 later_of v None = Some v
 later_of v (Some k) = Some (later_mark v k)
 
-abbrev pub stable_by : ℕ → Trimmed → List Mark → Option Mark → Option ℕ
-stable_by replicas log marks None = None
-stable_by replicas log marks (Some v) = if is_stable replicas log v.n v.d marks then Some v.n else None
+-- ---- what is due, and what is stable
+
+-- of how many of len entries a CHECKPOINT is due, if each `every` entries are to have one: the replica isn't stopped, and of so many
+-- entries none was sent, nor are so many trimmed
+abbrev pub due_of : ℕ → Bool → ℕ → ℕ → ℕ → Option ℕ
+due_of every stopped sent trimmed len =
+    if nat_eq every 0 || (stopped || (nat_le (every * (len / every)) trimmed || nat_le (every * (len / every)) sent))
+    then None
+    else Some (every * (len / every))
+
+-- a CHECKPOINT of replica r of these entries is kept
+abbrev pub has_mark : ℕ → List ℕ → ℕ → List Mark → Bool
+has_mark n d r kept = list_any (λ v. nat_eq v.by r && (nat_eq v.n n && bytes_eq v.d d)) kept
+
+-- those of the replicas below k are all of these entries
+abbrev pub all_have : ℕ → List ℕ → ℕ → List Mark → Bool
+all_have n d zero kept = true
+all_have n d (suc k) kept = has_mark n d k kept && all_have n d k kept
+
+-- the log has n entries or more, and d is the digest of its first n
+abbrev pub is_front : List Request → ℕ → List ℕ → Bool
+is_front log n d = nat_le n (length log) && bytes_eq (digest_of (take n log)) d
+
+-- the first n entries of the log are stable: they aren't all trimmed, and the CHECKPOINT of each replica is of them
+abbrev pub is_stable : ℕ → ℕ → List Request → ℕ → List ℕ → List Mark → Bool
+is_stable replicas trimmed log n d kept = nat_lt trimmed n && (is_front log n d && all_have n d replicas kept)
+
+abbrev pub stable_by : ℕ → ℕ → List Request → List Mark → Option Mark → Option ℕ
+stable_by replicas trimmed log marks None = None
+stable_by replicas trimmed log marks (Some v) = if is_stable replicas trimmed log v.n v.d marks then Some v.n else None
 
 -- how many first entries of the log are stable. If there are some, replica 0's CHECKPOINT tells how many
-abbrev pub stable_of : ℕ → Trimmed → List Mark → Option ℕ
-stable_of replicas log marks = stable_by replicas log marks (mark_by 0 marks)
+abbrev pub stable_of : ℕ → ℕ → List Request → List Mark → Option ℕ
+stable_of replicas trimmed log marks = stable_by replicas trimmed log marks (mark_by 0 marks)
 
--- the first n entries of the log are stable by these marks: they begin the whole log h, the list still has some of them, and each replica's
--- mark is of them
-pub record AreStable (replicas : ℕ) (log : Trimmed) (marks : List Mark) (h : List Request) (n : ℕ) : Type 0 where
-  pub digest : List ℕ
-  pub stable : is_stable replicas log n digest marks ≡ true
-  pub front : HasFront h n digest
-  pub more : log.start < n
-  pub marked : (r : ℕ) → r < replicas → Contains marks (record { by = r; n = n; d = digest })
+-- they begin the log, they aren't all trimmed, and each replica's CHECKPOINT is of them
+pub record AreStable (replicas trimmed : ℕ) (log : List Request) (marks : List Mark) (n : ℕ) : Type 0 where
+  pub more : trimmed < n
+  pub within : n ≤ length log
+  pub marked : (r : ℕ) → r < replicas → Contains marks (record { by = r; n = n; d = digest_of (take n log) })
+
+-- ---- slots
 
 -- the marks of those slots that have one; the first slot is replica r's
 abbrev pub marks_from : ℕ → List (Option (ℕ × List ℕ)) → List Mark

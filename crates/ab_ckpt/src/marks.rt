@@ -1,11 +1,9 @@
 //! The CHECKPOINTs that a replica keeps.
 
-ghost use Rattle.std.specs.Prelude.{◌≡◌, ℕ, ◌<◌, ◌≤◌, ◌↔◌, true, nat_eq, if◌then◌else◌, None, Some, List};
-ghost use Rattle.ab_hist.specs.Trimmed.{Trimmed as TrimmedList};
-ghost use Rattle.ab_stable.specs.Checkpoints.{Mark, has_mark, all_have as all_have_mark, is_stable as are_stable, due_of};
-ghost use Rattle.ab_ckpt.specs.Marks.{AreByReplica, no_marks, mark_by, keep_mark, later_of, stable_of, is_more, is_point};
+ghost use Rattle.std.specs.Prelude.{◌≡◌, ℕ, ◌<◌, ◌≤◌, ◌↔◌, true, Some, List, length};
+ghost use Rattle.ab_ckpt.specs.Marks.{due_of, has_mark, all_have as all_have_mark, is_stable as are_stable, is_front as begins_with, no_marks, keep_mark, stable_of, is_more, is_point};
 
-use ab_trim::Trimmed;
+use ab_hist::History;
 use std::marker::Model;
 
 /// The CHECKPOINTs of one instance that are kept, of each replica the one of the most entries, and for how many entries the own last one was
@@ -47,6 +45,14 @@ fn is_of(kept: &Option<(u16, [u8; 32])>, n: u16, digest: &[u8; 32]) -> bool
     }
 }
 
+/// Whether the log begins with `n` entries of this digest.
+fn is_front(log: &History, n: u16, digest: &[u8; 32]) -> bool
+    ensures { result ≡ begins_with log.now n digest.now }
+{
+    let n = usize::from(n);
+    n <= log.len() && log.digest_at(n) == *digest
+}
+
 impl Marks {
     /// No CHECKPOINTs: an instance begins.
     pub fn new() -> Marks
@@ -75,30 +81,30 @@ impl Marks {
         self.sent = n;
     }
 
-    /// Of how many entries a CHECKPOINT is due, if each `every` entries are to have one.
-    pub fn due(&self, every: u16, stopped: bool, log: &Trimmed) -> Option<u16>
-        ensures { result ≡ due_of every stopped self.now.sent log.now.list }
+    /// Of how many entries of the log a CHECKPOINT is due, if each `every` entries are to have one, and so many are trimmed.
+    pub fn due(&self, every: u16, stopped: bool, trimmed: usize, log: &History) -> Option<u16>
+        ensures { result ≡ due_of every stopped self.now.sent trimmed (length log.now) }
     {
         if every == 0 || stopped {
             return None;
         }
         let every = usize::from(every);
         let n = every * (log.len() / every);
-        if n <= log.start() || n <= usize::from(self.sent) {
+        if n <= trimmed || n <= usize::from(self.sent) {
             None
         } else {
             Some(n as u16)
         }
     }
 
-    /// How many first entries of the log are stable, if these are more than it has forgotten.
-    pub fn stable(&self, replicas: u8, log: &Trimmed) -> Option<u16>
+    /// How many first entries of the log are stable, if these are more than are trimmed.
+    pub fn stable(&self, replicas: u8, trimmed: usize, log: &History) -> Option<u16>
         requires { (1 ≤ replicas) × (replicas ≤ 7) }
-        ensures value { result ≡ stable_of replicas log.now.list self.now.marks }
-        ensures exact { (n : ℕ) → (result ≡ Some n ↔ ((d : List ℕ) × (are_stable replicas log.now.list n d self.now.marks ≡ true))) }
+        ensures value { result ≡ stable_of replicas trimmed log.now self.now.marks }
+        ensures exact { (n : ℕ) → (result ≡ Some n ↔ ((d : List ℕ) × (are_stable replicas trimmed log.now n d self.now.marks ≡ true))) }
     {
         match &self.kept[0] {
-            Some(p) if self.is_stable(replicas, log, p.0, &p.1) => Some(p.0),
+            Some(p) if self.is_stable(replicas, trimmed, log, p.0, &p.1) => Some(p.0),
             _ => None,
         }
     }
@@ -115,12 +121,18 @@ impl Marks {
     }
 
     /// Whether these first entries of the log are stable.
-    fn is_stable(&self, replicas: u8, log: &Trimmed, n: u16, digest: &[u8; 32]) -> bool
+    fn is_stable(
+        &self,
+        replicas: u8,
+        trimmed: usize,
+        log: &History,
+        n: u16,
+        digest: &[u8; 32],
+    ) -> bool
         requires { replicas ≤ 7 }
-        ensures { result ≡ are_stable replicas log.now.list n digest.now self.now.marks }
+        ensures { result ≡ are_stable replicas trimmed log.now n digest.now self.now.marks }
     {
-        let place = usize::from(n);
-        log.start() < place && log.holds(place, digest) && self.all_have(replicas, n, digest)
+        trimmed < usize::from(n) && is_front(log, n, digest) && self.all_have(replicas, n, digest)
     }
 
     /// Whether the CHECKPOINT that is kept of each of the first `replicas` replicas is of these entries.
@@ -144,16 +156,3 @@ impl Marks {
         is_of(&self.kept[usize::from(r)], n, digest)
     }
 }
-
-/// One that comes leaves at most one of each replica. It changes nothing of other replicas', and of its own replica the one of the more
-/// entries is kept, the earlier of two that are of as many.
-pub fn kept_marks_are_the_latest()
-    ensures order { (v : Mark) (marks : List Mark) → AreByReplica 0 marks → AreByReplica 0 (keep_mark v marks) }
-    ensures each { (v : Mark) (r : ℕ) (marks : List Mark) → AreByReplica 0 marks → mark_by r (keep_mark v marks) ≡ (if nat_eq v.by r then later_of v (mark_by r marks) else mark_by r marks) }
-{}
-
-/// If at most one CHECKPOINT of each replica is kept, it is found exactly how many first entries are stable.
-pub fn stable_entries_are_found()
-    ensures { (replicas n : ℕ) (log : TrimmedList) (marks : List Mark) → AreByReplica 0 marks → 1 ≤ replicas
-        → (stable_of replicas log marks ≡ Some n ↔ ((d : List ℕ) × (are_stable replicas log n d marks ≡ true))) }
-{}

@@ -8,7 +8,6 @@ mod chains;
 #[cfg(test)]
 mod choices;
 #[cfg(test)]
-mod ledgers;
 #[cfg(test)]
 mod lights;
 #[cfg(test)]

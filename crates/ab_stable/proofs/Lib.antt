@@ -9,7 +9,6 @@ pub mod MarkedActs
 pub mod LaterInstances
 pub mod Reasons
 pub mod NamedLists
-pub mod DueMarks
 pub mod SmallPoints
 pub mod SmallVotes
 pub mod SmallMarked

@@ -2,7 +2,6 @@
 pub mod Stable
 pub mod AgreedLists
 pub mod Certs
-pub mod Checkpoints
 pub mod Leaving
 pub mod CertActs
 pub mod MarkedActs

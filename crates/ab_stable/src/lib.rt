@@ -5,7 +5,6 @@
 
 mod acts;
 mod certs;
-mod checkpoints;
 mod examples;
 mod points;
 mod runs;
@@ -19,7 +18,6 @@ pub use certs::{
     certificates_are_whole, enough_lists_share_a_point, equal_lists_are_whole,
     stable_fronts_are_common,
 };
-pub use checkpoints::{due_checkpoints_are_of_the_log, stable_beginnings_are_marked};
 pub use examples::{
     small_beginnings_are_forgotten, small_certificates_are_known, small_checkpoints_are_there,
     two_trimmed_lists_agree, two_whole_lists_agree,

@@ -1,5 +1,5 @@
 use Rattle.std.proofs.Common.{◌≡◌, true}
-use Rattle.ab_stable.specs.Checkpoints.{all_have as all_have_mark}
+use Rattle.ab_ckpt.specs.Marks.{all_have as all_have_mark}
 use Rattle.ab_ckpt.proofs.marks.Marks.all_have.Given as goal
 
 abbrev pub invariant-replicas : goal.invariant-replicas

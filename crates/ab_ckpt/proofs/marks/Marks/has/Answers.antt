@@ -1,5 +1,5 @@
 use Rattle.std.proofs.Common.{ap, sym, ◌∙◌, arith}
-use Rattle.ab_stable.specs.Checkpoints.{has_mark}
+use Rattle.ab_ckpt.specs.Marks.{has_mark}
 use Rattle.ab_ckpt.proofs.MarkLemmas.{has_slot}
 use Rattle.ab_ckpt.proofs.marks.Marks.has.Goals as goal
 
