@@ -16,6 +16,7 @@ use Rattle.ab_msg.specs.declared.content.Content.TheVariants.{AbortZ}
 use Rattle.ab_msg.specs.declared.zcert.Zcert.{Zcert}
 use Rattle.ab_msg.specs.declared.signed.Signed.{Signed}
 use Rattle.ab_msg.specs.Claims.{instance_of, spec_of, specs_of, kept_specs, kept_claims, signed_contents}
+use Rattle.ab_abs.specs.Messages.{is_ruled}
 use Rattle.ab_abs.specs.Acts.{setting}
 use Rattle.ab_abs.specs.Rules.{AreStated, Kept, IsKeptBeside, IsExtension, AreUpTo, IsKeptHistory, without, with_zcert, IsKeptCert}
 use Rattle.ab_abs.specs.Ensembles.{cert_claims}
@@ -182,9 +183,9 @@ kept_stated : (c : Cluster) (j : ℕ) (cert : List Signed) (votes : List Kept) �
 kept_stated c j [] votes is v has = let e : [] ≡ votes = cc (is) in let none : Contains [] v = subst (λ (ws : List Kept). Contains ws v) (sym e) has in absurd (omega (arith, none.1))
 kept_stated c j (s ∷ cert) votes is v has = kept_stated_with c j s cert votes (kept_in c j s.content) (all_kept_in c j cert) refl (λ vs e. kept_stated c j cert vs e) is v has
 
--- what names the instance and stands in the certificate is a claim of it
-claim_stands : (j : ℕ) (cert : List Signed) (s : Content) → instance_of s ≡ j → Contains (signed_contents cert) s → Contains (cert_claims j cert) s
-claim_stands j cert s named has = Contains-filter (λ t. instance_of t == j) (signed_contents cert) s has ((Decides-eqb (instance_of s) j).1 named)
+-- what names the instance and stands in the certificate is a claim of it, if rules speak of it
+claim_stands : (j : ℕ) (cert : List Signed) (s : Content) → is_ruled s ≡ true → instance_of s ≡ j → Contains (signed_contents cert) s → Contains (cert_claims j cert) s
+claim_stands j cert s ruled named has = Contains-filter (λ t. is_ruled t && (instance_of t == j)) (signed_contents cert) s has (rw ruled ((Decides-eqb (instance_of s) j).1 named))
 
 map_in : {A B : Type 0} (f : A → B) (xs : List A) (x : A) → Contains xs x → Contains (map f xs) (f x)
 map_in f [] x has = absurd (omega (arith, has.1))
@@ -217,7 +218,7 @@ module _ (c : Cluster) (faulty : List Party) (j : ℕ) (cert : List Signed) wher
         within = all_of (λ r. r < 3 * c.f + 1) by (λ r has. let s = Contains-map_cases (λ (s : ℕ × List ℕ). s.0) z.sigs r has in subst (λ (n : ℕ). n < 3 * c.f + 1) s.2 (below_each c.f z.sigs more.1 s.0 s.1));
         stated = all_of (λ r. Contains (cert_claims j cert) (spec_of j z r)) by (λ r has.
             let s = Contains-map_cases (λ (s : ℕ × List ℕ). s.0) z.sigs r has in
-            claim_stands j cert (spec_of j z r) refl
+            claim_stands j cert (spec_of j z r) refl refl
             (answers (spec_of j z r) (subst (λ (n : ℕ). Contains (specs_of j z) (spec_of j z n)) s.2 (map_in (λ (t : ℕ × List ℕ). spec_of j z t.0) z.sigs s.0 s.1))));
       }
 
@@ -237,7 +238,7 @@ module _ (c : Cluster) (faulty : List Party) (j : ℕ) (cert : List Signed) wher
         enough = many;
         each_once = apart_distinct (map (λ v. v.by) votes) both.1;
         within = all_of (λ (v : Kept). v.by < 3 * c.f + 1) votes (λ v has. (stated v has).within);
-        signed = all_of (λ (v : Kept). Contains (cert_claims j cert) (AbortZ (Replica v.by) j v.log v.zcert)) votes (λ v has. claim_stands j cert (AbortZ (Replica v.by) j v.log v.zcert) refl (stated v has).stands);
+        signed = all_of (λ (v : Kept). Contains (cert_claims j cert) (AbortZ (Replica v.by) j v.log v.zcert)) votes (λ v has. claim_stands j cert (AbortZ (Replica v.by) j v.log v.zcert) refl refl (stated v has).stands);
         beside = all_of (λ (v : Kept). IsKeptBeside (setting c faulty j) (cert_claims j cert) v.log v.zcert) votes (λ v has. let s = stated v has in beside_is v.log v.zcert s.beside s.answers);
         agreed = led_history_is (c.f + 1) votes (leading votes) (omega arith) (omega (arith, many)) (leading_is votes);
       }

@@ -3,7 +3,6 @@ use Rattle.std.proofs.Common.{◌≡◌, ℕ, zero, suc, ◌+◌, ◌*◌, ◌<�
 use Rattle.std.specs.Prelude.{Contains, IsTrue, All, ◌==◌, ◌||◌, nat_le, nat_lt, slice_get}
 use Rattle.std.specs.Str.{bytes_eq}
 use Rattle.std.proofs.lemmas.Bool.{cases_Bool, and_parts, eqb-true}
-use Rattle.std.proofs.lemmas.Bool.Decides.{Decides-eqb}
 use Rattle.std.proofs.lemmas.Slice.Eq.{bytes_eq-Decides}
 use Rattle.std.proofs.lemmas.List.Elements.{All-nil, All-cons}
 use mathlib.Core.List.{IsPrefix}
@@ -14,7 +13,7 @@ use Rattle.ab_num.specs.declared.plan.Kind.TheVariants as kind
 use Rattle.ab_num.specs.Parties.{party_eq}
 use Rattle.ab_num.specs.declared.party.Party.TheVariants.{Replica, Client}
 use Rattle.ab_num.specs.Places.{at_position_of, position_in}
-use Rattle.ab_num.proofs.Lists.{Contains-head, Contains-tail, Contains-cons_cases, Contains-filter_cases, flat_map_cases, Contains-one, Contains-none, Contains-filter}
+use Rattle.ab_num.proofs.Lists.{Contains-head, Contains-tail, Contains-cons_cases, Contains-filter_cases, flat_map_cases, Contains-one, Contains-none}
 use Rattle.ab_hist.specs.declared.request.Request.{Request}
 use Rattle.ab_hist.specs.Known.{known_place, can_push_after}
 use Rattle.ab_svc.specs.Machines.{Machine, Reply, IsReply, serve}
@@ -42,7 +41,7 @@ use Rattle.ab_abs.specs.Answers.{answer_from, logged_from, logged_at}
 use Rattle.ab_abs.specs.Kinds.{kind_in, rule_of}
 use Rattle.ab_abs.specs.Rules.{IsOther, IsOtherBy}
 use Rattle.ab_abs.specs.TailRules.{IsPassed, IsTailContent, for_positions, for_client}
-use Rattle.ab_abs.specs.Messages.{Call, took, call_claims, call_values, claims_in, IsFor, IsFormed}
+use Rattle.ab_abs.specs.Messages.{Call, took, call_claims, call_values, is_ruled, claims_in, IsFor, IsFormed}
 use Rattle.ab_abs.specs.Ensembles.{begin_of, asked_of, halt_of, statements_of, MayTake}
 use Rattle.ab_abs.specs.FormLaws.{KeepsForm, Belongs, begun, called, halted, trimmed, Arises, from_entry, by_call, by_stop, by_trim}
 use Rattle.ab_abs.specs.Members.{Member, member_state, respond, IsAt}
@@ -50,7 +49,7 @@ use Rattle.ab_abs.proofs.Positions.{position_here, position_there}
 use Rattle.ab_abs.proofs.ChainClaims.{tags_checked, request_checked}
 use Rattle.ab_abs.proofs.Prefixes.{prefix_length}
 use Rattle.ab_abs.proofs.Drafts.{IsBounded, written_from, written_there, written_trimmed, few_replicas, drafts_answer}
-use Rattle.ab_abs.proofs.Steps.{vote_on, logged_more, trims_at}
+use Rattle.ab_abs.proofs.Steps.{claimed, vote_on, logged_more, trims_at}
 use Rattle.ab_abs.proofs.TailSteps.{KeepsTail, tail_calls, tail_rests, tail_starts, tail_others}
 use Rattle.ab_chain.specs.Tags.{by_client}
 use Rattle.ab_chain.specs.Passing.{firsts-all, few_passed}
@@ -125,28 +124,28 @@ keeps_trimmed q t low = let longer = prefix_length q.log (log_after q t) (grows_
 
 -- ---- what is stated is its own
 
-two_own : (r i : ℕ) (a b s : Content) → (maker_of a ≡ Replica r) × (instance_of a ≡ i) → (maker_of b ≡ Replica r) × (instance_of b ≡ i) → Contains (a ∷ b ∷ []) s → (maker_of s ≡ Replica r) × (instance_of s ≡ i)
+two_own : (r i : ℕ) (a b s : Content) → (maker_of a ≡ Replica r) × (instance_of a ≡ i) × (is_ruled a ≡ true) → (maker_of b ≡ Replica r) × (instance_of b ≡ i) × (is_ruled b ≡ true) → Contains (a ∷ b ∷ []) s → (maker_of s ≡ Replica r) × (instance_of s ≡ i) × (is_ruled s ≡ true)
 two_own r i a b s own_a own_b has =
     elim (Contains-cons_cases a (b ∷ []) s has) [
-      | inl e ↦ (ap maker_of (sym e) ∙ own_a.0, ap instance_of (sym e) ∙ own_a.1)
-      | inr more ↦ let e = Contains-one b s more in (ap maker_of (sym e) ∙ own_b.0, ap instance_of (sym e) ∙ own_b.1)
+      | inl e ↦ (ap maker_of (sym e) ∙ own_a.0, ap instance_of (sym e) ∙ own_a.1, ap is_ruled (sym e) ∙ own_a.2)
+      | inr more ↦ let e = Contains-one b s more in (ap maker_of (sym e) ∙ own_b.0, ap instance_of (sym e) ∙ own_b.1, ap is_ruled (sym e) ∙ own_b.2)
     ]
 
-one_own : (r i : ℕ) (a s : Content) → (maker_of a ≡ Replica r) × (instance_of a ≡ i) → Contains (a ∷ []) s → (maker_of s ≡ Replica r) × (instance_of s ≡ i)
-one_own r i a s own has = let e = Contains-one a s has in (ap maker_of (sym e) ∙ own.0, ap instance_of (sym e) ∙ own.1)
+one_own : (r i : ℕ) (a s : Content) → (maker_of a ≡ Replica r) × (instance_of a ≡ i) × (is_ruled a ≡ true) → Contains (a ∷ []) s → (maker_of s ≡ Replica r) × (instance_of s ≡ i) × (is_ruled s ≡ true)
+one_own r i a s own has = let e = Contains-one a s has in (ap maker_of (sym e) ∙ own.0, ap instance_of (sym e) ∙ own.1, ap is_ruled (sym e) ∙ own.2)
 
-passed_own : (f i : ℕ) (m : Request) (n : ℕ) (d : List ℕ) (reply : Option Reply) (r p : ℕ) (s : Content) → Contains (passed_at f i m n d reply r p) s → (maker_of s ≡ Replica r) × (instance_of s ≡ i)
-passed_own f i m n d None r p s has = one_own r i (ChainTag (Replica r) i m.client m.stamp n d) s (refl, refl) has
+passed_own : (f i : ℕ) (m : Request) (n : ℕ) (d : List ℕ) (reply : Option Reply) (r p : ℕ) (s : Content) → Contains (passed_at f i m n d reply r p) s → (maker_of s ≡ Replica r) × (instance_of s ≡ i) × (is_ruled s ≡ true)
+passed_own f i m n d None r p s has = one_own r i (ChainTag (Replica r) i m.client m.stamp n d) s (refl, refl, refl) has
 passed_own f i m n d (Some reply) r p s has = of_tests (nat_le p (2 * f)) (nat_lt p (3 * f + 1)) has
   where
     of_tests : (b c : Bool)
         → Contains (if b then ChainTag (Replica r) i m.client m.stamp n d ∷ [] else if c then ChainTag (Replica r) i m.client m.stamp n d ∷ Resp (Replica r) i m.client m.stamp n d reply ∷ [] else Resp (Replica r) i m.client m.stamp n d reply ∷ []) s
-        → (maker_of s ≡ Replica r) × (instance_of s ≡ i)
-    of_tests true c has = one_own r i (ChainTag (Replica r) i m.client m.stamp n d) s (refl, refl) has
-    of_tests false true has = two_own r i (ChainTag (Replica r) i m.client m.stamp n d) (Resp (Replica r) i m.client m.stamp n d reply) s (refl, refl) (refl, refl) has
-    of_tests false false has = one_own r i (Resp (Replica r) i m.client m.stamp n d reply) s (refl, refl) has
+        → (maker_of s ≡ Replica r) × (instance_of s ≡ i) × (is_ruled s ≡ true)
+    of_tests true c has = one_own r i (ChainTag (Replica r) i m.client m.stamp n d) s (refl, refl, refl) has
+    of_tests false true has = two_own r i (ChainTag (Replica r) i m.client m.stamp n d) (Resp (Replica r) i m.client m.stamp n d reply) s (refl, refl, refl) (refl, refl, refl) has
+    of_tests false false has = one_own r i (Resp (Replica r) i m.client m.stamp n d reply) s (refl, refl, refl) has
 
-sends_own : (f g i p r : ℕ) (t : Task) (o : Out) (s : Content) → Contains (sends_with g i p t) o → Contains (fresh f (Replica r) o.msg) s → (maker_of s ≡ Replica r) × (instance_of s ≡ i)
+sends_own : (f g i p r : ℕ) (t : Task) (o : Out) (s : Content) → Contains (sends_with g i p t) o → Contains (fresh f (Replica r) o.msg) s → (maker_of s ≡ Replica r) × (instance_of s ≡ i) × (is_ruled s ≡ true)
 sends_own f g i p r idle o s sent has = absurd (Contains-none o sent)
 sends_own f g i p r (passes m vote reply tags) o s sent has =
     let is = Contains-one _ o sent in
@@ -245,9 +244,9 @@ module _ {S : Type 0} (machine : Machine S) where
   here c i r q (halted p was) = let h = here c i r p was in record { sized = h.sized; placed = h.placed; owned = h.owned }
   here c i r q (trimmed n p low high was) = let h = here c i r p was in record { sized = h.sized; placed = h.placed; owned = h.owned }
 
-  own_law : (c : Cluster) (i r : ℕ) (pen : Pen) (q : ChainState) (call : Call) (o : Out) (s : Content) → Belongs (chain machine) is_chain c i r q → Contains ((chain machine).sends pen q call) o → Contains (fresh c.f (Replica r) o.msg) s → (maker_of s ≡ Replica r) × (instance_of s ≡ i)
+  own_law : (c : Cluster) (i r : ℕ) (pen : Pen) (q : ChainState) (call : Call) (o : Out) (s : Content) → Belongs (chain machine) is_chain c i r q → Contains ((chain machine).sends pen q call) o → Contains (fresh c.f (Replica r) o.msg) s → (maker_of s ≡ Replica r) × (instance_of s ≡ i) × (is_ruled s ≡ true)
   own_law c i r pen q call o s was sent has =
-      let w = sends_own c.f q.f q.at.instance (position_at q) r (task machine q call) o s sent has in (w.0, w.1 ∙ (here c i r q was).placed)
+      let w = sends_own c.f q.f q.at.instance (position_at q) r (task machine q call) o s sent has in (w.0, w.1 ∙ (here c i r q was).placed, w.2)
 
   -- values with bytes
   record IsBoundedLink (c : Cluster) (i r : ℕ) (q : ChainState) : Type 0 where
@@ -348,9 +347,6 @@ record MayPass {S : Type 0} (machine : Machine S) (x : Setting) (claims : List C
   reply_is : 2 * x.cluster.f < p → reply ≡ Some vote.reply
   asked : p ≤ x.cluster.f + 1 → Contains claims (Req (Client m.client) x.i m)
   stated' : (r : ℕ) → 1 ≤ r → r < p → p ≤ r + x.cluster.f + 1 → Contains claims (ChainTag (Replica (at_position_of x.cluster.f x.i r)) x.i m.client m.stamp vote.n vote.d)
-
-is_here : (i j : ℕ) → i ≡ j → (i == j) ≡ true
-is_here i j e = (Decides-eqb i j).1 e
 
 module _ {S : Type 0} (machine : Machine S) (x : Setting) where
   -- what is passed on is stated of its own log
@@ -455,7 +451,7 @@ module _ {S : Type 0} (machine : Machine S) (x : Setting) where
           asked = λ near.
               let s : Content = Req maker i n in
               let e : s ≡ Req (Client m.client) x.i m = cc (own, here, n_is) in
-              subst (λ (z : Content). Contains (claims_in x.i (s ∷ [])) z) e (Contains-filter (λ t. instance_of t == x.i) (s ∷ []) s (Contains-head s []) (is_here i x.i here));
+              subst (λ (z : Content). Contains (claims_in x.i (s ∷ [])) z) e (claimed x.i (s ∷ []) s (Contains-head s []) refl here);
           stated' = λ r one' lt near. absurd (omega (arith, lt, one', at_one));
         }
     may_pass me q (took (msg.Chain i n k d came tags')) same placed owned for m vote reply tags is formed =
@@ -482,12 +478,12 @@ module _ {S : Type 0} (machine : Machine S) (x : Setting) where
               let s : Content = Req (Client n.client) i n in
               let has : Contains all s = request_checked x.cluster.f i n k d came tags' me (omega (arith, near, pos_i)) in
               let e : s ≡ Req (Client m.client) x.i m = cc (here, n_is) in
-              subst (λ (z : Content). Contains (claims_in x.i all) z) e (Contains-filter (λ t. instance_of t == x.i) all s has (is_here i x.i here));
+              subst (λ (z : Content). Contains (claims_in x.i all) z) e (claimed x.i all s has refl here);
           stated' = λ r one' lt near.
               let s : Content = ChainTag (Replica (at_position_of x.cluster.f i r)) i n.client n.stamp k d in
               let has : Contains all s = tags_checked x.cluster.f i n k d came tags' me r one' (omega (arith, lt, pos_i)) (omega (arith, near, pos_i)) in
               let e : s ≡ ChainTag (Replica (at_position_of x.cluster.f x.i r)) x.i m.client m.stamp vote.n vote.d = cc (here, n_is, k_is, d_is) in
-              subst (λ (z : Content). Contains (claims_in x.i all) z) e (Contains-filter (λ t. instance_of t == x.i) all s has (is_here i x.i here));
+              subst (λ (z : Content). Contains (claims_in x.i all) z) e (claimed x.i all s has refl here);
         }
     may_pass me q _ same placed owned for m vote reply tags is formed = absurd (cc (is))
 

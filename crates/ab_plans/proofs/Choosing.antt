@@ -12,7 +12,7 @@ use Rattle.ab_abs.specs.FormLaws.{KeepsPlace, IsBlank, Belongs}
 use Rattle.ab_plans.specs.declared.choice.Choice.{Choice}
 use Rattle.ab_plans.specs.declared.choice.Choice.TheVariants.{First, Second}
 use Rattle.ab_plans.specs.ChoiceRules.{either, begins, choice, sound_by, stands_by}
-use Rattle.ab_plans.specs.ChoiceLaws.{BelongsIn, belongs, stays_law, nil_law, start_law, on_law, stop_law, others_law, act_law}
+use Rattle.ab_plans.specs.ChoiceLaws.{BelongsIn, belongs, stays_law, nil_law, start_law, on_law, stop_law, trim_law, others_law, act_law}
 use Rattle.ab_plans.specs.Lawful.{IsLawfulProto}
 
 module _ {P Q : Type 0} (p : Proto P) (q : Proto Q) (serves_p serves_q : Kind → Bool) where
@@ -38,6 +38,7 @@ module _ {P Q : Type 0} (p : Proto P) (q : Proto Q) (serves_p serves_q : Kind �
         | First v ↦ λ call cert was. place_p.settles c i r pen v call cert (belongs_in c i r (First v) was)
         | Second v ↦ λ call cert was. place_q.settles c i r pen v call cert (belongs_in c i r (Second v) was)
       ];
+      trim_rests = λ n. elim [ First v ↦ place_p.trim_rests n v | Second v ↦ place_q.trim_rests n v ];
     }
 
 module _ {S P Q : Type 0} (machine : Machine S) (p : Proto P) (q : Proto Q) (serves_p serves_q : Kind → Bool)
@@ -51,6 +52,7 @@ module _ {S P Q : Type 0} (machine : Machine S) (p : Proto P) (q : Proto Q) (ser
     lawful_start = λ x acts me e. start_law machine p q serves_p serves_q sound_p sound_q stands_p stands_q x acts me e (one.lawful_start x acts me e) (two.lawful_start x acts me e);
     lawful_on = λ x acts. on_law machine p q serves_p serves_q sound_p sound_q stands_p stands_q x acts (one.lawful_on x acts) (two.lawful_on x acts);
     lawful_stop = λ x acts. stop_law machine p q serves_p serves_q sound_p sound_q stands_p stands_q x acts (one.lawful_stop x acts) (two.lawful_stop x acts);
+    stands_trimmed = trim_law machine p q serves_p serves_q sound_p sound_q stands_p stands_q one.stands_trimmed two.stands_trimmed;
     lawful_others = λ x acts a served correct is.
         others_law machine p q serves_p serves_q sound_p sound_q stands_p stands_q x acts a (λ s. one.lawful_others x acts a s correct is) (λ s. two.lawful_others x acts a s correct is) served;
     sound_abstract = λ x acts served.

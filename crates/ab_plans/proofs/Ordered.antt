@@ -38,13 +38,13 @@ module _ {S P : Type 0} (machine : Machine S) (proto : Proto P) (serves : Kind �
   lawful_ordered =
       whole_run_ordered machine k proto serves (record { form = law.placed; all = all }) events formed premises
       (λ v reached meets.
-      reached_ordered machine proto sound stands serves law.stands_stays law.sound_nil law.lawful_start law.lawful_on law.lawful_stop law.lawful_others law.sound_abstract law.sound_names k.cluster k.faulty all v reached meets)
+      reached_ordered machine proto sound stands serves law.stands_stays law.sound_nil law.lawful_start law.lawful_on law.lawful_stop law.stands_trimmed law.lawful_others law.sound_abstract law.sound_names k.cluster k.faulty all v reached meets)
 
   pub lawful_abstract : EachIsAbstract machine (run k proto events).seen (named_by k (run k proto events)) k.faulty
   lawful_abstract =
       whole_run_abstract machine k proto serves (record { form = law.placed; all = all }) events formed premises
       (λ v reached meets.
-      reached_abstract machine proto sound stands serves law.stands_stays law.sound_nil law.lawful_start law.lawful_on law.lawful_stop law.lawful_others law.sound_abstract law.sound_names k.cluster k.faulty all v reached meets)
+      reached_abstract machine proto sound stands serves law.stands_stays law.sound_nil law.lawful_start law.lawful_on law.lawful_stop law.stands_trimmed law.lawful_others law.sound_abstract law.sound_names k.cluster k.faulty all v reached meets)
 
 module _ {S Q : Type 0} (machine : Machine S) (orders : OrderProto Q Pbft) (obeys : Obeys orders pbft) where
   pub backup_law : IsLawfulProto machine (backup orders pbft machine) is_backup (backup_sound machine IsPbftSound) (backup_stands orders pbft PbftStands)
@@ -56,6 +56,7 @@ module _ {S Q : Type 0} (machine : Machine S) (orders : OrderProto Q Pbft) (obey
     lawful_on = λ x acts me pen v call seen served may was.
         laws.takes machine orders pbft obeys pbft_orderly IsPbftSound PbftStands pbft_lawful x acts me pen v call seen may was served;
     lawful_stop = laws.halts machine orders pbft obeys pbft_orderly IsPbftSound PbftStands pbft_lawful;
+    stands_trimmed = λ x acts me n p low there. laws.trims machine orders pbft obeys pbft_orderly IsPbftSound PbftStands pbft_lawful x acts me n p;
     lawful_others = laws.others machine orders pbft obeys pbft_orderly IsPbftSound PbftStands pbft_lawful;
     sound_abstract = laws.abstract_of machine orders pbft obeys pbft_orderly IsPbftSound PbftStands pbft_lawful;
     sound_names = laws.names machine orders pbft obeys pbft_orderly IsPbftSound PbftStands pbft_lawful;

@@ -26,6 +26,7 @@ pub record IsLawfulProto {S P : Type 0} (machine : Machine S) (proto : Proto P) 
       → stands x (proto.after pen p m) me (asked_of proto x me pen p m seen ∷ acts) × (sound x acts → Premises x (asked_of proto x me pen p m seen ∷ acts) → sound x (asked_of proto x me pen p m seen ∷ acts))
   pub lawful_stop : (x : Setting) (acts : List Act) (me : ℕ) (p : P) → IsTrue (serves (kind_in x)) → stands x p me acts
       → stands x (proto.halt p) me (halt_of proto me p ∷ acts) × (sound x acts → Premises x (halt_of proto me p ∷ acts) → sound x (halt_of proto me p ∷ acts))
+  pub stands_trimmed : (x : Setting) (acts : List Act) (me n : ℕ) (p : P) → proto.trimmed p ≤ n → n ≤ length (proto.state p).log → stands x p me acts → stands x (proto.trim n p) me acts
   pub lawful_others : (x : Setting) (acts : List Act) (a : Act) → IsTrue (serves (kind_in x)) → is_faulty x.faulty a.party ≡ false → IsOther x acts a → sound x acts → Premises x (a ∷ acts) → sound x (a ∷ acts)
   pub sound_abstract : (x : Setting) (acts : List Act) → IsTrue (serves (kind_in x)) → sound x acts → IsAbstract machine (observations acts) (named_in x acts) x.faulty x.i
   pub sound_names : (x : Setting) (acts : List Act) → IsTrue (serves (kind_in x)) → sound x acts → (a : Act) → Contains acts a → (s : Seen) → Contains a.observations s → observed_in s ≡ x.i

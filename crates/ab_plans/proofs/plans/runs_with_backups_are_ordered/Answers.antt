@@ -15,6 +15,7 @@ returns g c =
       lawful_start = laws.lawful_start;
       lawful_on = laws.lawful_on;
       lawful_stop = laws.lawful_stop;
+      stands_trimmed = laws.stands_trimmed;
       lawful_others = laws.lawful_others;
       sound_abstract = laws.sound_abstract;
       sound_names = laws.sound_names;
