@@ -1,15 +1,16 @@
-//! Replicas over `Null`, which takes no request. The bytes of the request are of another
-//! implementation.
+//! Replicas over `Null`, which takes no request, and over `Quorum`. The bytes of the request are of
+//! another implementation.
 
-ghost use Rattle.std.specs.Prelude.{◌≡◌, ◌+◌, ◌≤◌, false};
+ghost use Rattle.std.specs.Prelude.{◌≡◌, ◌+◌, ◌≤◌, false, true};
 ghost use Rattle.ab_abs.specs.Promises.{ServesAll};
 ghost use Rattle.ab_replica.specs.Sites.{IsPenOf};
 
 use ab_abs::Protocol;
 use ab_fixtures::Null;
-use ab_msg::{Content, Msg, Notary, Sig, SignFault};
+use ab_msg::{Content, Msg, Notary, Out, Outs, Sig, SignFault};
 use ab_num::{Cluster, Party, Plan};
 use ab_open::read;
+use ab_quorum::Quorum;
 use ab_replica::{Effects, Replica};
 use ab_svc::Echo;
 use std::alloc::{AllocError, Global};
@@ -19,6 +20,19 @@ const REQUEST: [u8; 62] = [
     1, 1, 1, 0, 0, 0, 0, 0, 1, 0, 0, 0, 0, 0, 0, 0, 0, 0, 1, 0, 7, 0x70, 0x75, 0x74, 0x20, 0x61,
     0x20, 0x31, 1, 0, 0, 0, 0, 0, 0, 0, 0, 0, 0, 0, 0, 0, 0, 0, 0, 0, 0, 0, 0, 0, 0, 0, 0, 0, 0, 0,
     0, 0, 0, 0, 0, 0,
+];
+
+/// Its next request, of stamp 2.
+const NEXT: [u8; 62] = [
+    1, 1, 1, 0, 0, 0, 0, 0, 1, 0, 0, 0, 0, 0, 0, 0, 0, 0, 2, 0, 7, 0x70, 0x75, 0x74, 0x20, 0x61,
+    0x20, 0x32, 1, 0, 0, 0, 0, 0, 0, 0, 0, 0, 0, 0, 0, 0, 0, 0, 0, 0, 0, 0, 0, 0, 0, 0, 0, 0, 0, 0,
+    0, 0, 0, 0, 0, 0,
+];
+
+/// Its panic in instance 1.
+const PANIC: [u8; 41] = [
+    5, 5, 1, 0, 0, 0, 0, 0, 1, 0, 0, 0, 0, 0, 0, 0, 0, 0, 0, 0, 0, 0, 0, 0, 0, 0, 0, 0, 0, 0, 0, 0,
+    0, 0, 0, 0, 0, 0, 0, 0, 0,
 ];
 
 /// It makes signatures without bytes.
@@ -68,8 +82,8 @@ fn init(alloc: Global) -> Result<Vec<u8>, AllocError> {
 }
 
 /// How long the log is of which the only message is the ABORT of replica 2 to client 0.
-fn aborted(e: &Effects) -> Option<usize> {
-    match e.outs.as_slice() {
+fn aborted(outs: &Outs) -> Option<usize> {
+    match outs.as_slice() {
         [out] => match (&out.to, &out.msg) {
             (Party::Client(0), Msg::Abort { abort }) => match &abort.content {
                 Content::Abort { history, .. } => Some(history.len()),
@@ -82,8 +96,8 @@ fn aborted(e: &Effects) -> Option<usize> {
 }
 
 /// How many ABORTs the certificate has that is the only message, to client 0.
-fn brought(e: &Effects) -> Option<usize> {
-    match e.outs.as_slice() {
+fn brought(outs: &Outs) -> Option<usize> {
+    match outs.as_slice() {
         [out] => match (&out.to, &out.msg) {
             (Party::Client(0), Msg::Init { cert }) => Some(cert.as_slice().len()),
             _ => None,
@@ -92,8 +106,57 @@ fn brought(e: &Effects) -> Option<usize> {
     }
 }
 
+/// How many entries are trimmed of the log, and how many aren't, of which the only message is the ABORT to client 0.
+fn trimmed(outs: &Outs) -> Option<(u16, usize)> {
+    match outs.as_slice() {
+        [out] => match (&out.to, &out.msg) {
+            (Party::Client(0), Msg::Abort { abort }) => match &abort.content {
+                Content::TrimmedAbort { start, rest, .. } => Some((*start, rest.len())),
+                _ => None,
+            },
+            _ => None,
+        },
+        _ => None,
+    }
+}
+
+/// Whether it is an answer to client 0.
+fn is_answer(out: &Out) -> bool {
+    match (&out.to, &out.msg) {
+        (Party::Client(0), Msg::Resp { .. }) => true,
+        _ => false,
+    }
+}
+
+/// Whether it is replica 2's CHECKPOINT of two entries of instance 1 to this replica.
+fn is_told(out: &Out, to: u8) -> bool {
+    match (&out.to, &out.msg) {
+        (
+            Party::Replica(r),
+            Msg::Checkpoint {
+                content: Content::Checkpoint {
+                    maker: Party::Replica(2),
+                    instance: 1,
+                    n: 2,
+                    ..
+                },
+                ..
+            },
+        ) => *r == to,
+        _ => false,
+    }
+}
+
+/// Whether they are an answer, and then replica 2's CHECKPOINT to the three others.
+fn is_told_to_all(outs: &Outs) -> bool {
+    match outs.as_slice() {
+        [answer, a, b, c] => is_answer(answer) && is_told(a, 0) && is_told(b, 1) && is_told(c, 3),
+        _ => false,
+    }
+}
+
 /// What a replica did: whether it took the message, whether it had no signature left, how many messages and marks there are, and
-/// what went to client 0 alone.
+/// what went to client 0 alone or, behind an answer, to the other replicas.
 #[derive(Drop)]
 struct Done {
     taken: bool,
@@ -102,6 +165,8 @@ struct Done {
     marks: usize,
     aborted: Option<usize>,
     brought: Option<usize>,
+    trimmed: Option<(u16, usize)>,
+    told: bool,
 }
 
 /// What a replica does as these bytes come. Where they spell no message or memory is short, it counts as spent.
@@ -121,18 +186,24 @@ fn heard<P: Protocol<Echo>, N: Notary>(
         marks: 0,
         aborted: None,
         brought: None,
+        trimmed: None,
+        told: false,
     };
     if let Ok(m) = read(bytes) {
         if let Ok(e) = replica.on(alloc, m, n) {
-            done = Done {
-                taken: true,
-                spent: e.spent,
-                outs: e.outs.len(),
-                marks: e.marks.len(),
-                aborted: aborted(&e),
-                brought: brought(&e),
-            };
-            drop(e);
+            let Effects { outs, marks, spent } = e;
+            if let Ok(outs) = outs.joined(alloc) {
+                done = Done {
+                    taken: true,
+                    spent,
+                    outs: outs.len(),
+                    marks: marks.len(),
+                    aborted: aborted(&outs),
+                    brought: brought(&outs),
+                    trimmed: trimmed(&outs),
+                    told: is_told_to_all(&outs),
+                };
+            }
         }
     }
     done
@@ -194,6 +265,102 @@ fn enters<P: Protocol<Echo>>(alloc: Global, c: &Cluster) -> Option<bool>
     Some(is_there && entry.marks == 2 && entry.outs == 0)
 }
 
+/// Whether replica 2 answers both requests, and sends its CHECKPOINT behind the second answer.
+fn hears_both<P: Protocol<Echo>, N: Notary>(
+    alloc: Global,
+    replica: &mut Replica<Echo, P>,
+    n: &mut N,
+) -> bool
+    requires { IsPenOf (N.pen n.old) (N.remains n.old) replica.old }
+    ensures { result ≡ true → IsPenOf (N.pen n.new) (N.remains n.new) replica.new }
+{
+    let first = heard(alloc, replica, n, &REQUEST);
+    if first.spent || first.outs != 1 {
+        return false;
+    }
+    let next = heard(alloc, replica, n, &NEXT);
+    !next.spent && next.told
+}
+
+/// Replica r's CHECKPOINT in instance 1 of two entries with this digest.
+fn checkpoint(alloc: Global, r: u8, digest: &[u8; 32]) -> Result<Vec<u8>, AllocError> {
+    let mut bytes = Vec::from_slice(alloc, &[13, 12, 0, 0, r, 0, 0, 0, 1, 0, 2])?;
+    bytes.extend_from_slice(digest)?;
+    bytes.extend_from_slice(&[0; 32])?;
+    Ok(bytes)
+}
+
+/// Whether a replica takes replica r's CHECKPOINT of what its own log begins with, and sends nothing.
+fn hears_of_two<P: Protocol<Echo>, N: Notary>(
+    alloc: Global,
+    replica: &mut Replica<Echo, P>,
+    n: &mut N,
+    r: u8,
+) -> bool
+    requires { IsPenOf (N.pen n.old) (N.remains n.old) replica.old }
+    ensures { result ≡ true → IsPenOf (N.pen n.new) (N.remains n.new) replica.new }
+{
+    if replica.log().len() < 2 {
+        return false;
+    }
+    let digest = replica.log().digest_at(2);
+    let Ok(bytes) = checkpoint(alloc, r, &digest) else {
+        return false;
+    };
+    let done = heard(alloc, replica, n, &bytes);
+    !done.spent && done.outs == 0
+}
+
+/// How many entries are trimmed of the log that it states, and how many aren't, as it is stopped after both requests and the
+/// others' CHECKPOINTs.
+fn stops_after_all<P: Protocol<Echo>, N: Notary>(
+    alloc: Global,
+    replica: &mut Replica<Echo, P>,
+    n: &mut N,
+) -> Option<(u16, usize)>
+    requires { IsPenOf (N.pen n.old) (N.remains n.old) replica.old }
+{
+    if !hears_both(alloc, replica, n) {
+        return None;
+    }
+    if !hears_of_two(alloc, replica, n, 0) {
+        return None;
+    }
+    if !hears_of_two(alloc, replica, n, 1) {
+        return None;
+    }
+    if !hears_of_two(alloc, replica, n, 3) {
+        return None;
+    }
+    heard(alloc, replica, n, &PANIC).trimmed
+}
+
+/// Whether replica 2 sends its CHECKPOINT of two entries to the others, if each two requests are to have one.
+fn tells_others<P: Protocol<Echo>>(alloc: Global, c: &Cluster) -> Option<bool>
+    requires { ServesAll P.serves c.now }
+{
+    let Ok(mut replica) = Replica::<Echo, P>::new(alloc, c, 2, 1) else {
+        return None;
+    };
+    let mut pen = Blank { used: 0, left: 1 };
+    let told = hears_both(alloc, &mut replica, &mut pen);
+    drop(replica);
+    Some(told)
+}
+
+/// How replica 2 aborts whose CHECKPOINT each other replica has made too.
+fn stops<P: Protocol<Echo>>(alloc: Global, c: &Cluster) -> Option<(u16, usize)>
+    requires { ServesAll P.serves c.now }
+{
+    let Ok(mut replica) = Replica::<Echo, P>::new(alloc, c, 2, 1) else {
+        return None;
+    };
+    let mut pen = Blank { used: 0, left: 1 };
+    let stated = stops_after_all(alloc, &mut replica, &mut pen);
+    drop(replica);
+    stated
+}
+
 #[test]
 fn an_abort_is_signed_once(rt: HostRuntime) {
     let alloc = rt.alloc();
@@ -222,4 +389,24 @@ fn a_certificate_leads_on(rt: HostRuntime) {
         None => None,
     };
     assert!(rt; done == Some(true));
+}
+
+#[test]
+fn a_checkpoint_is_told(rt: HostRuntime) {
+    let alloc = rt.alloc();
+    let done = match Cluster::new(1, 1, Plan::Quorum, 2) {
+        Some(c) => tells_others::<Quorum<Echo>>(alloc, &c),
+        None => None,
+    };
+    assert!(rt; done == Some(true));
+}
+
+#[test]
+fn a_stable_log_is_trimmed(rt: HostRuntime) {
+    let alloc = rt.alloc();
+    let stated = match Cluster::new(1, 1, Plan::Quorum, 2) {
+        Some(c) => stops::<Quorum<Echo>>(alloc, &c),
+        None => None,
+    };
+    assert!(rt; stated == Some((2, 0)));
 }

@@ -18,11 +18,11 @@ use Rattle.ab_replica.specs.Doings.{entering}
 module _ {P : Type 0} (k : RunSetup) (proto : Proto P) (r : ℕ) (s : Rep P) (m : Msg) where
   -- what is due where the message leads over or doesn't
   abbrev pub IsDue : Option Crossing → List RepAction → Type 0
-  IsDue None ts = ts ≡ taken k proto s m
+  IsDue None ts = ts ≡ taken k proto r s m
   IsDue (Some x) ts = (j : ℕ) × (cert : List Signed) × (h : List Request) × (x ≡ record { instance = j + 1; entry = entry_of h (Some cert) }) × (ts ≡ entering k proto r s m j cert h)
 
   due_if : (j : ℕ) (cert : List Signed) (h : List Request) (b : Bool)
-      → IsDue (if b then Some (record { instance = j + 1; entry = entry_of h (Some cert) }) else None) (if b then entering k proto r s m j cert h else taken k proto s m)
+      → IsDue (if b then Some (record { instance = j + 1; entry = entry_of h (Some cert) }) else None) (if b then entering k proto r s m j cert h else taken k proto r s m)
   due_if j cert h true = (j, cert, h, refl, refl)
   due_if j cert h false = refl
 

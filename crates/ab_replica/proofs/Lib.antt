@@ -3,3 +3,6 @@ pub mod TurnLemmas
 pub mod PurposeLemmas
 pub mod CrossingLemmas
 pub mod StopLemmas
+pub mod EndingLemmas
+pub mod WithinLemmas
+pub mod RestLemmas

@@ -4,6 +4,7 @@ use Rattle.std.specs.Prelude.{IfOk}
 use Rattle.std.proofs.lemmas.Bool.{ltb-true, le-ltb, ltb-false, lt-ltb}
 use Rattle.ab_num.specs.declared.party.Party.TheVariants.{Replica}
 use Rattle.ab_hist.specs.declared.request.Request.{Request}
+use Rattle.ab_ckpt.specs.Marks.{no_marks}
 use Rattle.ab_msg.specs.declared.signed.Signed.{Signed}
 use Rattle.ab_msg.specs.declared.message.Msg.{Msg}
 use Rattle.ab_msg.specs.declared.message.Out.{Out}
@@ -12,14 +13,13 @@ use Rattle.ab_abs.specs.declared.seen.Seen.{Seen}
 use Rattle.ab_abs.specs.declared.seen.Seen.TheVariants.{Init, Cert}
 use Rattle.ab_abs.specs.Ensembles.{Proto, entry_of}
 use Rattle.ab_abs.specs.Messages.{Call, offered}
-use Rattle.ab_run.specs.Setups.{RunSetup}
-use Rattle.ab_run.specs.Replicas.{RepAction, turn_enter, turn_call, accepted, accepted_marks, if_offered, new_first, after_turn, pen_of, wanted, taken, due}
-use Rattle.ab_run.specs.Local.{after_turns, sent_in_turns, marks_in_turns}
-use Rattle.ab_replica.specs.Sites.{Site, IsSetupOf, setup_of}
+use Rattle.ab_run.specs.Replicas.{RepAction, turn_enter, turn_call, accepted, accepted_marks, if_offered, new_first, after_turn, after_turns, pen_of, wanted, taken}
+use Rattle.ab_run.specs.Local.{sent_in_turns, marks_in_turns}
+use Rattle.ab_replica.specs.Sites.{Site, setup_of}
 use Rattle.ab_replica.specs.Entries.{with_entry}
 use Rattle.ab_replica.specs.declared.crossing.Crossing.{Crossing}
-use Rattle.ab_replica.specs.declared.effects.Effects.{Effects}
-use Rattle.ab_replica.specs.Doings.{Arrives, Does, Hears, entering, are_spent, entries_in}
+use Rattle.ab_replica.specs.declared.done.Done.{Done}
+use Rattle.ab_replica.specs.Doings.{Arrives, Does, entering, are_spent, entries_in}
 
 -- the pen of a replica is the one that a run gives it
 pub pen_is : {P : Type 0} (proto : Proto P) (pen : Pen) (s : Site P) → pen.used ≡ s.rep.used → pen ≡ pen_of (setup_of s pen) proto s.me s.rep
@@ -42,7 +42,7 @@ module _ {P : Type 0} (proto : Proto P) (pen : Pen) (s : Site P) where
         spends = sym e;
       }
 
-  same_site : s ≡ record s { entries = s.entries + 0 }
+  pub same_site : s ≡ record s { entries = s.entries + 0 }
   same_site = ap (λ n. let t : Site P = record s { entries = n } in t) (sym (add-zero s.entries))
 
   -- and where they are not, none is
@@ -132,7 +132,7 @@ module _ {P : Type 0} (proto : Proto P) (pen : Pen) (s : Site P) where
 
 module _ {P : Type 0} (proto : Proto P) (pen : Pen) (s : Site P) where
   -- a replica that has just entered arrives where it takes turns and its entry is seen too
-  pub arrives_if : {E : Type 0} (ts : List RepAction) (now : Site P) (e : Effects) (i me : ℕ) (h : List Request) (r : Result Effects E)
+  pub arrives_if : {E : Type 0} (ts : List RepAction) (now : Site P) (e : Done) (i me : ℕ) (h : List Request) (r : Result Done E)
       → Does proto pen s ts now e.outs e.marks.items e.spent → with_entry i me h e.marks.items e.spent ≡ with_entry s.rep.at s.me s.rep.entry.base e.marks.items e.spent
       → IfOk r (λ x. x.outs ≡ e.outs) → IfOk r (λ x. x.marks.items ≡ with_entry i me h e.marks.items e.spent) → IfOk r (λ x. x.spent ≡ e.spent)
       → IfOk r (λ x. Arrives proto pen s ts now x.outs x.marks.items x.spent)
@@ -168,55 +168,35 @@ module _ {P : Type 0} (proto : Proto P) (pen : Pen) (s : Site P) (j : ℕ) (cert
 
   -- the same of one that entered by a crossing
   abbrev pub entered_by : Crossing → Site P
-  entered_by x = record s { rep = record { at = x.instance; value = proto.begin s.cluster x.instance s.me x.entry; entry = x.entry; abort = None; used = s.rep.used }; entries = s.entries + 1 }
+  entered_by x = record s { rep = record { at = x.instance; value = proto.begin s.cluster x.instance s.me x.entry; entry = x.entry; abort = None; used = s.rep.used; kept = no_marks }; entries = s.entries + 1 }
 
   crossing_there : (x : Crossing) (t : Site P) → x ≡ record { instance = j + 1; entry = entry_of h (Some cert) } → t ≡ entered_by x → t ≡ there
   crossing_there x t leads is = is ∙ ap entered_by leads
 
   pub crosses_spent : (m : Msg) (x : Crossing) (t now : Site P) (outs : List Out) (shown : List Seen) (spent : Bool) → x ≡ record { instance = j + 1; entry = entry_of h (Some cert) } → t ≡ entered_by x → spent ≡ true
-      → Arrives proto pen t (taken (setup_of t pen) proto t.rep m) now outs shown spent → Does proto pen s (entering (setup_of s pen) proto s.me s.rep m j cert h) s outs shown spent
+      → Arrives proto pen t (taken (setup_of t pen) proto t.me t.rep m) now outs shown spent → Does proto pen s (entering (setup_of s pen) proto s.me s.rep m j cert h) s outs shown spent
   crosses_spent m x t now outs shown spent leads is over arrives =
       subst (λ (b : Bool). Does proto pen s (entering (setup_of s pen) proto s.me s.rep m j cert h) s outs shown b) (sym over)
       (subst (λ (l : List Seen). Does proto pen s (entering (setup_of s pen) proto s.me s.rep m j cert h) s outs l true)
       (sym (arrives.shows ∙ ap (with_entry t.rep.at t.me t.rep.entry.base arrives.marks) over))
-      (enters_spent (taken (setup_of s pen) proto there.rep m) now outs arrives.marks
-      (subst (λ (b : Bool). Does proto pen there (taken (setup_of s pen) proto there.rep m) now outs arrives.marks b) over
-      (subst (λ (u : Site P). Does proto pen u (taken (setup_of u pen) proto u.rep m) now outs arrives.marks spent) (crossing_there x t leads is) arrives.does))))
+      (enters_spent (taken (setup_of s pen) proto s.me there.rep m) now outs arrives.marks
+      (subst (λ (b : Bool). Does proto pen there (taken (setup_of s pen) proto s.me there.rep m) now outs arrives.marks b) over
+      (subst (λ (u : Site P). Does proto pen u (taken (setup_of u pen) proto u.me u.rep m) now outs arrives.marks spent) (crossing_there x t leads is) arrives.does))))
 
   pub crosses_taken : (m : Msg) (x : Crossing) (t now last : Site P) (outs : List Out) (shown : List Seen) (spent : Bool) → x ≡ record { instance = j + 1; entry = entry_of h (Some cert) } → t ≡ entered_by x → spent ≡ false → last ≡ now
-      → Arrives proto pen t (taken (setup_of t pen) proto t.rep m) now outs shown spent → Does proto pen s (entering (setup_of s pen) proto s.me s.rep m j cert h) last outs shown spent
+      → Arrives proto pen t (taken (setup_of t pen) proto t.me t.rep m) now outs shown spent → Does proto pen s (entering (setup_of s pen) proto s.me s.rep m j cert h) last outs shown spent
   crosses_taken m x t now last outs shown spent leads is under same arrives =
       let back : j + 1 - 1 ≡ j = omega arith in
       subst (λ (b : Bool). Does proto pen s (entering (setup_of s pen) proto s.me s.rep m j cert h) last outs shown b) (sym under)
       (subst (λ (u : Site P). Does proto pen s (entering (setup_of s pen) proto s.me s.rep m j cert h) u outs shown false) (sym same)
       (subst (λ (l : List Seen). Does proto pen s (entering (setup_of s pen) proto s.me s.rep m j cert h) now outs l false)
       (sym (arrives.shows ∙ ap (λ (u : Site P). with_entry u.rep.at u.me u.rep.entry.base arrives.marks spent) (crossing_there x t leads is) ∙ ap (with_entry (j + 1) s.me h arrives.marks) under ∙ ap (λ i. Cert i (Replica s.me) h ∷ Init (j + 1) s.me h ∷ arrives.marks) back))
-      (enters_taken (taken (setup_of s pen) proto there.rep m) now outs arrives.marks
-      (subst (λ (b : Bool). Does proto pen there (taken (setup_of s pen) proto there.rep m) now outs arrives.marks b) under
-      (subst (λ (u : Site P). Does proto pen u (taken (setup_of u pen) proto u.rep m) now outs arrives.marks spent) (crossing_there x t leads is) arrives.does)))))
+      (enters_taken (taken (setup_of s pen) proto s.me there.rep m) now outs arrives.marks
+      (subst (λ (b : Bool). Does proto pen there (taken (setup_of s pen) proto s.me there.rep m) now outs arrives.marks b) under
+      (subst (λ (u : Site P). Does proto pen u (taken (setup_of u pen) proto u.me u.rep m) now outs arrives.marks spent) (crossing_there x t leads is) arrives.does)))))
 
--- ---- whatever the run
-
-module _ {P : Type 0} (proto : Proto P) (pen : Pen) (s : Site P) (k : RunSetup) (of : IsSetupOf k s pen) where
-  setup_is : setup_of s pen ≡ record { cluster = k.cluster; faulty = []; signatures = k.signatures; sig = λ q. k.sig s.me }
-  setup_is =
-      ap (λ c. let x : RunSetup = record { cluster = c; faulty = []; signatures = s.signatures; sig = λ q. pen.sig } in x) (sym of.cluster)
-      ∙ ap (λ n. let x : RunSetup = record { cluster = k.cluster; faulty = []; signatures = n; sig = λ q. pen.sig } in x) (sym of.signatures)
-      ∙ ap (λ f. let x : RunSetup = record { cluster = k.cluster; faulty = []; signatures = k.signatures; sig = λ q. f } in x) (sym of.sig)
-
-  alike : (call : Call) (now : Site P) (outs : List Out) (marks : List Seen) (spent : Bool)
-      → Hears proto (record { cluster = k.cluster; faulty = []; signatures = k.signatures; sig = λ q. k.sig s.me }) s call now outs marks spent → Hears proto k s call now outs marks spent
-  alike call now outs marks spent hears = record { after = hears.after; sends = hears.sends; shows = hears.shows; spends = hears.spends }
-
-  -- a replica that takes the turns that are due hears the call
-  pub hears_of : (call : Call) (now : Site P) (outs : List Out) (marks : List Seen) (spent : Bool) → Does proto pen s (due (setup_of s pen) proto s.me s.rep call) now outs marks spent → Hears proto k s call now outs marks spent
-  hears_of call now outs marks spent does =
-      alike call now outs marks spent
-      (subst (λ (x : RunSetup). Hears proto x s call now outs marks spent) setup_is
-      (record { after = does.after; sends = does.sends; shows = does.shows; spends = does.spends }))
-
-  pub hears_if : {E : Type 0} (call : Call) (ts : List RepAction) (now : Site P) (r : Result Effects E) → due (setup_of s pen) proto s.me s.rep call ≡ ts
-      → IfOk r (λ e. Does proto pen s ts now e.outs e.marks.items e.spent) → IfOk r (λ e. Hears proto k s call now e.outs e.marks.items e.spent)
-  hears_if call ts now (Ok e) asks does =
-      hears_of call now e.outs e.marks.items e.spent (subst (λ (us : List RepAction). Does proto pen s us now e.outs e.marks.items e.spent) (sym asks) does)
-  hears_if call ts now (Err e) asks does = tt
+-- what takes some turns takes equal ones
+pub does_same : {P E : Type 0} (proto : Proto P) (pen : Pen) (s : Site P) (asked ts : List RepAction) (now : Site P) (r : Result Done E) → asked ≡ ts
+    → IfOk r (λ e. Does proto pen s ts now e.outs e.marks.items e.spent) → IfOk r (λ e. Does proto pen s asked now e.outs e.marks.items e.spent)
+does_same proto pen s asked ts now (Ok e) same does = subst (λ (us : List RepAction). Does proto pen s us now e.outs e.marks.items e.spent) (sym same) does
+does_same proto pen s asked ts now (Err e) same does = tt

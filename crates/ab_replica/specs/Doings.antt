@@ -9,8 +9,8 @@ use Rattle.ab_abs.specs.declared.seen.Seen.{Seen}
 use Rattle.ab_abs.specs.Ensembles.{Proto}
 use Rattle.ab_abs.specs.Messages.{Call}
 use Rattle.ab_run.specs.Setups.{RunSetup}
-use Rattle.ab_run.specs.Replicas.{Rep, RepAction, turn_enter, turn_call, turn_halt, turn_sign, turn_bring, turn_abort, after_turn, taken, wanted, is_spent, turns}
-use Rattle.ab_run.specs.Local.{after_turns, sent_in_turns, marks_in_turns, rep_after, rep_sends, rep_marks}
+use Rattle.ab_run.specs.Replicas.{Rep, RepAction, turn_enter, turn_call, turn_halt, turn_sign, turn_bring, turn_abort, turn_mark, turn_keep, turn_trim, after_turn, after_turns, taken, wanted, is_spent, turns}
+use Rattle.ab_run.specs.Local.{sent_in_turns, marks_in_turns, rep_after, rep_sends, rep_marks}
 use Rattle.ab_replica.specs.Sites.{Site, setup_of}
 use Rattle.ab_replica.specs.Entries.{with_entry}
 
@@ -21,6 +21,9 @@ enters turn_halt = 0
 enters turn_sign = 0
 enters (turn_bring c) = 0
 enters (turn_abort c) = 0
+enters (turn_mark n) = 0
+enters (turn_keep v) = 0
+enters (turn_trim n) = 0
 
 -- how often the replica enters an instance in these turns
 abbrev pub entries_in : List RepAction → ℕ
@@ -36,7 +39,7 @@ pub record Hears {P : Type 0} (proto : Proto P) (k : RunSetup) (s : Site P) (cal
 
 -- a replica enters the instance after j, and takes the message there
 abbrev pub entering : {P : Type 0} → RunSetup → Proto P → ℕ → Rep P → Msg → ℕ → List Signed → List Request → List RepAction
-entering k proto r s m j cert h = turn_enter j cert h ∷ taken k proto (after_turn k proto r s (turn_enter j cert h)) m
+entering k proto r s m j cert h = turn_enter j cert h ∷ taken k proto r (after_turn k proto r s (turn_enter j cert h)) m
 
 module _ {P : Type 0} (proto : Proto P) (k : RunSetup) (s : Site P) (ts : List RepAction) where
   -- whether these turns want more signatures than are left

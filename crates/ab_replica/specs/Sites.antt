@@ -1,13 +1,14 @@
 -- What a contract sees of a replica.
-use Rattle.std.specs.Prelude.{◌≡◌, ℕ, ◌+◌, ◌%◌, ◌^◌, None, []}
+use Rattle.std.specs.Prelude.{◌≡◌, ℕ, ◌+◌, ◌%◌, ◌^◌, ◌≤◌, None, [], length}
 use Rattle.ab_num.specs.declared.cluster.Cluster.{Cluster}
 use Rattle.ab_msg.specs.Pens.{Pen}
 use Rattle.ab_num.specs.Places.{kind_of}
+use Rattle.ab_ckpt.specs.Marks.{no_marks}
 use Rattle.ab_msg.specs.declared.content.Content.{Content}
-use Rattle.ab_abs.specs.Acts.{State, abort_content}
 use Rattle.ab_abs.specs.Kinds.{rule_of}
 use Rattle.ab_abs.specs.Ensembles.{Proto, entry_of}
 use Rattle.ab_run.specs.Setups.{RunSetup}
+use Rattle.ab_run.specs.Checkpoints.{abort_after}
 use Rattle.ab_run.specs.Replicas.{Rep}
 
 -- its cluster, its number, how many signatures it can make, where it is, and how often it has entered an instance
@@ -24,7 +25,7 @@ first_site proto c r signatures = record {
   cluster = c;
   me = r;
   signatures = signatures;
-  rep = record { at = 1; value = proto.begin c 1 r (entry_of [] None); entry = entry_of [] None; abort = None; used = 0 };
+  rep = record { at = 1; value = proto.begin c 1 r (entry_of [] None); entry = entry_of [] None; abort = None; used = 0; kept = no_marks };
   entries = 0;
 }
 
@@ -52,6 +53,10 @@ pub record IsPenAfter {P : Type 0} (old new : Pen) (left : ℕ) (s : Site P) : T
 abbrev pub timer_number : ℕ → ℕ → ℕ
 timer_number entries n = (n + entries) % 2 ^ 64
 
--- what it states as it aborts from this state, by the rule of its instance
-abbrev pub stated_by : {P : Type 0} → Site P → State → Content
-stated_by s at = abort_content (rule_of (kind_of s.cluster.plan s.rep.at) s.cluster.f) s.rep.at s.me at
+-- the log of a value has what is trimmed of it
+abbrev pub IsWithin : {P : Type 0} → Proto P → P → Type 0
+IsWithin proto v = proto.trimmed v ≤ length (proto.state v).log
+
+-- what it states as it aborts with this value, by the rule of its instance
+abbrev pub stated_by : {P : Type 0} → Proto P → Site P → P → Content
+stated_by proto s v = abort_after (proto.trimmed v) (rule_of (kind_of s.cluster.plan s.rep.at) s.cluster.f) s.rep.at s.me (proto.state v)

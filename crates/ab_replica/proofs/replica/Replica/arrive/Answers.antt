@@ -15,5 +15,5 @@ returns-clause-does g c =
     let q = c.self.inside in
     let entry = ap (λ b. with_entry q.instance q.me b e.marks.items e.spent) c.in_ok-base.ensures
     ∙ ap (λ (t : Site g.row.P.Denot). with_entry t.rep.at t.me t.rep.entry.base e.marks.items e.spent) c.self.view_is in
-    arrives_if proto pen s (taken (setup_of s pen) proto s.rep (message c.args.m)) c.take.new.self e q.instance q.me c.in_ok-base.base c.with_entry.result
+    arrives_if proto pen s (taken (setup_of s pen) proto s.me s.rep (message c.args.m)) c.take.new.self e q.instance q.me c.in_ok-base.base c.with_entry.result
     c.in_ok-effects.ensures.does entry c.with_entry.ensures.outs c.with_entry.ensures.marks c.with_entry.ensures.spent

@@ -17,7 +17,7 @@ returns-clause-does g c =
     let e = c.in_ok-effects.effects in
     let q = c.self-2.inside in
     let mid : g.row.P.Denot → Site g.row.P.Denot =
-    λ v. record { cluster = q.cluster; me = q.me; signatures = q.signatures; rep = record { at = q.instance; value = v; entry = q.entry; abort = q.abort; used = q.used }; entries = q.entries } in
+    λ v. record { cluster = q.cluster; me = q.me; signatures = q.signatures; rep = record { at = q.instance; value = v; entry = q.entry; abort = q.abort; used = q.used; kept = q.kept }; entries = q.entries } in
     let same = ap (λ (t : Site g.row.P.Denot). t.rep.value) c.self.view_is in
     let runs = c.stopped.ensures ∙ ap (λ v. (proto.state v).stopped) same in
     let stops = c.may_panic.ensures ∙ ap (λ v. (proto.state (proto.halt v)).stopped) same in

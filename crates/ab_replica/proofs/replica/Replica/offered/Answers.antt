@@ -6,6 +6,7 @@ use Rattle.ab_run.specs.Replicas.{turn_call}
 use Rattle.ab_replica.specs.Sites.{Site}
 use Rattle.ab_replica.specs.Doings.{Does}
 use Rattle.ab_replica.proofs.TurnLemmas.{calls_offer}
+use Rattle.ab_replica.proofs.WithinLemmas.{within_after}
 use Rattle.ab_replica.proofs.replica.Replica.offered.Goals as goal
 
 pub returns-in-Ok-clause-does : goal.returns-in-Ok-clause-does
@@ -14,7 +15,7 @@ returns-in-Ok-clause-does g c =
     let pen : Pen = g.N.Notary.pen c.args.n.now in
     let call = took (message c.args.m) in
     let q = c.self.inside in
-    let v : Site g.row.P.Denot = record { cluster = q.cluster; me = q.me; signatures = q.signatures; rep = record { at = q.instance; value = q.value; entry = q.entry; abort = q.abort; used = q.used }; entries = q.entries } in
+    let v : Site g.row.P.Denot = record { cluster = q.cluster; me = q.me; signatures = q.signatures; rep = record { at = q.instance; value = q.value; entry = q.entry; abort = q.abort; used = q.used; kept = q.kept }; entries = q.entries } in
     let same = c.in_ok-value.ensures in
     let ok = c.in-Ok.ensures.ok in
     let after = subst (λ (p : g.row.P.Denot). c.on.new.self ≡ proto.after pen p call) same ok.0 in
@@ -31,3 +32,12 @@ returns-in-Ok-clause-does g c =
     (ap (λ (p : g.row.P.Denot). next p (c.left-left.result - c.left.result)) after ∙ ap (next (proto.after pen q.value call)) made)
     sends
     c.in_ok-marks-in-Ok.ensures.marks)
+
+pub invariant_of-self : goal.invariant_of-self
+invariant_of-self g c =
+    let proto = g.P.Protocol.proto in
+    let pen : Pen = g.N.Notary.pen c.args.n.now in
+    let call = took (message c.args.m) in
+    let after = subst (λ (p : g.row.P.Denot). c.on.new.self ≡ proto.after pen p call) c.in_ok-value.ensures c.in-Ok.ensures.ok.0 in
+    let within = within_after proto g.P.Protocol.serves g.met.P.Protocol.formed pen c.self.inside.value c.on.new.self call after c.self.invariant.3 in
+    (c.self.invariant.0, c.self.invariant.1, c.self.invariant.2, within)
