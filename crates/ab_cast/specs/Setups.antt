@@ -45,7 +45,7 @@ ring_at x p = ring_of x.cluster.f x.cluster.clients x.cluster.plan x.seed p
 
 -- what a party opens, signs and seals by
 abbrev pub credentials_at : Setup → Party → Credentials
-credentials_at x p = record { ring = ring_at x p; keys = keys_of x }
+credentials_at x p = record { ring = ring_at x p; keys = keys_of x; every = x.cluster.every }
 
 -- ---- where cores are
 

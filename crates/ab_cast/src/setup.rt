@@ -201,7 +201,7 @@ impl Setup {
         requires { IsTrue (is_party self.now.cluster.f self.now.cluster.clients party) }
         ensures { result ≡ credentials_at self.now party }
     {
-        Credentials::new(self.ring(party), &self.signers)
+        Credentials::new(self.ring(party), &self.signers, self.cluster.every)
     }
 
     /// The ring of a party of the cluster.

@@ -38,11 +38,11 @@ is_ok : (o : Result Msg OpenFault) (m : Msg) → result_ok o ≡ Some m → o �
 is_ok (Ok n) m is = ap Ok (same_Some n m is)
 is_ok (Err fault) m is = absurd (none-some m is)
 
-module _ (k : RunSetup) (grammar : (c : Credentials) (bytes : List ℕ) (m : Msg) → IsBytes bytes → opening (judge_of c.ring c.keys) c.ring.f c.ring.clients 0 c.ring.me bytes ≡ Ok m → IsMessage m)
+module _ (k : RunSetup) (grammar : (c : Credentials) (bytes : List ℕ) (m : Msg) → IsBytes bytes → opening (judge_of c.ring c.keys) c.ring.f c.ring.clients c.every c.ring.me bytes ≡ Ok m → IsMessage m)
     (histories : (f clients : ℕ) (me : Party) (m : Msg) → IsInBounds f clients → IsMessage m → (h : List Request) → Contains (flat_map stated_history (claims f me m)) h → IsHistory h) where
   of_grammar : (c : Credentials) (bytes : List ℕ) (m : Msg) → opened c bytes ≡ Some m → IsMessage m
   of_grammar c bytes m is = by (list_all (λ b. nat_lt b 256) bytes) refl (is_ok (opening_by c bytes) m is) where
-    by : (b : Bool) → list_all (λ b. nat_lt b 256) bytes ≡ b → (if b then opening (judge_of c.ring c.keys) c.ring.f c.ring.clients 0 c.ring.me bytes else Err NotMine) ≡ Ok m → IsMessage m
+    by : (b : Bool) → list_all (λ b. nat_lt b 256) bytes ≡ b → (if b then opening (judge_of c.ring c.keys) c.ring.f c.ring.clients c.every c.ring.me bytes else Err NotMine) ≡ Ok m → IsMessage m
     by true are ok = grammar c bytes m (are_bytes bytes are) ok
     by false are missed = absurd (let e : Err NotMine ≡ Ok m = missed in cc)
 

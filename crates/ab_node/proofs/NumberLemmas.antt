@@ -1,6 +1,6 @@
 -- A replica signs with one number after the other.
-use Rattle.std.proofs.Common.{◌≡◌, ℕ, ◌+◌, suc, Bool, Option, None, Some, List, [], ◌∷◌, ◌++◌, refl, sym, ap, ◌∙◌, subst, inl, inr, arith, append_assoc, append-nil}
-use Rattle.std.specs.Prelude.{Contains, length, slice_get}
+use Rattle.std.proofs.Common.{◌≡◌, ℕ, ◌+◌, zero, suc, Bool, true, false, Option, None, Some, List, [], ◌∷◌, ◌++◌, refl, sym, ap, ◌∙◌, subst, inl, inr, arith, append_assoc, append-nil}
+use Rattle.std.specs.Prelude.{◌==◌, if◌then◌else◌, Contains, length, replicate, slice_get}
 use Rattle.std.proofs.lemmas.List.{length-append}
 use Rattle.std.proofs.lemmas.List.Elements.{Contains-append_cases}
 use Rattle.std.proofs.lemmas.Option.{slice_get_within}
@@ -10,13 +10,17 @@ use Rattle.ab_msg.specs.declared.content.Content.{Content}
 use Rattle.ab_msg.specs.declared.signed.Signed.{Signed}
 use Rattle.ab_msg.specs.declared.message.Out.{Out}
 use Rattle.ab_msg.specs.Claims.{signed_in}
+use Rattle.ab_msg.specs.declared.message.Msg.{Msg}
+use Rattle.ab_msg.specs.declared.message.Msg.TheVariants as msg
+use Rattle.ab_num.specs.declared.party.Party.TheVariants.{Replica}
 use Rattle.ab_num.specs.declared.plan.Kind.{Kind}
 use Rattle.ab_abs.specs.Ensembles.{Proto}
 use Rattle.ab_abs.specs.FormLaws.{KeepsForm}
 use Rattle.ab_abs.specs.Messages.{Call}
-use Rattle.ab_run.specs.Setups.{RunSetup}
-use Rattle.ab_run.specs.Replicas.{Rep, RepAction, turn_enter, turn_call, turn_halt, turn_sign, turn_bring, turn_abort, abort_content, abort_to, cert_to, after_turn, pen_of, sent_in_turn, turns}
-use Rattle.ab_run.specs.Local.{after_turns, rep_after, rep_sends, sent_in_turns}
+use Rattle.ab_run.specs.Setups.{RunSetup, replicas}
+use Rattle.ab_run.specs.Checkpoints.{to_others}
+use Rattle.ab_run.specs.Replicas.{Rep, RepAction, turn_enter, turn_call, turn_halt, turn_sign, turn_bring, turn_abort, turn_mark, turn_keep, turn_trim, abort_content, checkpoint_at, abort_to, cert_to, after_turn, after_turns, pen_of, sent_in_turn, turns}
+use Rattle.ab_run.specs.Local.{rep_after, rep_sends, sent_in_turns}
 use Rattle.ab_node.specs.Locality.{sent_locally}
 use Rattle.ab_node.specs.Numbers.{AreNumbered, IsNumbered, signed_in_turn, signed_in_turns, signed_locally}
 
@@ -53,6 +57,19 @@ module _ {P : Type 0} (k : RunSetup) (proto : Proto P) (r : ℕ) where
   none_brought c None o v has in_it = Contains-none o has
   none_brought c (Some cert) o v has in_it = Contains-none v (subst (λ (z : Out). Contains (signed_in z.msg) v) (sym (Contains-one _ o has)) in_it)
 
+  -- a message in which nothing is signed
+  none_to_others : (n : ℕ) (m : Msg) → signed_in m ≡ [] → (o : Out) (v : Signed) → Contains (to_others n r m) o → Contains (signed_in o.msg) v → ⊥
+  none_to_others zero m unsigned o v has in_it = Contains-none o has
+  none_to_others (suc n) m unsigned o v has in_it =
+      elim (Contains-append_cases (to_others n r m) (if n == r then [] else record { to = Replica n; msg = m } ∷ []) o has) [
+        | inl before ↦ none_to_others n m unsigned o v before in_it
+        | inr last ↦ by_test (n == r) last
+      ]
+    where
+      by_test : (b : Bool) → Contains (if b then [] else record { to = Replica n; msg = m } ∷ []) o → ⊥
+      by_test true gone = Contains-none o gone
+      by_test false one = Contains-none v (subst (λ (l : List Signed). Contains l v) unsigned (subst (λ (z : Out). Contains (signed_in z.msg) v) (sym (Contains-one _ o one)) in_it))
+
   module _ {serves : Kind → Bool} (form : KeepsForm proto serves) where
     counts_turn : (contents : List Content) (s : Rep P) (t : RepAction) → Counts contents s → Counts (contents ++ signed_in_turn k proto r s t) (after_turn k proto r s t)
     counts_turn contents s (turn_enter j cert h) counts = record { used = ap length (append-nil contents) ∙ counts.used; abort = λ v is. absurd (cc is) }
@@ -74,6 +91,9 @@ module _ {P : Type 0} (k : RunSetup) (proto : Proto P) (r : ℕ) where
         }
     counts_turn contents s (turn_bring c) counts = none contents s counts
     counts_turn contents s (turn_abort c) counts = none contents s counts
+    counts_turn contents s (turn_mark n) counts = record { used = (none contents s counts).used; abort = (none contents s counts).abort }
+    counts_turn contents s (turn_keep v) counts = record { used = (none contents s counts).used; abort = (none contents s counts).abort }
+    counts_turn contents s (turn_trim n) counts = record { used = (none contents s counts).used; abort = (none contents s counts).abort }
 
     sent_turn : (contents : List Content) (s : Rep P) (t : RepAction) → Counts contents s → AreNumbered k r (contents ++ signed_in_turn k proto r s t) (sent_in_turn k proto r s t)
     sent_turn contents s (turn_enter j cert h) counts o v has in_it = absurd (Contains-none o has)
@@ -88,6 +108,9 @@ module _ {P : Type 0} (k : RunSetup) (proto : Proto P) (r : ℕ) where
     sent_turn contents s turn_sign counts o v has in_it = absurd (Contains-none o has)
     sent_turn contents s (turn_bring c) counts o v has in_it = absurd (none_brought c s.entry.cert o v has in_it)
     sent_turn contents s (turn_abort c) counts o v has in_it = longer contents [] v (one_aborts contents c s.abort o v counts.abort has in_it)
+    sent_turn contents s (turn_mark n) counts o v has in_it = absurd (none_to_others (replicas k) (msg.Checkpoint (checkpoint_at k proto r s n) (replicate 32 0)) refl o v has in_it)
+    sent_turn contents s (turn_keep w) counts o v has in_it = absurd (Contains-none o has)
+    sent_turn contents s (turn_trim n) counts o v has in_it = absurd (Contains-none o has)
 
     counts_turns : (contents : List Content) (s : Rep P) (ts : List RepAction) → Counts contents s → Counts (contents ++ signed_in_turns k proto r s ts) (after_turns k proto r s ts)
     counts_turns contents s [] counts = none contents s counts

@@ -7,7 +7,7 @@ use Rattle.ab_msg.specs.Claims.{signed_in}
 use Rattle.ab_abs.specs.Ensembles.{Proto}
 use Rattle.ab_abs.specs.Messages.{Call}
 use Rattle.ab_run.specs.Setups.{RunSetup}
-use Rattle.ab_run.specs.Replicas.{Rep, RepAction, turn_enter, turn_call, turn_halt, turn_sign, turn_bring, turn_abort, abort_content, after_turn, turns}
+use Rattle.ab_run.specs.Replicas.{Rep, RepAction, turn_enter, turn_call, turn_halt, turn_sign, turn_bring, turn_abort, turn_mark, turn_keep, turn_trim, abort_content, after_turn, turns}
 use Rattle.ab_run.specs.Local.{rep_after}
 use Rattle.ab_loop.specs.Lives.{Among, StoppedRun, handed_by, kept_by}
 use Rattle.ab_loop.specs.Nodes.{datagrams_in, parcels_of}
@@ -25,6 +25,9 @@ module _ {P : Type 0} (k : RunSetup) (proto : Proto P) (r : ℕ) where
   signed_in_turn s turn_sign = abort_content k proto r s ∷ []
   signed_in_turn s (turn_bring c) = []
   signed_in_turn s (turn_abort c) = []
+  signed_in_turn s (turn_mark n) = []
+  signed_in_turn s (turn_keep v) = []
+  signed_in_turn s (turn_trim n) = []
 
   abbrev pub signed_in_turns : Rep P → List RepAction → List Content
   signed_in_turns s [] = []

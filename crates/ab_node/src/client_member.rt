@@ -121,7 +121,8 @@ impl ClientMember {
         ensures opened { IfOk result (λ e. e.opened ≡ true) }
         ensures sendable { IfOk result (λ e. All IsSendable e.sends.items) }
     {
-        let sends = self.keys.lend().seal_all(alloc, effects.outs.as_slice())?;
+        let outs = effects.outs.joined(alloc)?;
+        let sends = self.keys.lend().seal_all(alloc, outs.as_slice())?;
         Ok(Reaction {
             sends,
             commit: commit_in(effects.marks.as_slice()),

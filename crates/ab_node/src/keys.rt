@@ -19,11 +19,12 @@ use std::alloc::Global;
 use std::marker::Model;
 
 /// A party's key ring, and the signature keys of the replicas: of its own a replica has the secret, of
-/// the others each party has the public ones.
+/// the others each party has the public ones. And after how many requests a checkpoint is due.
 #[derive(Drop)]
 pub(crate) struct Keys {
     ring: KeyRing,
     signers: Signers,
+    every: u16,
 }
 
 impl Model for Keys {
@@ -31,7 +32,7 @@ impl Model for Keys {
 
     ghost Value = { TheCredentials };
 
-    ghost view = { λ k. record { ring = k.ring; keys = k.signers } };
+    ghost view = { λ k. record { ring = k.ring; keys = k.signers; every = k.every } };
 }
 
 /// A replica's own key.
@@ -78,7 +79,11 @@ impl Keys {
     {
         let ring = keys.ring(alloc)?;
         let signers = Signers::of(alloc, sign_keys(alloc, keys)?);
-        Ok(Keys { ring, signers })
+        Ok(Keys {
+            ring,
+            signers,
+            every: keys.cluster().every,
+        })
     }
 
     /// How many signatures replica `r` can make by them.
@@ -92,7 +97,7 @@ impl Keys {
     pub(crate) fn lend(&self) -> Credentials<'_>
         ensures { result ≡ self.now }
     {
-        Credentials::new(&self.ring, &self.signers)
+        Credentials::new(&self.ring, &self.signers, self.every)
     }
 
     /// The message that bytes are to the party, if they open.

@@ -80,7 +80,8 @@ impl<S: Service, P: Protocol<S>> ReplicaMember<S, P> {
         ensures err { OnErr result ((self.new ≡ self.old) ⊎ (self.new ≡ replica_after P.proto self.old (call_of cue.entry))) }
     {
         let effects = self.hear(alloc, cue)?;
-        let sends = self.keys.lend().seal_all(alloc, effects.outs.as_slice())?;
+        let outs = effects.outs.joined(alloc)?;
+        let sends = self.keys.lend().seal_all(alloc, outs.as_slice())?;
         Ok(Reaction {
             sends,
             commit: None,

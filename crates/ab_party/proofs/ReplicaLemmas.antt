@@ -16,8 +16,8 @@ use Rattle.ab_abs.specs.FormLaws.{KeepsForm}
 use Rattle.ab_abs.proofs.Certified.{all_of}
 use Rattle.ab_run.specs.Setups.{RunSetup}
 use Rattle.ab_run.specs.Forms.{IsDraftOf, IsWrittenSetup}
-use Rattle.ab_run.specs.Replicas.{due, turns}
-use Rattle.ab_run.specs.Local.{after_turns, rep_after, rep_sends}
+use Rattle.ab_run.specs.Replicas.{after_turns, closed, due, turns}
+use Rattle.ab_run.specs.Local.{rep_after, rep_sends}
 use Rattle.ab_run.proofs.Written.{call_goes}
 use Rattle.ab_replica.specs.declared.effects.Effects.{Effects}
 use Rattle.ab_replica.specs.Sites.{IsPenAfter, IsPenOf, IsSetupOf, Site, setup_of}
@@ -63,9 +63,10 @@ module _ {P : Type 0} (proto : Proto P) (serves : Kind → Bool) (c : Credential
       → (spent ≡ false → IsPenAfter pen new left now) → now.rep.used ≤ now.signatures
   used_by call now outs marks false pen new left hears after = omega (arith, (after refl).own.rest)
   used_by call now outs marks true pen new left hears after =
+      let ts = closed own_run proto s.me s.rep (due own_run proto s.me s.rep call) in
       let at : Bool → Site P = λ b. record s {
-        rep = after_turns own_run proto s.me s.rep (if b then [] else due own_run proto s.me s.rep call);
-        entries = s.entries + entries_in (if b then [] else due own_run proto s.me s.rep call);
+        rep = after_turns own_run proto s.me s.rep (if b then [] else ts);
+        entries = s.entries + entries_in (if b then [] else ts);
       } in
       let same : now ≡ at true = hears.after ∙ ap at (sym hears.spends) in
       subst (λ (q : Site P). q.rep.used ≤ q.signatures) (sym same) is.used

@@ -23,8 +23,8 @@ use Rattle.ab_party.specs.Credentials.{Credentials, IsLast, IsPartyRing, opening
 
 -- ---- opening
 
-pub opening_is : (c : Credentials) (bytes : List ℕ) → IsBytes bytes → opening_by c bytes ≡ opening (judge_of c.ring c.keys) c.ring.f c.ring.clients 0 c.ring.me bytes
-opening_is c bytes fits = ap (λ b. if b then opening (judge_of c.ring c.keys) c.ring.f c.ring.clients 0 c.ring.me bytes else Err NotMine) (all_bytes bytes fits)
+pub opening_is : (c : Credentials) (bytes : List ℕ) → IsBytes bytes → opening_by c bytes ≡ opening (judge_of c.ring c.keys) c.ring.f c.ring.clients c.every c.ring.me bytes
+opening_is c bytes fits = ap (λ b. if b then opening (judge_of c.ring c.keys) c.ring.f c.ring.clients c.every c.ring.me bytes else Err NotMine) (all_bytes bytes fits)
 
 -- ---- sealing
 

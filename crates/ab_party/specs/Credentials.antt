@@ -14,10 +14,11 @@ use Rattle.ab_sign.specs.declared.key.SignKey.{SignKey}
 use Rattle.ab_sign.specs.Judges.{judge_of}
 use Rattle.ab_seal.specs.Sealing.{sealed}
 
--- its key ring, and the signature keys of the replicas, from replica 0 on
+-- its key ring, the signature keys of the replicas, from replica 0 on, and after how many requests a checkpoint is due, 0 if none ever is
 pub record Credentials : Type 0 where
   pub ring : Ring
   pub keys : List SignKey
+  pub every : ℕ
 
 -- the ring is that of a party of its cluster
 pub record IsPartyRing (ring : Ring) : Type 0 where
@@ -25,9 +26,9 @@ pub record IsPartyRing (ring : Ring) : Type 0 where
   pub party : IsTrue (is_party ring.f ring.clients ring.me)
 
 -- the message that bytes are to the party, or why they don't open by its keys. A list with numbers above 255 is none of
--- bytes. No checkpoint is ever due
+-- bytes
 abbrev pub opening_by : Credentials → List ℕ → Result Msg OpenFault
-opening_by c bytes = if list_all (λ b. nat_lt b 256) bytes then opening (judge_of c.ring c.keys) c.ring.f c.ring.clients 0 c.ring.me bytes else Err NotMine
+opening_by c bytes = if list_all (λ b. nat_lt b 256) bytes then opening (judge_of c.ring c.keys) c.ring.f c.ring.clients c.every c.ring.me bytes else Err NotMine
 
 -- a message with the tags of its maker, and to whom it goes
 abbrev pub sealed_by : Ring → Out → Packet

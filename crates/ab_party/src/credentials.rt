@@ -17,11 +17,12 @@ use std::alloc::Global;
 use std::marker::Model;
 
 /// A party's key ring, and the signature keys of the replicas, lent by who has them: in one program
-/// all parties may share the signature keys.
+/// all parties may share the signature keys. And after how many requests a checkpoint is due (0: never).
 #[derive(Drop)]
 pub struct Credentials<'k> {
     ring: &'k KeyRing,
     signers: &'k Signers,
+    every: u16,
 }
 
 impl<'k> Model for Credentials<'k> {
@@ -29,7 +30,7 @@ impl<'k> Model for Credentials<'k> {
 
     ghost Value = { TheCredentials };
 
-    ghost view = { λ c. record { ring = c.ring.now; keys = c.signers.now } };
+    ghost view = { λ c. record { ring = c.ring.now; keys = c.signers.now; every = c.every } };
 }
 
 /// These bytes to this party. If the packet before it has the same bytes, both share them.
@@ -50,21 +51,32 @@ fn packet_after(
 }
 
 impl<'k> Credentials<'k> {
-    /// This ring and these keys.
-    pub fn new(ring: &'k KeyRing, signers: &'k Signers) -> Credentials<'k>
-        ensures { result ≡ record { ring = ring.now; keys = signers.now } }
+    /// This ring and these keys, in a cluster in which a checkpoint is due after each `every` requests.
+    pub fn new(ring: &'k KeyRing, signers: &'k Signers, every: u16) -> Credentials<'k>
+        ensures { result ≡ record { ring = ring.now; keys = signers.now; every = every } }
     {
-        Credentials { ring, signers }
+        Credentials {
+            ring,
+            signers,
+            every,
+        }
     }
 
-    /// Opens bytes that came to the party. No checkpoint is ever due.
+    /// Opens bytes that came to the party.
     pub fn open<'a>(&self, alloc: Global, bytes: &'a [u8]) -> Result<Checked<'a>, OpenFault>
         ensures opening { MatchResult result (λ m. opening_by self.now bytes.now ≡ Ok m.msg) (λ e. opening_by self.now bytes.now ≡ Err e) }
         ensures me { IfOk result (λ m. m.me ≡ self.now.ring.me) }
     {
         let ring = self.ring;
         let mut verifier = Verifier::new(ring, self.signers);
-        open(alloc, ring.cluster(), 0, ring.me(), &mut verifier, bytes)
+        open(
+            alloc,
+            ring.cluster(),
+            self.every,
+            ring.me(),
+            &mut verifier,
+            bytes,
+        )
     }
 
     /// The replica whose they are, as one who has signed so often.

@@ -18,7 +18,7 @@ use ab_abs::{Marks, Protocol};
 use ab_client::{Client, InvokeFault};
 use ab_msg::Outs;
 use ab_num::OutOfMemory;
-use ab_replica::{Effects, Replica};
+use ab_replica::{Effects, Replica, Sending};
 use ab_svc::Service;
 use std::alloc::Global;
 
@@ -45,12 +45,12 @@ pub fn hear_replica<S: Service, P: Protocol<S>>(
 }
 
 /// What a client sends and shows. It has no signatures to spend.
-fn unspent(done: Result<(Outs, Marks), OutOfMemory>) -> Result<Effects, OutOfMemory>
+fn unspent(alloc: Global, done: Result<(Outs, Marks), OutOfMemory>) -> Result<Effects, OutOfMemory>
     ensures { MatchResult result (λ e. (done ≡ Ok (e.outs, e.marks)) × (e.spent ≡ false)) (λ e. done ≡ Err e) }
 {
     match done {
         Ok((outs, marks)) => Ok(Effects {
-            outs,
+            outs: Sending::of(alloc, outs),
             marks,
             spent: false,
         }),
@@ -75,8 +75,8 @@ pub fn hear_client(
     ensures err { OnErr result (client.new ≡ client.old) }
 {
     match cue {
-        Cue::Message(m) => unspent(client.on(alloc, m)),
-        Cue::Time => unspent(client.timeout(alloc)),
+        Cue::Message(m) => unspent(alloc, client.on(alloc, m)),
+        Cue::Time => unspent(alloc, client.timeout(alloc)),
     }
 }
 
@@ -99,7 +99,7 @@ pub fn tell_client(
 {
     match client.invoke(alloc, command) {
         Ok((outs, marks)) => Ok(Effects {
-            outs,
+            outs: Sending::of(alloc, outs),
             marks,
             spent: false,
         }),

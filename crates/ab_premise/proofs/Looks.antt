@@ -18,7 +18,7 @@ use Rattle.ab_msg.specs.declared.value.Value.TheVariants as value
 use Rattle.ab_msg.specs.Carried.{stated_history, stated_request, value_histories, value_requests, values_in}
 use Rattle.ab_msg.specs.Claims.{claims, instance_in, maker_of}
 use Rattle.ab_abs.specs.Faults.{is_faulty}
-use Rattle.ab_abs.specs.Acts.{with_first}
+use Rattle.ab_abs.specs.Acts.{State, with_first}
 use Rattle.ab_abs.specs.Messages.{Call, took, timed}
 use Rattle.ab_abs.specs.Ensembles.{Proto, entry_of}
 use Rattle.ab_abs.specs.Certificates.{history_of}
@@ -27,10 +27,13 @@ use Rattle.ab_abs.proofs.Prefixes.{prefix_is_take}
 use Rattle.ab_links.specs.Links.{Continues}
 use Rattle.ab_links.specs.Digested.{Item, history, request, item_histories, item_requests, histories_of, requests_of, BeginsIn}
 use Rattle.ab_links.proofs.ListLemmas.{HasSame, Contains-tail}
+use Rattle.ab_ckpt.specs.Marks.{Mark, due_of, stable_of}
+use Rattle.ab_msg.specs.declared.content.Content.{Content}
 use Rattle.ab_run.specs.Setups.{RunSetup, replicas, last_instance}
-use Rattle.ab_run.specs.Replicas.{Rep, RepAction, turn_enter, turn_call, turn_halt, turn_sign, turn_bring, turn_abort, state_at, after_turn, client_of, cert_instance, brought, aborting, aborting_with, halting, late, here, taken, taken_in, due, due_by, due_with, is_spent, turns}
+use Rattle.ab_run.specs.Checkpoints.{every_in, mark_in}
+use Rattle.ab_run.specs.Replicas.{Rep, RepAction, turn_enter, turn_call, turn_halt, turn_sign, turn_bring, turn_abort, turn_mark, turn_keep, turn_trim, state_at, pen_of, after_turn, after_turns, client_of, cert_instance, brought, aborting, aborting_with, halting, trims_with, trimming, keeping_with, keeping, late, here, taken, taken_in, due, due_by, due_with, is_spent, marking, closing, closed, turns}
 use Rattle.ab_run.specs.Runs.{Event, invoke, to_replica, to_client, replica_time, client_time, Run, step, start, had_at, histories_for, requests_for}
-use Rattle.ab_run.specs.Local.{after_turns, rep_after, cue_command, cue_message, cue_time, Cue}
+use Rattle.ab_run.specs.Local.{rep_after, cue_command, cue_message, cue_time, Cue}
 use Rattle.ab_run.specs.Stages.{had_in_turns, had_in_call, call_histories, call_requests}
 use Rattle.ab_run.proofs.Effects.{at_call, at_cue, called, reps_apart}
 use Rattle.ab_run.proofs.Shown.{grown, followed}
@@ -38,20 +41,23 @@ use Rattle.ab_premise.specs.Collisions.{checked_items, content_items, message_it
 
 -- ---- the turns of an event
 
--- turns that leave the value where it is
+-- turns that leave the state where it is
 pub data IsQuiet : RepAction → Type 0 where
   signs : IsQuiet turn_sign
   brings : (c : ℕ) → IsQuiet (turn_bring c)
   aborts : (c : ℕ) → IsQuiet (turn_abort c)
+  marks : (n : ℕ) → IsQuiet (turn_mark n)
+  keeps : (v : Mark) → IsQuiet (turn_keep v)
+  trims : (n : ℕ) → IsQuiet (turn_trim n)
 
 abbrev pub AllQuiet : List RepAction → Type 0
 AllQuiet [] = Unit {0}
 AllQuiet (t ∷ ts) = IsQuiet t × AllQuiet ts
 
--- in one instance the value stays, takes one call, or is stopped
+-- in one instance the state stays, or the value takes one call or is stopped, and then stays
 pub data IsCalm : List RepAction → Type 0 where
   still : (ts : List RepAction) → AllQuiet ts → IsCalm ts
-  once : (call : Call) → IsCalm (turn_call call ∷ [])
+  once : (call : Call) (ts : List RepAction) → AllQuiet ts → IsCalm (turn_call call ∷ ts)
   stops : (ts : List RepAction) → AllQuiet ts → IsCalm (turn_halt ∷ ts)
 
 -- the same, in the instance where a replica is or in a later one that it enters first
@@ -71,6 +77,24 @@ quiet_if : (b : Bool) (ts : List RepAction) → AllQuiet ts → AllQuiet (if b t
 quiet_if true ts all = all
 quiet_if false ts all = tt
 
+quiet_unless : (b : Bool) (ts : List RepAction) → AllQuiet ts → AllQuiet (if b then [] else ts)
+quiet_unless true ts all = tt
+quiet_unless false ts all = all
+
+-- quiet turns that follow change nothing of it
+quiet_join : (ts us : List RepAction) → AllQuiet ts → AllQuiet us → AllQuiet (ts ++ us)
+quiet_join [] us all more = more
+quiet_join (t ∷ ts) us all more = (all.0, quiet_join ts us all.1 more)
+
+calm_join : (ts us : List RepAction) → IsCalm ts → AllQuiet us → IsCalm (ts ++ us)
+calm_join ts us (still _ all) more = still (ts ++ us) (quiet_join ts us all more)
+calm_join _ us (once call ts all) more = once call (ts ++ us) (quiet_join ts us all more)
+calm_join _ us (stops ts all) more = stops (ts ++ us) (quiet_join ts us all more)
+
+from_join : {P : Type 0} (s : Rep P) (ts us : List RepAction) → IsCalmFrom s ts → AllQuiet us → IsCalmFrom s (ts ++ us)
+from_join s ts us (stays _ calm) more = stays (ts ++ us) (calm_join ts us calm more)
+from_join s _ us (enters j cert h ts le calm) more = enters j cert h (ts ++ us) le (calm_join ts us calm more)
+
 module _ {P : Type 0} (k : RunSetup) (proto : Proto P) where
   halting_calm : (c : ℕ) (s : Rep P) → IsCalm (halting k proto c s)
   halting_calm c s =
@@ -79,55 +103,79 @@ module _ {P : Type 0} (k : RunSetup) (proto : Proto P) where
       let quiet = aborting_quiet c s.abort in
       calm_if (state_at k proto s).stopped due (turn_halt ∷ (if after then due else [])) (still due quiet) (stops (if after then due else []) (quiet_if after due quiet))
 
-  here_calm : (s : Rep P) (m : Msg) → IsCalm (here k proto s m)
-  here_calm s (msg.Req content tags) =
+  trims_quiet : (o : Option ℕ) → AllQuiet (trims_with k proto o)
+  trims_quiet None = tt
+  trims_quiet (Some n) = (trims n, tt)
+
+  trimming_quiet : (s : Rep P) → AllQuiet (trimming k proto s)
+  trimming_quiet s = trims_quiet (stable_of (replicas k) (proto.trimmed s.value) (state_at k proto s).log s.kept.marks)
+
+  kept_quiet : (r : ℕ) (s : Rep P) (o : Option Mark) → AllQuiet (keeping_with k proto r s o)
+  kept_quiet r s None = tt
+  kept_quiet r s (Some v) = (keeps v, trimming_quiet (after_turn k proto r s (turn_keep v)))
+
+  keeping_quiet : (r : ℕ) (s : Rep P) (content : Content) → AllQuiet (keeping k proto r s content)
+  keeping_quiet r s content = quiet_unless (state_at k proto s).stopped (keeping_with k proto r s (mark_in content)) (kept_quiet r s (mark_in content))
+
+  marking_quiet : (r : ℕ) (s : Rep P) (o : Option ℕ) → AllQuiet (marking k proto r s o)
+  marking_quiet r s None = tt
+  marking_quiet r s (Some n) = (marks n, trimming_quiet (after_turn k proto r s (turn_mark n)))
+
+  closing_quiet : (r : ℕ) (s : Rep P) → AllQuiet (closing k proto r s)
+  closing_quiet r s = marking_quiet r s (due_of (every_in k s.at) (state_at k proto s).stopped s.kept.sent (proto.trimmed s.value) (length (state_at k proto s).log))
+
+  here_calm : (r : ℕ) (s : Rep P) (m : Msg) → IsCalm (here k proto r s m)
+  here_calm r s (msg.Req content tags) =
       let c = client_of (maker_of content) in
-      calm_if (state_at k proto s).stopped (aborting k proto c s) (turn_call (took (msg.Req content tags)) ∷ []) (still (aborting k proto c s) (aborting_quiet c s.abort)) (once (took (msg.Req content tags)))
-  here_calm s (msg.Panic content tag) = halting_calm (client_of (maker_of content)) s
-  here_calm s (msg.Checkpoint content tag) = still [] tt
-  here_calm s (msg.LocalCommit content tag) = still [] tt
-  here_calm s (msg.Spec spec) = still [] tt
-  here_calm s _ = once (took _)
+      calm_if (state_at k proto s).stopped (aborting k proto c s) (turn_call (took (msg.Req content tags)) ∷ []) (still (aborting k proto c s) (aborting_quiet c s.abort)) (once (took (msg.Req content tags)) [] tt)
+  here_calm r s (msg.Panic content tag) = halting_calm (client_of (maker_of content)) s
+  here_calm r s (msg.Checkpoint content tag) = still (keeping k proto r s content) (keeping_quiet r s content)
+  here_calm r s (msg.LocalCommit content tag) = still [] tt
+  here_calm r s (msg.Spec spec) = still [] tt
+  here_calm r s _ = once (took _) [] tt
 
   late_calm : (m : Msg) → IsCalm (late m)
   late_calm (msg.Req content tags) = still (turn_bring (client_of (maker_of content)) ∷ []) (brings (client_of (maker_of content)), tt)
   late_calm (msg.Panic content tag) = still (turn_bring (client_of (maker_of content)) ∷ []) (brings (client_of (maker_of content)), tt)
   late_calm _ = still [] tt
 
-  taken_calm : (s : Rep P) (m : Msg) (i : Option ℕ) → IsCalm (taken_in k proto s m i)
-  taken_calm s m None = still [] tt
-  taken_calm s m (Some i) =
-      calm_if (i == s.at) (here k proto s m) (if nat_lt i s.at then late m else []) (here_calm s m) (calm_if (nat_lt i s.at) (late m) [] (late_calm m) (still [] tt))
+  taken_calm : (r : ℕ) (s : Rep P) (m : Msg) (i : Option ℕ) → IsCalm (taken_in k proto r s m i)
+  taken_calm r s m None = still [] tt
+  taken_calm r s m (Some i) =
+      calm_if (i == s.at) (here k proto r s m) (if nat_lt i s.at then late m else []) (here_calm r s m) (calm_if (nat_lt i s.at) (late m) [] (late_calm m) (still [] tt))
 
-  calm_there : (s : Rep P) (m : Msg) → IsCalmFrom s (taken k proto s m)
-  calm_there s m = stays (taken k proto s m) (taken_calm s m (instance_in m))
+  calm_there : (r : ℕ) (s : Rep P) (m : Msg) → IsCalmFrom s (taken k proto r s m)
+  calm_there r s m = stays (taken k proto r s m) (taken_calm r s m (instance_in m))
 
   entering_calm : (r : ℕ) (s : Rep P) (m : Msg) (j : ℕ) (cert : List Signed) (o : Option (List Request)) → IsCalmFrom s (due_with k proto r s m j cert o)
-  entering_calm r s m j cert None = calm_there s m
+  entering_calm r s m j cert None = calm_there r s m
   entering_calm r s m j cert (Some h) =
       let there = after_turn k proto r s (turn_enter j cert h) in
       let may = nat_le s.at j && nat_lt j last_instance in
       elim (cases_Bool may) [
         | inl goes ↦
-            subst (IsCalmFrom s) (sym (ap (λ (b : Bool). if b then turn_enter j cert h ∷ taken k proto there m else taken k proto s m) goes))
-            (enters j cert h (taken k proto there m) (leb-true s.at j (and_parts (nat_le s.at j) (nat_lt j last_instance) goes).0) (taken_calm there m (instance_in m)))
-        | inr rests ↦ subst (IsCalmFrom s) (sym (ap (λ (b : Bool). if b then turn_enter j cert h ∷ taken k proto there m else taken k proto s m) rests)) (calm_there s m)
+            subst (IsCalmFrom s) (sym (ap (λ (b : Bool). if b then turn_enter j cert h ∷ taken k proto r there m else taken k proto r s m) goes))
+            (enters j cert h (taken k proto r there m) (leb-true s.at j (and_parts (nat_le s.at j) (nat_lt j last_instance) goes).0) (taken_calm r there m (instance_in m)))
+        | inr rests ↦ subst (IsCalmFrom s) (sym (ap (λ (b : Bool). if b then turn_enter j cert h ∷ taken k proto r there m else taken k proto r s m) rests)) (calm_there r s m)
       ]
 
   by_calm : (r : ℕ) (s : Rep P) (m : Msg) (o : Option (List Signed)) → IsCalmFrom s (due_by k proto r s m o)
-  by_calm r s m None = calm_there s m
+  by_calm r s m None = calm_there r s m
   by_calm r s m (Some cert) = entering_calm r s m (cert_instance cert) cert (history_of k.cluster (cert_instance cert) cert)
 
   pub due_calm : (r : ℕ) (s : Rep P) (call : Call) → IsCalmFrom s (due k proto r s call)
   due_calm r s (took m) = by_calm r s m (brought m)
-  due_calm r s timed = stays (turn_call timed ∷ []) (once timed)
+  due_calm r s timed = stays (turn_call timed ∷ []) (once timed [] tt)
 
   from_if : (s : Rep P) (b : Bool) (ts : List RepAction) → IsCalmFrom s ts → IsCalmFrom s (if b then [] else ts)
   from_if s true ts calm = stays [] (still [] tt)
   from_if s false ts calm = calm
 
   pub turns_calm : (r : ℕ) (s : Rep P) (call : Call) → IsCalmFrom s (turns k proto r s call)
-  turns_calm r s call = from_if s (is_spent k proto r s call) (due k proto r s call) (due_calm r s call)
+  turns_calm r s call =
+      let ts = due k proto r s call in
+      let now = after_turns k proto r s ts in
+      from_if s (is_spent k proto r s call) (closed k proto r s ts) (from_join s ts (closing k proto r now) (due_calm r s call) (closing_quiet r now))
 
   -- a replica went from s to now, and had these on the way
   record Went (s now : Rep P) (had : List (List Request)) : Type 0 where
@@ -146,76 +194,81 @@ module _ {P : Type 0} (k : RunSetup) (proto : Proto P) where
     each : (h : List Request) → Contains had h → Contains (had_at (state_at k proto s)) h ⊎ Contains (had_at (state_at k proto now)) h
     last : (h : List Request) → Contains (had_at (state_at k proto now)) h → Contains had h ⊎ Contains (had_at (state_at k proto s)) h
 
-  -- the value stays
+  -- the state stays
   record Stays (r : ℕ) (ts : List RepAction) (s : Rep P) : Type 0 where
     at : (after_turns k proto r s ts).at ≡ s.at
     base : (after_turns k proto r s ts).entry.base ≡ s.entry.base
-    same : (after_turns k proto r s ts).value ≡ s.value
+    same : state_at k proto (after_turns k proto r s ts) ≡ state_at k proto s
     each : (h : List Request) → Contains (had_in_turns k proto r s ts) h → Contains (had_at (state_at k proto s)) h
 
   record Same (s now : Rep P) : Type 0 where
     at : now.at ≡ s.at
     base : now.entry.base ≡ s.entry.base
-    value : now.value ≡ s.value
-
-  quiet_one : (r : ℕ) (t : RepAction) (s : Rep P) → IsQuiet t → Same s (after_turn k proto r s t)
-  quiet_one r t s signs = record { at = refl; base = refl; value = refl }
-  quiet_one r t s (brings c) = record { at = refl; base = refl; value = refl }
-  quiet_one r t s (aborts c) = record { at = refl; base = refl; value = refl }
-
-  quiet_stays : (r : ℕ) (ts : List RepAction) (s : Rep P) → AllQuiet ts → Stays r ts s
-  quiet_stays r [] s all = record { at = refl; base = refl; same = refl; each = λ h gone. absurd (omega (arith, gone.1)) }
-  quiet_stays r (t ∷ ts) s all =
-      let now = after_turn k proto r s t in
-      let rest = quiet_stays r ts now all.1 in
-      let one = quiet_one r t s all.0 in
-      record {
-        at = rest.at ∙ one.at;
-        base = rest.base ∙ one.base;
-        same = rest.same ∙ one.value;
-        each = λ h has.
-            subst (λ (v : P). Contains (had_at (proto.state v)) h) one.value
-            (elim (Contains-append_cases (had_in_turns k proto r now ts) (had_at (state_at k proto now)) h has) [
-              | inl later ↦ rest.each h later
-              | inr first ↦ first
-            ]);
-      }
+    state : state_at k proto now ≡ state_at k proto s
 
   module _ {serves : Kind → Bool} (form : KeepsForm proto serves) where
+    quiet_one : (r : ℕ) (t : RepAction) (s : Rep P) → IsQuiet t → Same s (after_turn k proto r s t)
+    quiet_one r t s signs = record { at = refl; base = refl; state = refl }
+    quiet_one r t s (brings c) = record { at = refl; base = refl; state = refl }
+    quiet_one r t s (aborts c) = record { at = refl; base = refl; state = refl }
+    quiet_one r t s (marks n) = record { at = refl; base = refl; state = refl }
+    quiet_one r t s (keeps v) = record { at = refl; base = refl; state = refl }
+    quiet_one r t s (trims n) = record { at = refl; base = refl; state = form.trim_rests n s.value }
+
+    quiet_stays : (r : ℕ) (ts : List RepAction) (s : Rep P) → AllQuiet ts → Stays r ts s
+    quiet_stays r [] s all = record { at = refl; base = refl; same = refl; each = λ h gone. absurd (omega (arith, gone.1)) }
+    quiet_stays r (t ∷ ts) s all =
+        let now = after_turn k proto r s t in
+        let rest = quiet_stays r ts now all.1 in
+        let one = quiet_one r t s all.0 in
+        record {
+          at = rest.at ∙ one.at;
+          base = rest.base ∙ one.base;
+          same = rest.same ∙ one.state;
+          each = λ h has.
+              subst (λ (v : State). Contains (had_at v) h) one.state
+              (elim (Contains-append_cases (had_in_turns k proto r now ts) (had_at (state_at k proto now)) h has) [
+                | inl later ↦ rest.each h later
+                | inr first ↦ first
+              ]);
+        }
+
+    -- a turn in the same instance, and then quiet ones
+    then_quiet : (r : ℕ) (t : RepAction) (us : List RepAction) (s : Rep P) → AllQuiet us → (after_turn k proto r s t).at ≡ s.at → (after_turn k proto r s t).entry.base ≡ s.entry.base
+        → (state_at k proto (after_turn k proto r s t)).entered ≡ (state_at k proto s).entered → IsPrefix (state_at k proto s).log (state_at k proto (after_turn k proto r s t)).log
+        → Moved s (after_turns k proto r s (t ∷ us)) (had_in_turns k proto r s (t ∷ us))
+    then_quiet r t us s all at base entered grows =
+        let now = after_turn k proto r s t in
+        let is = quiet_stays r us now all in
+        record {
+          at = is.at ∙ at;
+          base = is.base ∙ base;
+          entered = ap (λ (v : State). v.entered) is.same ∙ entered;
+          grows = subst (λ (v : State). IsPrefix (state_at k proto s).log v.log) (sym is.same) grows;
+          each = λ h has. inr (subst (λ (v : State). Contains (had_at v) h) (sym is.same) (elim (Contains-append_cases (had_in_turns k proto r now us) (had_at (state_at k proto now)) h has) [
+            | inl later ↦ is.each h later
+            | inr first ↦ first
+          ]));
+          last = λ h has. inl (Contains-append_right (had_in_turns k proto r now us) (had_at (state_at k proto now)) h (subst (λ (v : State). Contains (had_at v) h) is.same has));
+        }
+
     calm_moved : (r : ℕ) (ts : List RepAction) (s : Rep P) → IsCalm ts → Moved s (after_turns k proto r s ts) (had_in_turns k proto r s ts)
     calm_moved r ts s (still _ all) =
         let is = quiet_stays r ts s all in
         record {
           at = is.at;
           base = is.base;
-          entered = ap (λ (v : P). (proto.state v).entered) is.same;
-          grows = subst (λ (v : P). IsPrefix (state_at k proto s).log (proto.state v).log) (sym is.same) ([], append-nil (state_at k proto s).log);
+          entered = ap (λ (v : State). v.entered) is.same;
+          grows = subst (λ (v : State). IsPrefix (state_at k proto s).log v.log) (sym is.same) ([], append-nil (state_at k proto s).log);
           each = λ h has. inl (is.each h has);
-          last = λ h has. inr (subst (λ (v : P). Contains (had_at (proto.state v)) h) is.same has);
+          last = λ h has. inr (subst (λ (v : State). Contains (had_at v) h) is.same has);
         }
-    calm_moved r ts s (once call) = record {
-      at = refl;
-      base = refl;
-      entered = form.entered_stays (record { used = s.used; sig = k.sig r }) s.value call;
-      grows = form.grows (record { used = s.used; sig = k.sig r }) s.value call;
-      each = λ h has. inr has;
-      last = λ h has. inl has;
-    }
+    calm_moved r ts s (once call us all) =
+        let pen = pen_of k proto r s in
+        then_quiet r (turn_call call) us s all refl refl (form.entered_stays pen s.value call) (form.grows pen s.value call)
     calm_moved r ts s (stops us all) =
-        let halted = after_turn k proto r s turn_halt in
-        let is = quiet_stays r us halted all in
-        let log_is = (form.halts s.value).0 in
-        record {
-          at = is.at;
-          base = is.base;
-          entered = ap (λ (v : P). (proto.state v).entered) is.same ∙ form.entered_rests s.value;
-          grows = subst (λ (v : P). IsPrefix (state_at k proto s).log (proto.state v).log) (sym is.same) (subst (IsPrefix (state_at k proto s).log) (sym log_is) ([], append-nil (state_at k proto s).log));
-          each = λ h has. inr (subst (λ (v : P). Contains (had_at (proto.state v)) h) (sym is.same) (elim (Contains-append_cases (had_in_turns k proto r halted us) (had_at (state_at k proto halted)) h has) [
-            | inl later ↦ is.each h later
-            | inr first ↦ first
-          ]));
-          last = λ h has. inl (Contains-append_right (had_in_turns k proto r halted us) (had_at (state_at k proto halted)) h (subst (λ (v : P). Contains (had_at (proto.state v)) h) is.same has));
-        }
+        then_quiet r turn_halt us s all refl refl (form.entered_rests s.value)
+        (subst (IsPrefix (state_at k proto s).log) (sym (form.halts s.value).0) ([], append-nil (state_at k proto s).log))
 
     -- what a replica has as it enters, it has by what it entered with
     entry_had : (log h' g : List Request) (first : Option (List Request)) → (log ≡ h') ⊎ (log ≡ []) → first ≡ None → Contains (log ∷ h' ∷ with_first first) g → (h' ≡ g) ⊎ (g ≡ [])

@@ -1,5 +1,5 @@
 -- What correct parties make in a run has bytes.
-use Rattle.std.proofs.Common.{◌≡◌, ℕ, suc, ◌+◌, ◌<◌, ◌≤◌, true, false, Bool, Some, None, Option, List, [], ◌∷◌, ◌++◌, length, refl, sym, ap, subst, inl, inr, arith, append-nil}
+use Rattle.std.proofs.Common.{◌≡◌, ℕ, suc, ◌+◌, ◌<◌, ◌≤◌, true, false, Bool, Some, None, Option, List, [], ◌∷◌, ◌++◌, length, take, refl, sym, ap, subst, inl, inr, arith, append-nil}
 use Rattle.std.proofs.lemmas.Grind.{flat_map-append}
 use Rattle.std.specs.Prelude.{All, Contains, nat_le, nat_lt, ◌==◌, ◌&&◌, ◌^◌, if◌then◌else◌, flat_map, map}
 use Rattle.arrayvec.specs.ArrayVec.{ArrayVec}
@@ -13,6 +13,7 @@ use Rattle.ab_num.specs.declared.plan.Kind.TheVariants as kind
 use Rattle.ab_num.specs.Parties.{party_eq}
 use Rattle.ab_num.proofs.Lists.{flat_map_cases, Contains-filter_cases, Contains-cons_cases}
 use Rattle.ab_hist.specs.declared.request.Request.{Request}
+use Rattle.ab_hist.proofs.DigestLemmas.{length-digest_of}
 use Rattle.ab_svc.specs.Machines.{Reply}
 use Rattle.ab_msg.specs.declared.content.Content.{Content}
 use Rattle.ab_msg.specs.declared.content.Content.TheVariants as content
@@ -20,7 +21,6 @@ use Rattle.ab_msg.specs.declared.signed.Signed.{Signed}
 use Rattle.ab_msg.specs.declared.zcert.Zcert.{Zcert}
 use Rattle.ab_msg.specs.declared.message.Msg.{Msg}
 use Rattle.ab_msg.specs.declared.message.Msg.TheVariants as msg
-use Rattle.ab_msg.specs.declared.message.Offer.TheVariants as offer
 use Rattle.ab_msg.specs.Claims.{fresh, maker_of, stated, claims, tail_claims}
 use Rattle.ab_msg.specs.Fields.{IsInstance, IsRequest}
 use Rattle.ab_msg.specs.Contents.{IsContent, spell_content}
@@ -35,16 +35,16 @@ use Rattle.ab_abs.specs.Certificates.{history_of}
 use Rattle.ab_abs.specs.Ensembles.{Proto}
 use Rattle.ab_abs.specs.FormLaws.{KeepsForm}
 use Rattle.ab_run.specs.Forms.{IsWrittenRep, IsWrittenSetup}
-use Rattle.ab_run.proofs.Written.{IsGood, AllGood, good_if, due_good, first_written, abort_written, turn_keeps, turn_drafts}
+use Rattle.ab_run.proofs.Written.{IsGood, AllGood, turns_good, first_written, placed, abort_written, turn_keeps, turn_drafts}
 use Rattle.ab_abs.proofs.Drafts.{few_replicas}
 use Rattle.ab_run.specs.Setups.{RunSetup, replicas, within, last_instance}
-use Rattle.ab_run.specs.Replicas.{Rep, RepAction, turn_enter, turn_call, turn_halt, turn_sign, turn_bring, turn_abort, after_turn, made_in_turn, state_at, pen_of, cert_instance, abort_content as stopped, here, due, is_spent, turns}
+use Rattle.ab_run.specs.Replicas.{Rep, RepAction, turn_enter, turn_call, turn_halt, turn_sign, turn_bring, turn_abort, turn_mark, turn_keep, turn_trim, after_turn, after_turns, made_in_turn, state_at, pen_of, cert_instance, abort_content as stopped, checkpoint_at, turns}
 use Rattle.ab_run.specs.Clients.{Cli, CliAction, move_ask, move_vote, move_commit, move_keep, move_take, move_panic, move_again, move_spec, move_cert, move_told, asking, after_move, made_in_move, hears, hears_response, hears_spec, hears_tail, counting_by, telling, telling_by, keeping, taking, taking_with, own_cert, kind_at, certifying, cert_due, panics, panics_in, if_open, moves, vote_claim, spec_claim, counts_chains, is_abort_of}
 use Rattle.ab_run.specs.Asking.{teller, is_told_full, told_claims}
 use Rattle.ab_run.specs.declared.phase.Phase.{Phase}
 use Rattle.ab_run.specs.declared.phase.Phase.TheVariants.{Idle, Waiting, Panicking}
 use Rattle.ab_run.specs.Runs.{Event, invoke, to_replica, to_client, replica_time, client_time, Run, run, step, start}
-use Rattle.ab_run.specs.Local.{after_turns, made_in_turns, rep_after, rep_makes, Cue, cue_command, cue_message, cue_time, after_moves, made_in_moves, moves_at, cli_makes}
+use Rattle.ab_run.specs.Local.{made_in_turns, rep_after, rep_makes, Cue, cue_command, cue_message, cue_time, after_moves, made_in_moves, moves_at, cli_makes}
 use Rattle.ab_run.specs.Premises.{checked}
 use Rattle.ab_run.specs.Inputs.{Input, told, came, rang, elsewhere, Opener, opened, event_in, events_in, all_checked, SpellsApart}
 use Rattle.ab_run.proofs.Effects.{at_call, at_cue, called, cued}
@@ -68,7 +68,13 @@ module _ {P : Type 0} (k : RunSetup) (proto : Proto P) {serves : Kind → Bool} 
   both : (xs ys : List Content) → ((c : Content) → Contains xs c → IsContent c) → ((c : Content) → Contains ys c → IsContent c) → (c : Content) → Contains (xs ++ ys) c → IsContent c
   both xs ys one other c has = elim (Contains-append_cases xs ys c has) [ inl here ↦ one c here | inr there ↦ other c there ]
 
-  turn_makes : (r : ℕ) (t : RepAction) (s : Rep P) → r < replicas k → IsGood t → IsWrittenRep proto serves k.cluster r s → (c : Content) → Contains (made_in_turn k proto r s t) c → IsContent c
+  -- the log has so many entries, and there is a number for them
+  checkpoint_written : (r n : ℕ) (s : Rep P) → r < replicas k → 0 < n → n ≤ length (state_at k proto s).log → IsWrittenRep proto serves k.cluster r s → IsContent (checkpoint_at k proto r s n)
+  checkpoint_written r n s lt some within was =
+      let few = (form.written k.cluster s.at r s.value was.arises).few in
+      ((omega arith, few_replicas k.cluster r lt), (placed proto serves k.cluster s.at r s.value was.arises, ((omega (arith, some), omega (arith, within, few)), length-digest_of (take n (state_at k proto s).log))))
+
+  turn_makes : (r : ℕ) (t : RepAction) (s : Rep P) → r < replicas k → IsGood k proto r s t → IsWrittenRep proto serves k.cluster r s → (c : Content) → Contains (made_in_turn k proto r s t) c → IsContent c
   turn_makes r (turn_enter j cert h) s lt good was = nothing
   turn_makes r (turn_call call) s lt good was = λ c has.
       let sends = proto.sends (pen_of k proto r s) s.value call in
@@ -81,8 +87,11 @@ module _ {P : Type 0} (k : RunSetup) (proto : Proto P) {serves : Kind → Bool} 
   turn_makes r turn_sign s lt good was = λ c has. one_of (stopped k proto r s) c (of_grammar (stopped k proto r s) (abort_written k proto form are r s lt was)) has
   turn_makes r (turn_bring c) s lt good was = nothing
   turn_makes r (turn_abort c) s lt good was = nothing
+  turn_makes r (turn_mark n) s lt good was = λ c has. one_of (checkpoint_at k proto r s n) c (checkpoint_written r n s lt good.0 good.1 was) has
+  turn_makes r (turn_keep v) s lt good was = nothing
+  turn_makes r (turn_trim n) s lt good was = nothing
 
-  turns_make : (r : ℕ) (ts : List RepAction) (s : Rep P) → r < replicas k → AllGood ts → IsWrittenRep proto serves k.cluster r s → Makes r (made_in_turns k proto r s ts) (after_turns k proto r s ts)
+  turns_make : (r : ℕ) (ts : List RepAction) (s : Rep P) → r < replicas k → AllGood k proto r s ts → IsWrittenRep proto serves k.cluster r s → Makes r (made_in_turns k proto r s ts) (after_turns k proto r s ts)
   turns_make r [] s lt good was = record { each = nothing; stands = was }
   turns_make r (t ∷ ts) s lt good was =
       let now = after_turn k proto r s t in
@@ -91,7 +100,7 @@ module _ {P : Type 0} (k : RunSetup) (proto : Proto P) {serves : Kind → Bool} 
 
   call_makes : (r : ℕ) (s : Rep P) (call : Call) → r < replicas k → IsFormed call → IsWrittenRep proto serves k.cluster r s → Makes r (rep_makes k proto r s call) (rep_after k proto r s call)
   call_makes r s call lt formed was =
-      turns_make r (turns k proto r s call) s lt (good_if (is_spent k proto r s call) [] (due k proto r s call) tt (due_good k proto r s call formed)) was
+      turns_make r (turns k proto r s call) s lt (turns_good k proto r s call formed) was
 
 -- ---- the moves of clients
 

@@ -22,7 +22,7 @@ use Rattle.ab_abs.specs.declared.seen.Seen.{Seen}
 use Rattle.ab_abs.specs.declared.seen.Seen.TheVariants.{Init}
 use Rattle.ab_abs.specs.declared.entry.Entry.{Entry}
 use Rattle.ab_abs.specs.Faults.{is_faulty}
-use Rattle.ab_abs.specs.Acts.{Act, MayStart, WasMade, setting, unmarked, with_init, observations, own_acts, abort_by}
+use Rattle.ab_abs.specs.Acts.{Act, MayStart, WasMade, setting, unmarked, with_init, observations, own_acts}
 use Rattle.ab_abs.specs.Kinds.{rule_in}
 use Rattle.ab_abs.specs.Certificates.{history_of}
 use Rattle.ab_abs.specs.Ensembles.{Proto, MayTake, entry_of, begin_of, asked_of, halt_of}
@@ -31,13 +31,16 @@ use Rattle.ab_abs.specs.Messages.{Call, took, timed, offered, IsFor, IsFormed}
 use Rattle.ab_abs.specs.Promises.{ServesAll}
 use Rattle.ab_abs.proofs.Certified.{certificate_rises}
 use Rattle.ab_abs.proofs.Reach.{put_same, put_other}
+use Rattle.ab_ckpt.specs.Marks.{Mark, due_of, stable_of}
+use Rattle.ab_ckpt.proofs.StableLemmas.{due_is, stable_are}
 use Rattle.ab_run.specs.Setups.{RunSetup, within, replicas, last_instance}
+use Rattle.ab_run.specs.Checkpoints.{every_in, mark_in}
 use Rattle.ab_run.specs.Clients.{Cli, CliAction, move_ask, move_vote, move_commit, move_keep, move_take, move_panic, move_again, move_spec, move_cert, move_told, made_in_move, moves, panics, asking}
-use Rattle.ab_run.specs.Replicas.{Rep, RepAction, turn_enter, turn_call, turn_halt, turn_sign, turn_bring, turn_abort, client_of, cert_instance, brought, aborting_with, aborting, halting, here, late, taken_in, taken, due_with, due_by, due, is_spent, turns, state_at, abort_content, pen_of, after_turn, made_in_turn}
+use Rattle.ab_run.specs.Replicas.{Rep, RepAction, turn_enter, turn_call, turn_halt, turn_sign, turn_bring, turn_abort, turn_mark, turn_keep, turn_trim, client_of, cert_instance, brought, aborting_with, aborting, halting, trims_with, trimming, keeping_with, keeping, here, late, taken_in, taken, due_with, due_by, due, is_spent, marking, closing, closed, turns, state_at, abort_content, checkpoint_at, pen_of, after_turn, after_turns, made_in_turn}
 use Rattle.ab_run.specs.Runs.{Event, invoke, to_replica, to_client, replica_time, client_time, Run, take_turn, take_turns, take_move, take_moves, at_replica, at_client, step, start, run, checks}
 use Rattle.ab_run.specs.Premises.{AreFormed, IsFormedEvent, IsFormedFor}
 use Rattle.ab_run.proofs.Did.{if_each}
-use Rattle.ab_promises.specs.ReplicaActs.{AreActsIn, begins, takes, stops, aborts, ActsByItself, ActsKeep, AbortsOnce, AbortsOnceIn, PreparesOnce, PreparesOnceIn}
+use Rattle.ab_promises.specs.ReplicaActs.{AreActsIn, begins, takes, stops, aborts, marks, trims, aborts_by, marks_by, ActsByItself, ActsKeep, AbortsOnce, AbortsOnceIn, PreparesOnce, PreparesOnceIn}
 use Rattle.ab_promises.proofs.StatedOnce.{statement_by, made_before, acts_belong, stop_is}
 
 none_before : IsHistory []
@@ -119,6 +122,15 @@ module _ {P : Type 0} (k : RunSetup) (proto : Proto P) (serves : Kind → Bool) 
     ];
   }
 
+  -- it states something in the same instance, and goes on where it is
+  says : (i : ℕ) (p : P) (a : Act) (c : Content) (made : List Content) (was : IsHere i p made) → AreActsIn proto k.cluster i r (a ∷ was.acts) p → Contains a.made c → instance_of c ≡ i → IsHere i p ((c ∷ []) ++ made)
+  says i p a c made was now states is =
+      goes_on i p p a (c ∷ []) made was now (λ s has. let same : c ≡ s = Contains-one c s has in (subst (λ (z : Content). instance_of z ≡ i) same is, subst (λ (z : Content). Contains a.made z) same states))
+
+  -- it trims its log
+  trims_on : (i n : ℕ) (p : P) (made : List Content) → (proto.state p).stopped ≡ false → proto.trimmed p ≤ n → n ≤ length (proto.state p).log → IsHere i p made → IsHere i (proto.trim n p) made
+  trims_on i n p made runs more within was = record { one = was.one; acts = was.acts; are = trims n was.are runs more within; said = was.said; past = was.past; within = was.within }
+
   -- it begins in a later instance
   enters : (i j : ℕ) (p : P) (made : List Content) (e : Entry) → e.trimmed ≤ length e.base → i ≤ j → IsHistory e.base → IsHere i p made → IsHere (j + 1) (proto.begin k.cluster (j + 1) r e) made
   enters i j p made e fits le rises was =
@@ -179,6 +191,9 @@ module _ {P : Type 0} (k : RunSetup) (proto : Proto P) (serves : Kind → Bool) 
   MayTurn s turn_sign = (state_at k proto s).stopped ≡ true
   MayTurn s (turn_bring c) = Unit {0}
   MayTurn s (turn_abort c) = Unit {0}
+  MayTurn s (turn_mark n) = ((state_at k proto s).stopped ≡ false) × (proto.trimmed s.value < n) × (n ≤ length (state_at k proto s).log)
+  MayTurn s (turn_keep v) = Unit {0}
+  MayTurn s (turn_trim n) = ((state_at k proto s).stopped ≡ false) × (proto.trimmed s.value ≤ n) × (n ≤ length (state_at k proto s).log)
 
   abbrev MayTurns : Rep P → List RepAction → Type 0
   MayTurns s [] = Unit {0}
@@ -201,11 +216,15 @@ module _ {P : Type 0} (k : RunSetup) (proto : Proto P) (serves : Kind → Bool) 
       goes_on s.at s.value (proto.halt s.value) (halt_of proto r s.value) [] made was (stops was.are) (λ q has. absurd (Contains-none q has))
   turn_stays s turn_sign made may was =
       let x = setting k.cluster [] s.at in
-      let abort = abort_content k proto r s in
-      goes_on s.at s.value s.value (abort_by (rule_in x) x r (state_at k proto s)) (abort ∷ []) made was (aborts was.are may)
-      (λ q has. (ap instance_of (sym (Contains-one abort q has)) ∙ (stop_is (rule_in x) s.at r (state_at k proto s)).2, has))
+      says s.at s.value (aborts_by proto x r s.value) (abort_content k proto r s) made was (aborts was.are may) (Contains-head (abort_content k proto r s) [])
+      (stop_is (proto.trimmed s.value) (rule_in x) s.at r (state_at k proto s)).2
   turn_stays s (turn_bring c) made may was = was
   turn_stays s (turn_abort c) made may was = was
+  turn_stays s (turn_mark n) made may was =
+      let x = setting k.cluster [] s.at in
+      says s.at s.value (marks_by proto x r n s.value) (checkpoint_at k proto r s n) made was (marks n was.are may.0 may.1 may.2) (Contains-head (checkpoint_at k proto r s n) []) refl
+  turn_stays s (turn_keep v) made may was = was
+  turn_stays s (turn_trim n) made may was = trims_on s.at n s.value made may.0 may.1 may.2 was
 
   abbrev StaysIn : Run P → Type 0
   StaysIn w = Stays (w.reps r) w.made
@@ -234,15 +253,47 @@ module _ {P : Type 0} (k : RunSetup) (proto : Proto P) (serves : Kind → Bool) 
             (λ stopped. aborting_may c (after_turn k proto r s turn_halt) s.abort stopped) (λ _. tt),
       ))
 
+  may_join : (ts us : List RepAction) (s : Rep P) → MayTurns s ts → MayTurns (after_turns k proto r s ts) us → MayTurns s (ts ++ us)
+  may_join [] us s one other = other
+  may_join (t ∷ ts) us s one other = (one.0, may_join ts us (after_turn k proto r s t) one.1 other)
+
+  -- what is stable is of the log
+  trims_may : (s : Rep P) (o : Option ℕ) → (state_at k proto s).stopped ≡ false → stable_of (replicas k) (proto.trimmed s.value) (state_at k proto s).log s.kept.marks ≡ o → MayTurns s (trims_with k proto o)
+  trims_may s None runs is = tt
+  trims_may s (Some n) runs is =
+      let stable = stable_are (replicas k) (proto.trimmed s.value) n (state_at k proto s).log s.kept.marks is in
+      ((runs, omega (arith, stable.more), stable.within), tt)
+
+  trimming_may : (s : Rep P) → (state_at k proto s).stopped ≡ false → MayTurns s (trimming k proto s)
+  trimming_may s runs = trims_may s (stable_of (replicas k) (proto.trimmed s.value) (state_at k proto s).log s.kept.marks) runs refl
+
+  kept_may : (s : Rep P) (o : Option Mark) → (state_at k proto s).stopped ≡ false → MayTurns s (keeping_with k proto r s o)
+  kept_may s None runs = tt
+  kept_may s (Some v) runs = (tt, trimming_may (after_turn k proto r s (turn_keep v)) runs)
+
+  keeping_may : (s : Rep P) (content : Content) → MayTurns s (keeping k proto r s content)
+  keeping_may s content =
+      if_each (MayTurns s) (state_at k proto s).stopped [] (keeping_with k proto r s (mark_in content)) (λ _. tt) (λ runs. kept_may s (mark_in content) runs)
+
+  -- a CHECKPOINT that is due is of the log
+  marking_may : (s : Rep P) (o : Option ℕ) → due_of (every_in k s.at) (state_at k proto s).stopped s.kept.sent (proto.trimmed s.value) (length (state_at k proto s).log) ≡ o → MayTurns s (marking k proto r s o)
+  marking_may s None is = tt
+  marking_may s (Some n) is =
+      let due_so = due_is (every_in k s.at) s.kept.sent (proto.trimmed s.value) (length (state_at k proto s).log) n (state_at k proto s).stopped is in
+      ((due_so.0, due_so.1, due_so.3), trimming_may (after_turn k proto r s (turn_mark n)) due_so.0)
+
+  closing_may : (s : Rep P) → MayTurns s (closing k proto r s)
+  closing_may s = marking_may s (due_of (every_in k s.at) (state_at k proto s).stopped s.kept.sent (proto.trimmed s.value) (length (state_at k proto s).log)) refl
+
   call_may : (s : Rep P) (m : Msg) (i : ℕ) → IsFormed (took m) → instance_in m ≡ Some i → i ≡ s.at → MayTurns s (turn_call (took m) ∷ [])
   call_may s m i formed is at_is = ((formed, is ∙ ap Some at_is), tt)
 
-  here_may : (s : Rep P) (m : Msg) (i : ℕ) → IsFormed (took m) → instance_in m ≡ Some i → i ≡ s.at → MayTurns s (here k proto s m)
+  here_may : (s : Rep P) (m : Msg) (i : ℕ) → IsFormed (took m) → instance_in m ≡ Some i → i ≡ s.at → MayTurns s (here k proto r s m)
   here_may s (msg.Req content tags) i formed is at_is =
       if_each (MayTurns s) (state_at k proto s).stopped (aborting k proto (client_of (maker_of content)) s) (turn_call (took (msg.Req content tags)) ∷ [])
       (λ stopped. aborting_may (client_of (maker_of content)) s s.abort stopped) (λ _. call_may s (msg.Req content tags) i formed is at_is)
   here_may s (msg.Panic content tag) i formed is at_is = halting_may (client_of (maker_of content)) s
-  here_may s (msg.Checkpoint content tag) i formed is at_is = tt
+  here_may s (msg.Checkpoint content tag) i formed is at_is = keeping_may s content
   here_may s (msg.LocalCommit content tag) i formed is at_is = tt
   here_may s (msg.Spec spec) i formed is at_is = tt
   here_may s m i formed is at_is = call_may s m i formed is at_is
@@ -252,10 +303,10 @@ module _ {P : Type 0} (k : RunSetup) (proto : Proto P) (serves : Kind → Bool) 
   late_may s (msg.Panic content tag) = (tt, tt)
   late_may s _ = tt
 
-  taken_may : (s : Rep P) (m : Msg) (o : Option ℕ) → IsFormed (took m) → instance_in m ≡ o → MayTurns s (taken_in k proto s m o)
+  taken_may : (s : Rep P) (m : Msg) (o : Option ℕ) → IsFormed (took m) → instance_in m ≡ o → MayTurns s (taken_in k proto r s m o)
   taken_may s m None formed is = tt
   taken_may s m (Some i) formed is =
-      if_each (MayTurns s) (i == s.at) (here k proto s m) (if nat_lt i s.at then late m else [])
+      if_each (MayTurns s) (i == s.at) (here k proto r s m) (if nat_lt i s.at then late m else [])
       (λ same. here_may s m i formed is (eqb-true i s.at same))
       (λ _. if_each (MayTurns s) (nat_lt i s.at) (late m) [] (λ _. late_may s m) (λ _. tt))
 
@@ -269,7 +320,7 @@ module _ {P : Type 0} (k : RunSetup) (proto : Proto P) (serves : Kind → Bool) 
       certificate_rises k.cluster k.faulty j cert h (λ g has.
       let found = flat_map_cases stated_history (signed_contents cert) g has in
       formed.rises g (Contains-flat_map stated_history (claims k.cluster.f (Replica r) m) found.0 g (brought_checked k.cluster.f r m cert brings found.0 found.1) found.2)) is in
-      if_each (MayTurns s) (nat_le s.at j && nat_lt j last_instance) (turn_enter j cert h ∷ taken k proto now m) (taken k proto s m)
+      if_each (MayTurns s) (nat_le s.at j && nat_lt j last_instance) (turn_enter j cert h ∷ taken k proto r now m) (taken k proto r s m)
       (λ goes. ((leb-true s.at j (and_parts (nat_le s.at j) (nat_lt j last_instance) goes).0, rises), taken_may now m (instance_in m) formed.of_grammar refl))
       (λ _. taken_may s m (instance_in m) formed.of_grammar refl)
 
@@ -278,7 +329,10 @@ module _ {P : Type 0} (k : RunSetup) (proto : Proto P) (serves : Kind → Bool) 
   due_may_by s m (Some cert) formed is = due_may_with s m cert (history_of k.cluster (cert_instance cert) cert) formed is refl
 
   spared : (s : Rep P) (call : Call) → MayTurns s (due k proto r s call) → MayTurns s (turns k proto r s call)
-  spared s call may = if_each (MayTurns s) (is_spent k proto r s call) [] (due k proto r s call) (λ _. tt) (λ _. may)
+  spared s call may =
+      let ts = due k proto r s call in
+      let now = after_turns k proto r s ts in
+      if_each (MayTurns s) (is_spent k proto r s call) [] (closed k proto r s ts) (λ _. tt) (λ _. may_join ts (closing k proto r now) s may (closing_may now))
 
   took_may : (s : Rep P) (m : Msg) → IsFormedFor k (Replica r) m → MayTurns s (turns k proto r s (took m))
   took_may s m formed = spared s (took m) (due_may_by s m (brought m) formed refl)
@@ -293,9 +347,12 @@ module _ {P : Type 0} (k : RunSetup) (proto : Proto P) (serves : Kind → Bool) 
   made_by_other q s (turn_enter j cert h) c has = absurd (Contains-none c has)
   made_by_other q s (turn_call call) c has = (statement_by k.cluster.f q (proto.sends (pen_of k proto q s) s.value call) c has).3
   made_by_other q s turn_halt c has = absurd (Contains-none c has)
-  made_by_other q s turn_sign c has = ap maker_of (sym (Contains-one (abort_content k proto q s) c has)) ∙ (stop_is (rule_in (within k s.at)) s.at q (state_at k proto s)).1
+  made_by_other q s turn_sign c has = ap maker_of (sym (Contains-one (abort_content k proto q s) c has)) ∙ (stop_is (proto.trimmed s.value) (rule_in (within k s.at)) s.at q (state_at k proto s)).1
   made_by_other q s (turn_bring d) c has = absurd (Contains-none c has)
   made_by_other q s (turn_abort d) c has = absurd (Contains-none c has)
+  made_by_other q s (turn_mark n) c has = ap maker_of (sym (Contains-one (checkpoint_at k proto q s n) c has))
+  made_by_other q s (turn_keep v) c has = absurd (Contains-none c has)
+  made_by_other q s (turn_trim n) c has = absurd (Contains-none c has)
 
   turns_else : (q : ℕ) → r ≢ q → (ts : List RepAction) (w : Run P) → StaysIn w → StaysIn (take_turns k proto q w ts)
   turns_else q ne [] w was = was

@@ -1,5 +1,5 @@
 -- A protocol for each kind of instance: each thing is stated once.
-use Rattle.std.proofs.Common.{◌≡◌, ℕ, ◌<◌, ◌≤◌, Bool, false, List, [], length, refl}
+use Rattle.std.proofs.Common.{◌≡◌, ℕ, zero, suc, ◌<◌, ◌≤◌, Bool, false, List, [], length, refl}
 use Rattle.std.specs.Prelude.{IsTrue}
 use Rattle.ab_num.specs.declared.party.Party.TheVariants.{Replica}
 use Rattle.ab_num.specs.declared.plan.Kind.{Kind}
@@ -36,6 +36,7 @@ use Rattle.ab_zcert.specs.Drafts as keepers
 use Rattle.ab_zlight.specs.Rules.{Light, zlight, is_zlight}
 use Rattle.ab_zlight.specs.Laws as lights
 use Rattle.ab_run.specs.Setups.{RunSetup, replicas}
+use Rattle.ab_run.specs.Checkpoints.{abort_after}
 use Rattle.ab_run.specs.Runs.{Event, run}
 use Rattle.ab_run.specs.Premises.{AreFormed}
 use Rattle.ab_promises.specs.AllKinds.{any_kind, is_any_kind}
@@ -47,16 +48,20 @@ use Rattle.ab_promises.proofs.PreparedOnce.{prepares_once}
 use Rattle.ab_promises.proofs.StatedOnce.{KeepsLogs, aborts_once, form_logs, never_made}
 
 -- an ABORT is no PREPARE
-stops_prepare_none : (rule : ReplyRule) (r i : ℕ) (s : State) → is_prepare (abort_content rule i r s) ≡ false
-stops_prepare_none rules.All r i s = refl
-stops_prepare_none (rules.Equal q) r i s = refl
-stops_prepare_none rules.Tail r i s = refl
-stops_prepare_none rules.Certified r i s = refl
+whole_prepare_none : (rule : ReplyRule) (r i : ℕ) (s : State) → is_prepare (abort_content rule i r s) ≡ false
+whole_prepare_none rules.All r i s = refl
+whole_prepare_none (rules.Equal q) r i s = refl
+whole_prepare_none rules.Tail r i s = refl
+whole_prepare_none rules.Certified r i s = refl
+
+stops_prepare_none : (n : ℕ) (rule : ReplyRule) (r i : ℕ) (s : State) → is_prepare (abort_after n rule i r s) ≡ false
+stops_prepare_none zero rule r i s = whole_prepare_none rule r i s
+stops_prepare_none (suc n) rule r i s = refl
 
 -- where no call states a PREPARE none is made
 without_prepares : {P : Type 0} (proto : Proto P) (serves : Kind → Bool) → StatesNone proto serves is_prepare → ActsKeep proto serves PreparesOnce
 without_prepares proto serves none c i r acts p served one are v n d e was_d was_e =
-    absurd (let never = never_made proto serves is_prepare none (λ rule q j s. stops_prepare_none rule q j s) (setting c [] i) r acts p served are (Prepare (Replica r) i v n d) was_d in cc (never))
+    absurd (let never = never_made proto serves is_prepare none (λ m rule q j s. stops_prepare_none m rule q j s) (λ j q m log. refl) (setting c [] i) r acts p served are (Prepare (Replica r) i v n d) was_d in cc (never))
 
 kind_served : (k : Kind) → IsTrue (is_any_kind k)
 kind_served kind.Quorum = refl
@@ -72,6 +77,8 @@ module _ {S Q : Type 0} (machine : Machine S) (short : (h : List Request) (m : R
     halts = laws.halts_as machine orders pbft obeys pbft_orderly IsPbftSound PbftStands pbft_lawful;
     zcert_stays = λ c i r pen v call was stopped. refl;
     zcert_rests = λ v. refl;
+    trimmed_stays = λ pen v call. refl;
+    trimmed_rests = λ v. refl;
   }
 
   -- Backup beside ZCert, and what is beside Chain and ZLight

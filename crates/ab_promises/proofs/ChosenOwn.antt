@@ -1,5 +1,5 @@
 -- Own calls of a protocol that is one of two are own calls of the one that runs the instance.
-use Rattle.std.proofs.Common.{◌≡◌, ℕ, ◌≤◌, Bool, false, Option, None, Some, List, [], ◌∷◌, refl, sym, ap, ◌∙◌, subst, inl, inr}
+use Rattle.std.proofs.Common.{◌≡◌, ℕ, ◌≤◌, Bool, false, Option, None, Some, List, [], ◌∷◌, refl, sym, ap, ◌∙◌, subst, inl, inr, length}
 use Rattle.std.proofs.lemmas.Bool.{cases_eq}
 use Rattle.std.proofs.lemmas.Option.{none-some, same_Some}
 use Rattle.ab_num.specs.declared.cluster.Cluster.{Cluster}
@@ -25,7 +25,7 @@ use Rattle.ab_plans.specs.declared.choice.Choice.{Choice}
 use Rattle.ab_plans.specs.declared.choice.Choice.TheVariants.{Second}
 use Rattle.ab_plans.specs.ChoiceRules.{choice, begins as begins_by}
 use Rattle.ab_plans.specs.Runs.{with_backup}
-use Rattle.ab_promises.specs.OwnCalls.{AreOwnCalls, none_yet, begins, takes, stops, others, OwnCallsKeep}
+use Rattle.ab_promises.specs.OwnCalls.{AreOwnCalls, none_yet, begins, takes, stops, trims, others, OwnCallsKeep}
 use Rattle.ab_promises.specs.Certified.{SignOnce, LockViews}
 use Rattle.ab_promises.proofs.OwnOrders.{own_sign_once, own_lock}
 use Rattle.ab_promises.proofs.RunsOwn.{runs_own}
@@ -64,6 +64,9 @@ module _ {P Q : Type 0} (p : Proto P) (q : Proto Q) (serves : Kind → Bool) (x 
   abbrev Stops : List Act → (ℕ → Option (Choice P Q)) → ℕ → Choice P Q → Type 0
   Stops acts left me v = AreSecond (halt_of both me v ∷ acts) (put left me (Some (both.halt v)))
 
+  abbrev Trims : List Act → (ℕ → Option (Choice P Q)) → ℕ → ℕ → Choice P Q → Type 0
+  Trims acts left me n v = both.trimmed v ≤ n → n ≤ length (both.state v).log → AreSecond acts (put left me (Some (both.trim n v)))
+
   second_own : (acts : List Act) (left : ℕ → Option (Choice P Q)) → AreOwnCalls both x acts left → AreSecond acts left
   second_own _ _ none_yet = record { values = λ r. None; calls = none_yet; same = λ r. refl }
   second_own _ _ (begins {acts} {left} me e fits before may) =
@@ -88,6 +91,13 @@ module _ {P Q : Type 0} (p : Proto P) (q : Proto Q) (serves : Kind → Bool) (x 
       let u = found.0 in
       let next : Stops acts left me (Second u) = record { values = put was.values me (Some (q.halt u)); calls = stops me u was.calls found.1; same = put_second left was.values me (q.halt u) was.same } in
       subst (λ (z : Choice P Q). Stops acts left me z) (sym found.2) next
+  second_own _ _ (trims {acts} {left} me n v before at low high) =
+      let was = second_own acts left before in
+      let found = some_second (was.values me) v (sym (was.same me) ∙ at) in
+      let u = found.0 in
+      let next : Trims acts left me n (Second u) =
+      λ low' high'. record { values = put was.values me (Some (q.trim n u)); calls = trims me n u was.calls found.1 low' high'; same = put_second left was.values me (q.trim n u) was.same } in
+      subst (λ (z : Choice P Q). Trims acts left me n z) (sym found.2) next low high
   second_own _ _ (others {acts} {left} a before correct is) =
       let was = second_own acts left before in
       record { values = was.values; calls = others a was.calls correct is; same = was.same }

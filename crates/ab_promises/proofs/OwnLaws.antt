@@ -19,7 +19,7 @@ use Rattle.ab_abs.specs.Messages.{Call}
 use Rattle.ab_abs.specs.Rules.{IsOther, IsStill, is_inner, by_client, takes as takes_cert, aborts}
 use Rattle.ab_abs.specs.Ensembles.{Proto, MayTake, begin_of, asked_of, halt_of, put}
 use Rattle.ab_abs.proofs.Reach.{put_same, put_other}
-use Rattle.ab_promises.specs.OwnCalls.{AreOwnCalls, none_yet, begins, takes, stops, others}
+use Rattle.ab_promises.specs.OwnCalls.{AreOwnCalls, none_yet, begins, takes, stops, trims, others}
 
 -- the premises hold of the earlier acts
 pub premises_before : (x : Setting) (a : Act) (acts : List Act) → Premises x (a ∷ acts) → Premises x acts
@@ -50,6 +50,7 @@ module _ {P : Type 0} (proto : Proto P) (sound : Setting → List Act → Type 0
     (start : (x : Setting) (acts : List Act) (me : ℕ) (e : Entry) → IsTrue (serves (kind_in x)) → e.trimmed ≤ length e.base → MayStart x acts me e.base → sound x acts → stands x (proto.begin x.cluster x.i me e) me (begin_of proto x me e ∷ acts) × (Premises x (begin_of proto x me e ∷ acts) → sound x (begin_of proto x me e ∷ acts)))
     (answer : (x : Setting) (acts : List Act) (me : ℕ) (pen : Pen) (p : P) (m : Call) (seen : List Seen) → IsTrue (serves (kind_in x)) → MayTake proto x acts me pen p m seen → stands x p me acts → stands x (proto.after pen p m) me (asked_of proto x me pen p m seen ∷ acts) × (sound x acts → Premises x (asked_of proto x me pen p m seen ∷ acts) → sound x (asked_of proto x me pen p m seen ∷ acts)))
     (halt : (x : Setting) (acts : List Act) (me : ℕ) (p : P) → IsTrue (serves (kind_in x)) → stands x p me acts → stands x (proto.halt p) me (halt_of proto me p ∷ acts) × (sound x acts → Premises x (halt_of proto me p ∷ acts) → sound x (halt_of proto me p ∷ acts)))
+    (trim : (x : Setting) (acts : List Act) (me n : ℕ) (p : P) → proto.trimmed p ≤ n → n ≤ length (proto.state p).log → stands x p me acts → stands x (proto.trim n p) me acts)
     (more : (x : Setting) (acts : List Act) (a : Act) → IsTrue (serves (kind_in x)) → is_faulty x.faulty a.party ≡ false → IsOther x acts a → sound x acts → Premises x (a ∷ acts) → sound x (a ∷ acts))
     (x : Setting) (served : IsTrue (serves (kind_in x))) (one : 1 ≤ x.i) where
   -- the acts are sound, and each value stands where they left it
@@ -82,6 +83,19 @@ module _ {P : Type 0} (proto : Proto P) (sound : Setting → List Act → Type 0
       let was = own_sound acts left before (premises_before x (halt_of proto me p) acts premises) in
       let law = halt x acts me p served (was.stand me p at) in
       record { sounds = law.1 was.sounds premises; stand = goes_on acts left (halt_of proto me p) me (proto.halt p) refl was law.0 }
+  own_sound _ _ (trims {acts} {left} me n p before at low high) premises =
+      let was = own_sound acts left before premises in
+      let now = trim x acts me n p low high (was.stand me p at) in
+      record {
+        sounds = was.sounds;
+        stand = λ r q is.
+            elim (cases_eq r me) [
+              | inl e ↦
+                  let same : proto.trim n p ≡ q = same_Some (proto.trim n p) q (sym (put_same left me (Some (proto.trim n p))) ∙ (ap (put left me (Some (proto.trim n p))) (sym e) ∙ is)) in
+                  subst (λ (k : ℕ). stands x q k acts) (sym e) (subst (λ (v : P). stands x v me acts) same now)
+              | inr ne ↦ was.stand r q (sym (put_other left me r (Some (proto.trim n p)) ne) ∙ is)
+            ];
+      }
   own_sound _ _ (others {acts} {left} a before correct is) premises =
       let was = own_sound acts left before (premises_before x a acts premises) in
       record { sounds = more x acts a served correct is was.sounds premises; stand = λ r p at. stay x acts a r p (other_still x acts a is r) (was.stand r p at) }

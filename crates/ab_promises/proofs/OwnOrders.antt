@@ -106,6 +106,7 @@ module _ {S Q : Type 0} (machine : Machine S) (orders : OrderProto Q Pbft) (obey
       (laws.start machine orders pbft obeys pbft_orderly IsPbftSound PbftStands pbft_lawful)
       (λ y more me pen v call seen served may was. laws.takes machine orders pbft obeys pbft_orderly IsPbftSound PbftStands pbft_lawful y more me pen v call seen may was served)
       (laws.halts machine orders pbft obeys pbft_orderly IsPbftSound PbftStands pbft_lawful)
+      (λ y more me n p low there. laws.trims machine orders pbft obeys pbft_orderly IsPbftSound PbftStands pbft_lawful y more me n p)
       (laws.others machine orders pbft obeys pbft_orderly IsPbftSound PbftStands pbft_lawful)
       x (backup_kind (kind_in x) is) one acts left own premises).sounds
 

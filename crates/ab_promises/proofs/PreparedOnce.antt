@@ -1,5 +1,5 @@
 -- A replica of a Backup over PBFT signs at most one PREPARE of a view and a slot, whatever the others do.
-use Rattle.std.proofs.Common.{◌≡◌, ℕ, ◌≤◌, List, [], ◌∷◌, refl, sym, ap, ◌∙◌, subst, inr, arith}
+use Rattle.std.proofs.Common.{◌≡◌, ℕ, zero, suc, ◌≤◌, false, List, [], ◌∷◌, refl, sym, ap, ◌∙◌, subst, inr, arith}
 use Rattle.std.specs.Prelude.{Contains, IsTrue}
 use Rattle.ab_num.specs.declared.cluster.Cluster.{Cluster}
 use Rattle.ab_num.specs.declared.party.Party.TheVariants.{Replica}
@@ -8,7 +8,8 @@ use Rattle.ab_svc.specs.Machines.{Machine}
 use Rattle.ab_msg.specs.declared.content.Content.TheVariants as content
 use Rattle.ab_msg.specs.Slots.{slot_digest}
 use Rattle.ab_abs.specs.Values.{goes}
-use Rattle.ab_abs.specs.Acts.{Act, Setting, Premises, WasMade, setting, abort_content, abort_by, own_acts}
+use Rattle.ab_abs.specs.Acts.{Act, Setting, State, Premises, WasMade, setting, own_acts}
+use Rattle.ab_abs.specs.declared.rule.ReplyRule.{ReplyRule}
 use Rattle.ab_abs.proofs.Following.{abort_outer}
 use Rattle.ab_abs.specs.Kinds.{is_backup, kind_in, rule_in, limit_in}
 use Rattle.ab_abs.specs.Rules.{is_inner}
@@ -27,7 +28,8 @@ use Rattle.ab_pbft_rules.specs.Rules.{Pbft, pbft}
 use Rattle.ab_pbft_rules.specs.Standing.{PbftStands}
 use Rattle.ab_pbft_rules.proofs.LawfulOrderer.{pbft_lawful}
 use Rattle.ab_pbft_rules.proofs.OrderlyOrderer.{pbft_orderly}
-use Rattle.ab_promises.specs.ReplicaActs.{AreActsOf, begins, takes, stops, aborts, ActsKeep, PreparesOnce}
+use Rattle.ab_run.specs.Checkpoints.{abort_after, checkpoint_of}
+use Rattle.ab_promises.specs.ReplicaActs.{AreActsOf, begins, takes, stops, aborts, marks, trims, aborts_by, marks_by, ActsKeep, PreparesOnce}
 
 -- where nothing was done and nobody is faulty the premises hold
 no_premises : (c : Cluster) (i : ℕ) → Premises (setting c [] i) []
@@ -41,6 +43,11 @@ no_premises c i = record {
     digests = λ h k in_h. absurd (Contains-none h in_h);
   };
 }
+
+-- an ABORT is nothing between replicas
+stop_outer : (n : ℕ) (rule : ReplyRule) (i r : ℕ) (s : State) → is_inner (abort_after n rule i r s) ≡ false
+stop_outer zero rule i r s = abort_outer rule i r s
+stop_outer (suc n) rule i r s = refl
 
 module _ {S Q : Type 0} (machine : Machine S) (orders : OrderProto Q Pbft) (obeys : Obeys orders pbft) (c : Cluster) (i r : ℕ) (served : IsTrue (is_backup (kind_in (setting c [] i)))) (one : 1 ≤ i) where
   abbrev x : Setting
@@ -56,8 +63,14 @@ module _ {S Q : Type 0} (machine : Machine S) (orders : OrderProto Q Pbft) (obey
   stands _ _ (stops {acts} {p = v} before) = (laws.halts machine orders pbft obeys pbft_orderly IsPbftSound PbftStands pbft_lawful x acts r v served (stands acts v before)).0
   stands _ _ (aborts {acts} {p = v} before stopped) =
       let at = (backup orders pbft machine).state v in
-      laws.stays machine orders pbft obeys pbft_orderly IsPbftSound PbftStands pbft_lawful x acts (abort_by (rule_in x) x r at) r v
-      (inr (refl, λ s has. ap is_inner (sym (Contains-one (abort_content (rule_in x) i r at) s has)) ∙ abort_outer (rule_in x) i r at)) (stands acts v before)
+      laws.stays machine orders pbft obeys pbft_orderly IsPbftSound PbftStands pbft_lawful x acts (aborts_by (backup orders pbft machine) x r v) r v
+      (inr (refl, λ s has. ap is_inner (sym (Contains-one (abort_after v.trimmed (rule_in x) i r at) s has)) ∙ stop_outer v.trimmed (rule_in x) i r at)) (stands acts v before)
+  stands _ _ (marks {acts} {p = v} n before runs more within) =
+      let log = ((backup orders pbft machine).state v).log in
+      laws.stays machine orders pbft obeys pbft_orderly IsPbftSound PbftStands pbft_lawful x acts (marks_by (backup orders pbft machine) x r n v) r v
+      (inr (refl, λ s has. ap is_inner (sym (Contains-one (checkpoint_of i r n log) s has)))) (stands acts v before)
+  stands _ _ (trims {acts} {p = v} n before runs more within) =
+      laws.trims machine orders pbft obeys pbft_orderly IsPbftSound PbftStands pbft_lawful x acts r n v (stands acts v before)
 
   -- they are its own
   own : (acts : List Act) (v : Backing Q) → AreActsOf (backup orders pbft machine) x r acts v → own_acts r acts ≡ acts
@@ -65,7 +78,9 @@ module _ {S Q : Type 0} (machine : Machine S) (orders : OrderProto Q Pbft) (obey
   own _ _ (takes {acts} {p = v} pen call seen before may) =
       let a = asked_of (backup orders pbft machine) x r pen v call seen in own_own a acts r refl ∙ ap (λ l. a ∷ l) (own acts v before)
   own _ _ (stops {acts} {p = v} before) = let a = halt_of (backup orders pbft machine) r v in own_own a acts r refl ∙ ap (λ l. a ∷ l) (own acts v before)
-  own _ _ (aborts {acts} {p = v} before stopped) = let a = abort_by (rule_in x) x r ((backup orders pbft machine).state v) in own_own a acts r refl ∙ ap (λ l. a ∷ l) (own acts v before)
+  own _ _ (aborts {acts} {p = v} before stopped) = let a = aborts_by (backup orders pbft machine) x r v in own_own a acts r refl ∙ ap (λ l. a ∷ l) (own acts v before)
+  own _ _ (marks {acts} {p = v} n before runs more within) = let a = marks_by (backup orders pbft machine) x r n v in own_own a acts r refl ∙ ap (λ l. a ∷ l) (own acts v before)
+  own _ _ (trims {acts} {p = v} n before runs more within) = own acts v before
 
   module _ (acts : List Act) (v : Backing Q) (are : AreActsOf (backup orders pbft machine) x r acts v) where
     abbrev its : PbftStands x (limit_in x) (viewed orders v).order r (own_acts r acts)

@@ -15,10 +15,10 @@ use Rattle.ab_abs.specs.Observations.{IsInitHistory}
 use Rattle.ab_abs.specs.Acts.{Act, Setting, MayStart, unmarked, with_init, setting, observations, own_acts, state_of}
 use Rattle.ab_abs.specs.Rules.{IsOther, by_client, takes as takes_cert, aborts}
 use Rattle.ab_abs.specs.Deeds.{InstanceAct, acts_in}
-use Rattle.ab_abs.specs.Ensembles.{Proto, Ensemble, EnsembleEvent, begins as begins_in, asked, accepts, panics, other, enters, Reached, at_first, further, MayTake, entry_of, begin_of, asked_of, halt_of, did, put}
+use Rattle.ab_abs.specs.Ensembles.{Proto, Ensemble, EnsembleEvent, begins as begins_in, asked, accepts, panics, trims as trims_in, other, enters, Reached, at_first, further, MayTake, entry_of, begin_of, asked_of, halt_of, did, put}
 use Rattle.ab_abs.proofs.Facts.{party_eq-Decides, init_later, init_first}
 use Rattle.ab_abs.proofs.Reach.{did_cases, more_state, put_same, put_other}
-use Rattle.ab_promises.specs.OwnCalls.{AreOwnCalls, none_yet, begins, takes, stops, others}
+use Rattle.ab_promises.specs.OwnCalls.{AreOwnCalls, none_yet, begins, takes, stops, trims, others}
 
 -- an act that is no call is another's, or changes no state
 other_apart : (x : Setting) (acts : List Act) (a : Act) → IsOther x acts a → (r : ℕ) → (a.party ≢ Replica r) ⊎ (a.state ≡ None)
@@ -187,6 +187,32 @@ module _ {P : Type 0} (proto : Proto P) (c : Cluster) (faulty : List Party) wher
       let may : MayTake proto x acts r pen (w.value r) m seen = record { formed = formed; for = for; noted = with_init h first_is rises later refl; settled = λ _ _. inr (h, first_is, marked, rises) } in
       goes_on w r (proto.after pen (w.value r) m) a (omega (arith, later)) was refl (λ left calls value. takes r (w.value r) pen m seen calls value may)
   step_keeps w v (panics r lt good begun) was = goes_on w r (proto.halt (w.value r)) (halt_of proto r (w.value r)) begun was refl (λ left calls value. stops r (w.value r) calls value)
+  step_keeps w v (trims_in r n lt good begun low high) was =
+      let p = proto.trim n (w.value r) in
+      record {
+        fresh = was.fresh;
+        based = was.based;
+        own = λ i one'.
+            let before = was.own i one' in
+            elim (cases_eq i (w.at r)) [
+              | inl now ↦ record {
+                left = put before.left r (Some p);
+                calls = trims r n (w.value r) before.calls (before.here r (sym now)) low high;
+                here = λ q in_i.
+                    elim (cases_eq q r) [
+                      | inl e ↦ subst (λ (z : ℕ). put before.left r (Some p) z ≡ Some (put w.value r p z)) (sym e) (put_same before.left r (Some p) ∙ ap Some (sym (put_same w.value r p)))
+                      | inr ne ↦ put_other before.left r q (Some p) ne ∙ (before.here q in_i ∙ ap Some (sym (put_other w.value r q p ne)))
+                    ];
+              }
+              | inr else' ↦ record {
+                left = before.left;
+                calls = before.calls;
+                here = λ q in_i.
+                    let ne : q ≢ r = λ e. else' (sym in_i ∙ ap w.at e) in
+                    before.here q in_i ∙ ap Some (sym (put_other w.value r q p ne));
+              }
+            ];
+      }
   step_keeps w v (other k a one good is) was = record {
     fresh = λ q i lt. more_state k a w.run i q (λ _. other_apart (at k) (acts_in k w.run) a is q) ∙ was.fresh q i lt;
     based = λ q begun. more_init k a w.run (w.at q) q (w.base q) (was.based q begun);

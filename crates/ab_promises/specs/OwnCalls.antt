@@ -15,7 +15,7 @@ use Rattle.ab_abs.specs.Ensembles.{Proto, MayTake, begin_of, asked_of, halt_of, 
 
 -- the acts, the newest first, leave replica r with the value left r, None if it has not begun. A replica that has not begun may begin, with
 -- whatever base; then it takes each call, or a stop, with the value that its earlier acts left. Whatever else correct parties do is
--- no call of the protocol
+-- no call of the protocol. That a replica trims its log is no act
 pub data AreOwnCalls {P : Type 0} (proto : Proto P) (x : Setting) : List Act → (ℕ → Option P) → Type 0 where
   none_yet : AreOwnCalls proto x [] (λ r. None)
   begins : {acts : List Act} {left : ℕ → Option P} (me : ℕ) (e : Entry) → e.trimmed ≤ length e.base → AreOwnCalls proto x acts left → MayStart x acts me e.base
@@ -24,6 +24,8 @@ pub data AreOwnCalls {P : Type 0} (proto : Proto P) (x : Setting) : List Act →
       → AreOwnCalls proto x (asked_of proto x me pen p call seen ∷ acts) (put left me (Some (proto.after pen p call)))
   stops : {acts : List Act} {left : ℕ → Option P} (me : ℕ) (p : P) → AreOwnCalls proto x acts left → left me ≡ Some p
       → AreOwnCalls proto x (halt_of proto me p ∷ acts) (put left me (Some (proto.halt p)))
+  trims : {acts : List Act} {left : ℕ → Option P} (me n : ℕ) (p : P) → AreOwnCalls proto x acts left → left me ≡ Some p → proto.trimmed p ≤ n → n ≤ length (proto.state p).log
+      → AreOwnCalls proto x acts (put left me (Some (proto.trim n p)))
   others : {acts : List Act} {left : ℕ → Option P} (a : Act) → AreOwnCalls proto x acts left → is_faulty x.faulty a.party ≡ false → IsOther x acts a
       → AreOwnCalls proto x (a ∷ acts) left
 

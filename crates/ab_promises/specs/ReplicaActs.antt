@@ -1,5 +1,5 @@
 -- The acts of one replica in an instance, whatever the others do and whoever is faulty.
-use Rattle.std.specs.Prelude.{◌≡◌, ◌⊎◌, ℕ, ◌≤◌, Bool, true, false, IsTrue, List, [], ◌∷◌, Contains, length}
+use Rattle.std.specs.Prelude.{◌≡◌, ◌⊎◌, ℕ, ◌<◌, ◌≤◌, Bool, true, false, IsTrue, None, List, [], ◌∷◌, Contains, length}
 use Rattle.ab_num.specs.declared.cluster.Cluster.{Cluster}
 use Rattle.ab_num.specs.declared.party.Party.TheVariants.{Replica}
 use Rattle.ab_num.specs.declared.plan.Kind.{Kind}
@@ -11,20 +11,36 @@ use Rattle.ab_msg.specs.Claims.{maker_of, instance_of, fresh}
 use Rattle.ab_msg.specs.Pens.{Pen}
 use Rattle.ab_abs.specs.declared.seen.Seen.{Seen}
 use Rattle.ab_abs.specs.declared.entry.Entry.{Entry}
-use Rattle.ab_abs.specs.Acts.{Act, Setting, MayStart, WasMade, setting, abort_by}
+use Rattle.ab_abs.specs.Acts.{Act, Setting, MayStart, WasMade, setting}
 use Rattle.ab_abs.specs.Kinds.{rule_in}
 use Rattle.ab_abs.specs.FormLaws.{Belongs}
 use Rattle.ab_abs.specs.Messages.{Call}
 use Rattle.ab_abs.specs.Ensembles.{Proto, MayTake, begin_of, asked_of, halt_of}
+use Rattle.ab_run.specs.Checkpoints.{abort_after, checkpoint_of}
+
+-- replica r states this, and goes on where it is
+abbrev pub states : ℕ → Content → Act
+states r s = record { party = Replica r; claims = []; values = []; made = s ∷ []; observations = []; state = None }
+
+-- its ABORT, which leaves out what is trimmed of its log, and its CHECKPOINT of the first n entries
+abbrev pub aborts_by : {P : Type 0} → Proto P → Setting → ℕ → P → Act
+aborts_by proto x r p = states r (abort_after (proto.trimmed p) (rule_in x) x.i r (proto.state p))
+
+abbrev pub marks_by : {P : Type 0} → Proto P → Setting → ℕ → ℕ → P → Act
+marks_by proto x r n p = states r (checkpoint_of x.i r n (proto.state p).log)
 
 -- the acts of replica r, the newest first, leave it with this value. It begins with whatever base; then it takes each call, or a stop, with
--- the value that its earlier acts left; and once it is stopped it may make its ABORT
+-- the value that its earlier acts left; until it is stopped it may make a CHECKPOINT of first entries of its log that aren't all trimmed,
+-- and trim its log, which is no act; and once it is stopped it may make its ABORT
 pub data AreActsOf {P : Type 0} (proto : Proto P) (x : Setting) (r : ℕ) : List Act → P → Type 0 where
   begins : (e : Entry) → e.trimmed ≤ length e.base → MayStart x [] r e.base → AreActsOf proto x r (begin_of proto x r e ∷ []) (proto.begin x.cluster x.i r e)
   takes : {acts : List Act} {p : P} (pen : Pen) (call : Call) (seen : List Seen) → AreActsOf proto x r acts p → MayTake proto x acts r pen p call seen
       → AreActsOf proto x r (asked_of proto x r pen p call seen ∷ acts) (proto.after pen p call)
   stops : {acts : List Act} {p : P} → AreActsOf proto x r acts p → AreActsOf proto x r (halt_of proto r p ∷ acts) (proto.halt p)
-  aborts : {acts : List Act} {p : P} → AreActsOf proto x r acts p → (proto.state p).stopped ≡ true → AreActsOf proto x r (abort_by (rule_in x) x r (proto.state p) ∷ acts) p
+  aborts : {acts : List Act} {p : P} → AreActsOf proto x r acts p → (proto.state p).stopped ≡ true → AreActsOf proto x r (aborts_by proto x r p ∷ acts) p
+  marks : {acts : List Act} {p : P} (n : ℕ) → AreActsOf proto x r acts p → (proto.state p).stopped ≡ false → proto.trimmed p < n → n ≤ length (proto.state p).log
+      → AreActsOf proto x r (marks_by proto x r n p ∷ acts) p
+  trims : {acts : List Act} {p : P} (n : ℕ) → AreActsOf proto x r acts p → (proto.state p).stopped ≡ false → proto.trimmed p ≤ n → n ≤ length (proto.state p).log → AreActsOf proto x r acts (proto.trim n p)
 
 -- the same of instance i of a cluster. Who else is faulty plays no part
 abbrev pub AreActsIn : {P : Type 0} → Proto P → Cluster → ℕ → ℕ → List Act → P → Type 0
@@ -56,7 +72,7 @@ StatesNone {P} proto serves test =
 abbrev pub IsAbortOf : ℕ → ℕ → Content → Type 0
 IsAbortOf r i s = (is_abort s ≡ true) × (maker_of s ≡ Replica r) × (instance_of s ≡ i)
 
--- those among these acts are one: they hold one history, and the same certificate of answers or none
+-- those among these acts are one: they hold one history, of which as much is trimmed, and the same certificate of answers or none
 abbrev pub AbortsOnce : ℕ → ℕ → List Act → Type 0
 AbortsOnce i r acts = (s t : Content) → IsAbortOf r i s → IsAbortOf r i t → WasMade acts s → WasMade acts t → s ≡ t
 

@@ -31,8 +31,9 @@ pub fn correct_replicas_act_by_themselves<P>()
         → r < replicas k → is_faulty k.faulty (Replica r) ≡ false → (i : ℕ) → ActsByItself proto k.cluster i r (run k proto events).made }
 {}
 
-/// Any lawful protocol whose calls state no ABORT: a replica is stopped as it makes its ABORT, which holds its log and
-/// the certificate of answers that it keeps, and after a stop both stay. So a correct replica makes one ABORT an instance, whatever comes and whatever is forged.
+/// Any lawful protocol whose calls state no ABORT: a replica is stopped as it makes its ABORT, which holds its log, as far as it isn't
+/// trimmed, and the certificate of answers that it keeps, and after a stop all of it stays. So a correct replica makes one ABORT an
+/// instance, whatever comes and whatever is forged.
 pub fn lawful_replicas_abort_once<S: Service, P: Protocol<S>>()
     ensures acts { StatesNone P.proto P.serves is_abort → ActsKeep P.proto P.serves AbortsOnce }
     ensures runs { (k : RunSetup) (events : List Event) (r : ℕ) → StatesNone P.proto P.serves is_abort → ServesAll P.serves k.cluster → AreFormed k events

@@ -11,4 +11,4 @@ returns g c =
     λ k serves x acts left is one own premises.
     let served = subst (λ (kind : Kind). IsTrue (p.serves kind)) (sym is) serves in
     laws.sound_abstract x acts served
-    (own_sound p.proto p.sound p.stands p.serves laws.stands_stays laws.sound_nil laws.lawful_start laws.lawful_on laws.lawful_stop laws.lawful_others x served one acts left own premises).sounds
+    (own_sound p.proto p.sound p.stands p.serves laws.stands_stays laws.sound_nil laws.lawful_start laws.lawful_on laws.lawful_stop laws.stands_trimmed laws.lawful_others x served one acts left own premises).sounds
