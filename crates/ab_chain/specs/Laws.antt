@@ -41,7 +41,7 @@ use Rattle.ab_abs.specs.Answers.{answer_from, logged_from, logged_at}
 use Rattle.ab_abs.specs.Kinds.{kind_in, rule_of}
 use Rattle.ab_abs.specs.Rules.{IsOther, IsOtherBy}
 use Rattle.ab_abs.specs.TailRules.{IsPassed, IsTailContent, for_positions, for_client}
-use Rattle.ab_abs.specs.Messages.{Call, took, call_claims, call_values, is_ruled, claims_in, IsFor, IsFormed}
+use Rattle.ab_abs.specs.Messages.{Call, took, call_claims, call_values, may_state, claims_in, IsFor, IsFormed}
 use Rattle.ab_abs.specs.Ensembles.{begin_of, asked_of, halt_of, statements_of, MayTake}
 use Rattle.ab_abs.specs.FormLaws.{KeepsForm, Belongs, begun, called, halted, trimmed, Arises, from_entry, by_call, by_stop, by_trim}
 use Rattle.ab_abs.specs.Members.{Member, member_state, respond, IsAt}
@@ -124,28 +124,28 @@ keeps_trimmed q t low = let longer = prefix_length q.log (log_after q t) (grows_
 
 -- ---- what is stated is its own
 
-two_own : (r i : ℕ) (a b s : Content) → (maker_of a ≡ Replica r) × (instance_of a ≡ i) × (is_ruled a ≡ true) → (maker_of b ≡ Replica r) × (instance_of b ≡ i) × (is_ruled b ≡ true) → Contains (a ∷ b ∷ []) s → (maker_of s ≡ Replica r) × (instance_of s ≡ i) × (is_ruled s ≡ true)
+two_own : (r i : ℕ) (a b s : Content) → (maker_of a ≡ Replica r) × (instance_of a ≡ i) × (may_state a ≡ true) → (maker_of b ≡ Replica r) × (instance_of b ≡ i) × (may_state b ≡ true) → Contains (a ∷ b ∷ []) s → (maker_of s ≡ Replica r) × (instance_of s ≡ i) × (may_state s ≡ true)
 two_own r i a b s own_a own_b has =
     elim (Contains-cons_cases a (b ∷ []) s has) [
-      | inl e ↦ (ap maker_of (sym e) ∙ own_a.0, ap instance_of (sym e) ∙ own_a.1, ap is_ruled (sym e) ∙ own_a.2)
-      | inr more ↦ let e = Contains-one b s more in (ap maker_of (sym e) ∙ own_b.0, ap instance_of (sym e) ∙ own_b.1, ap is_ruled (sym e) ∙ own_b.2)
+      | inl e ↦ (ap maker_of (sym e) ∙ own_a.0, ap instance_of (sym e) ∙ own_a.1, ap may_state (sym e) ∙ own_a.2)
+      | inr more ↦ let e = Contains-one b s more in (ap maker_of (sym e) ∙ own_b.0, ap instance_of (sym e) ∙ own_b.1, ap may_state (sym e) ∙ own_b.2)
     ]
 
-one_own : (r i : ℕ) (a s : Content) → (maker_of a ≡ Replica r) × (instance_of a ≡ i) × (is_ruled a ≡ true) → Contains (a ∷ []) s → (maker_of s ≡ Replica r) × (instance_of s ≡ i) × (is_ruled s ≡ true)
-one_own r i a s own has = let e = Contains-one a s has in (ap maker_of (sym e) ∙ own.0, ap instance_of (sym e) ∙ own.1, ap is_ruled (sym e) ∙ own.2)
+one_own : (r i : ℕ) (a s : Content) → (maker_of a ≡ Replica r) × (instance_of a ≡ i) × (may_state a ≡ true) → Contains (a ∷ []) s → (maker_of s ≡ Replica r) × (instance_of s ≡ i) × (may_state s ≡ true)
+one_own r i a s own has = let e = Contains-one a s has in (ap maker_of (sym e) ∙ own.0, ap instance_of (sym e) ∙ own.1, ap may_state (sym e) ∙ own.2)
 
-passed_own : (f i : ℕ) (m : Request) (n : ℕ) (d : List ℕ) (reply : Option Reply) (r p : ℕ) (s : Content) → Contains (passed_at f i m n d reply r p) s → (maker_of s ≡ Replica r) × (instance_of s ≡ i) × (is_ruled s ≡ true)
+passed_own : (f i : ℕ) (m : Request) (n : ℕ) (d : List ℕ) (reply : Option Reply) (r p : ℕ) (s : Content) → Contains (passed_at f i m n d reply r p) s → (maker_of s ≡ Replica r) × (instance_of s ≡ i) × (may_state s ≡ true)
 passed_own f i m n d None r p s has = one_own r i (ChainTag (Replica r) i m.client m.stamp n d) s (refl, refl, refl) has
 passed_own f i m n d (Some reply) r p s has = of_tests (nat_le p (2 * f)) (nat_lt p (3 * f + 1)) has
   where
     of_tests : (b c : Bool)
         → Contains (if b then ChainTag (Replica r) i m.client m.stamp n d ∷ [] else if c then ChainTag (Replica r) i m.client m.stamp n d ∷ Resp (Replica r) i m.client m.stamp n d reply ∷ [] else Resp (Replica r) i m.client m.stamp n d reply ∷ []) s
-        → (maker_of s ≡ Replica r) × (instance_of s ≡ i) × (is_ruled s ≡ true)
+        → (maker_of s ≡ Replica r) × (instance_of s ≡ i) × (may_state s ≡ true)
     of_tests true c has = one_own r i (ChainTag (Replica r) i m.client m.stamp n d) s (refl, refl, refl) has
     of_tests false true has = two_own r i (ChainTag (Replica r) i m.client m.stamp n d) (Resp (Replica r) i m.client m.stamp n d reply) s (refl, refl, refl) (refl, refl, refl) has
     of_tests false false has = one_own r i (Resp (Replica r) i m.client m.stamp n d reply) s (refl, refl, refl) has
 
-sends_own : (f g i p r : ℕ) (t : Task) (o : Out) (s : Content) → Contains (sends_with g i p t) o → Contains (fresh f (Replica r) o.msg) s → (maker_of s ≡ Replica r) × (instance_of s ≡ i) × (is_ruled s ≡ true)
+sends_own : (f g i p r : ℕ) (t : Task) (o : Out) (s : Content) → Contains (sends_with g i p t) o → Contains (fresh f (Replica r) o.msg) s → (maker_of s ≡ Replica r) × (instance_of s ≡ i) × (may_state s ≡ true)
 sends_own f g i p r idle o s sent has = absurd (Contains-none o sent)
 sends_own f g i p r (passes m vote reply tags) o s sent has =
     let is = Contains-one _ o sent in
@@ -244,7 +244,7 @@ module _ {S : Type 0} (machine : Machine S) where
   here c i r q (halted p was) = let h = here c i r p was in record { sized = h.sized; placed = h.placed; owned = h.owned }
   here c i r q (trimmed n p low high was) = let h = here c i r p was in record { sized = h.sized; placed = h.placed; owned = h.owned }
 
-  own_law : (c : Cluster) (i r : ℕ) (pen : Pen) (q : ChainState) (call : Call) (o : Out) (s : Content) → Belongs (chain machine) is_chain c i r q → Contains ((chain machine).sends pen q call) o → Contains (fresh c.f (Replica r) o.msg) s → (maker_of s ≡ Replica r) × (instance_of s ≡ i) × (is_ruled s ≡ true)
+  own_law : (c : Cluster) (i r : ℕ) (pen : Pen) (q : ChainState) (call : Call) (o : Out) (s : Content) → Belongs (chain machine) is_chain c i r q → Contains ((chain machine).sends pen q call) o → Contains (fresh c.f (Replica r) o.msg) s → (maker_of s ≡ Replica r) × (instance_of s ≡ i) × (may_state s ≡ true)
   own_law c i r pen q call o s was sent has =
       let w = sends_own c.f q.f q.at.instance (position_at q) r (task machine q call) o s sent has in (w.0, w.1 ∙ (here c i r q was).placed, w.2)
 
@@ -311,6 +311,7 @@ module _ {S : Type 0} (machine : Machine S) where
       frozen = λ c i r pen q call was stopped. (ap (λ (t : Task). log_after q.at t) (no_pass q call stopped), stopped);
       halts = λ q. (refl, inl refl);
       begins = λ c i r e. (inl refl, refl);
+      logs = λ c i r e served other. refl;
       enters = λ c i r e. refl;
       entered_stays = λ pen q call. refl;
       entered_rests = λ q. refl;

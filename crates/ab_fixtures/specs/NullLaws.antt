@@ -68,6 +68,7 @@ form_law = record {
   frozen = λ c i r pen q call was stopped. (refl, refl);
   halts = λ q. (refl, inl refl);
   begins = λ c i r e. (inl refl, refl);
+  logs = λ c i r e served other. refl;
   enters = λ c i r e. refl;
   entered_stays = λ pen q call. refl;
   entered_rests = λ q. refl;

@@ -154,6 +154,7 @@ module _ {S : Type 0} (machine : Machine S) (short : (h : List Request) (m : Req
     frozen = λ c i r pen q k was stopped. frozen machine pen q k stopped;
     halts = λ q. (refl, inl refl);
     begins = λ c i r e. (inl refl, refl);
+    logs = λ c i r e served other. refl;
     enters = λ c i r e. refl;
     entered_stays = λ pen q k. entered_job q (job q k);
     entered_rests = λ q. refl;

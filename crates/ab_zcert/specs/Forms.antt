@@ -25,7 +25,7 @@ use Rattle.ab_abs.specs.Answers.{answer_from, logged_from}
 use Rattle.ab_abs.specs.Observations.{has_front}
 use Rattle.ab_abs.specs.Certificates.{is_quorum}
 use Rattle.ab_abs.specs.Members.{Member}
-use Rattle.ab_abs.specs.Messages.{Call, is_ruled}
+use Rattle.ab_abs.specs.Messages.{Call, may_state}
 use Rattle.ab_abs.specs.FormLaws.{Belongs, begun, called, halted, trimmed}
 use Rattle.ab_num.proofs.Lists.{Contains-head, Contains-one, Contains-none}
 use Rattle.ab_zlight.specs.Rules.{Light, Task, idle, ordered, asked, answer_of, log_after, orders}
@@ -59,22 +59,22 @@ rests_job q (keeps z) halt =
 
 -- ---- what is sent
 
-answers_own : (f : ℕ) (pen : Pen) (q : Member) (m : Request) (answer : Option Vote) (o : Out) (s : Content) → Contains (answers pen q m answer) o → Contains (fresh f (Replica q.me) o.msg) s → (maker_of s ≡ Replica q.me) × (instance_of s ≡ q.instance) × (is_ruled s ≡ true)
+answers_own : (f : ℕ) (pen : Pen) (q : Member) (m : Request) (answer : Option Vote) (o : Out) (s : Content) → Contains (answers pen q m answer) o → Contains (fresh f (Replica q.me) o.msg) s → (maker_of s ≡ Replica q.me) × (instance_of s ≡ q.instance) × (may_state s ≡ true)
 answers_own f pen q m None o s sent has = absurd (Contains-none o sent)
 answers_own f pen q m (Some vote) o s sent has =
     let out : Out = record { to = Client m.client; msg = msg.Spec (record { maker = q.me; content = spec_for q m vote; sig = pen.sig (spec_for q m vote) pen.used }) } in
     let has' : Contains (spec_for q m vote ∷ []) s = subst (λ (p : Out). Contains (fresh f (Replica q.me) p.msg) s) (sym (Contains-one out o sent)) has in
     let e = Contains-one (spec_for q m vote) s has' in
-    (ap maker_of (sym e), ap instance_of (sym e), ap is_ruled (sym e))
+    (ap maker_of (sym e), ap instance_of (sym e), ap may_state (sym e))
 
-local_own : (f : ℕ) (q : Member) (z : Zcert) (o : Out) (s : Content) → Contains (local_commit q z ∷ []) o → Contains (fresh f (Replica q.me) o.msg) s → (maker_of s ≡ Replica q.me) × (instance_of s ≡ q.instance) × (is_ruled s ≡ true)
+local_own : (f : ℕ) (q : Member) (z : Zcert) (o : Out) (s : Content) → Contains (local_commit q z ∷ []) o → Contains (fresh f (Replica q.me) o.msg) s → (maker_of s ≡ Replica q.me) × (instance_of s ≡ q.instance) × (may_state s ≡ true)
 local_own f q z o s sent has =
     let told : Content = LocalCommit (Replica q.me) q.instance z.client z.stamp z.n z.d in
     let has' : Contains (told ∷ []) s = subst (λ (p : Out). Contains (fresh f (Replica q.me) p.msg) s) (sym (Contains-one (local_commit q z) o sent)) has in
     let e = Contains-one told s has' in
-    (ap maker_of (sym e), ap instance_of (sym e), ap is_ruled (sym e))
+    (ap maker_of (sym e), ap instance_of (sym e), ap may_state (sym e))
 
-local_if : (f : ℕ) (q : Member) (z : Zcert) (b : Bool) (o : Out) (s : Content) → Contains (if b then local_commit q z ∷ [] else []) o → Contains (fresh f (Replica q.me) o.msg) s → (maker_of s ≡ Replica q.me) × (instance_of s ≡ q.instance) × (is_ruled s ≡ true)
+local_if : (f : ℕ) (q : Member) (z : Zcert) (b : Bool) (o : Out) (s : Content) → Contains (if b then local_commit q z ∷ [] else []) o → Contains (fresh f (Replica q.me) o.msg) s → (maker_of s ≡ Replica q.me) × (instance_of s ≡ q.instance) × (may_state s ≡ true)
 local_if f q z true o s sent has = local_own f q z o s sent has
 local_if f q z false o s sent has = absurd (Contains-none o sent)
 
@@ -116,7 +116,7 @@ sent_answer pen q m (Some vote) s has =
     record { out = record { to = Client m.client; msg = msg.Spec signed }; signed = signed; is_in = Contains-head _ []; has = Contains-head signed []; content_is = Contains-one (spec_for q m vote) s has }
 
 module _ {S : Type 0} (machine : Machine S) where
-  own_job : (f g : ℕ) (pen : Pen) (q : Member) (j : Job) (o : Out) (s : Content) → Contains (sends_for machine pen g q j) o → Contains (fresh f (Replica q.me) o.msg) s → (maker_of s ≡ Replica q.me) × (instance_of s ≡ q.instance) × (is_ruled s ≡ true)
+  own_job : (f g : ℕ) (pen : Pen) (q : Member) (j : Job) (o : Out) (s : Content) → Contains (sends_for machine pen g q j) o → Contains (fresh f (Replica q.me) o.msg) s → (maker_of s ≡ Replica q.me) × (instance_of s ≡ q.instance) × (may_state s ≡ true)
   own_job f g pen q (serves idle) o s sent has = absurd (Contains-none o sent)
   own_job f g pen q (serves (ordered m)) o s sent has = answers_own f pen q m (answer_of machine q m) o s sent has
   own_job f g pen q (serves (asked m tags)) o s sent has =
@@ -180,7 +180,7 @@ module _ {S : Type 0} (machine : Machine S) where
   frozen pen q k halt = (frozen_job q (job q k) halt, stays_job q (job q k) ∙ halt)
 
   pub own : (served : Kind → Bool) (c : Cluster) (i r : ℕ) (pen : Pen) (q : Keeper) (k : Call) (o : Out) (s : Content) → Belongs (zcert_proto machine) served c i r q → Contains ((zcert_proto machine).sends pen q k) o → Contains (fresh c.f (Replica r) o.msg) s
-      → (maker_of s ≡ Replica r) × (instance_of s ≡ i) × (is_ruled s ≡ true)
+      → (maker_of s ≡ Replica r) × (instance_of s ≡ i) × (may_state s ≡ true)
   own served c i r pen q k o s was sent has =
       let h = here served c i r q was in
       let found = own_job c.f q.light.f pen q.light.at (job q k) o s sent (subst (λ (n : ℕ). Contains (fresh c.f (Replica n) o.msg) s) (sym h.owned) has) in

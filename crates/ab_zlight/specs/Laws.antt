@@ -41,7 +41,7 @@ use Rattle.ab_abs.specs.Faults.{is_faulty}
 use Rattle.ab_abs.specs.Acts.{Act, Setting, Premises, IsNoted, MayStart, state_of, call_of}
 use Rattle.ab_abs.specs.Kinds.{kind_in, rule_of}
 use Rattle.ab_abs.specs.Rules.{IsOther, IsOtherBy, IsSound, is_inner}
-use Rattle.ab_abs.specs.Messages.{Call, took, timed, call_claims, call_values, is_ruled, claims_in, IsFor, IsFormed}
+use Rattle.ab_abs.specs.Messages.{Call, took, timed, call_claims, call_values, may_state, claims_in, IsFor, IsFormed}
 use Rattle.ab_abs.specs.Ensembles.{begin_of, asked_of, halt_of, statements_of, MayTake}
 use Rattle.ab_abs.specs.FormLaws.{KeepsForm, Belongs, begun, called, halted, trimmed, Arises, from_entry, by_call, by_stop, by_trim}
 use Rattle.ab_abs.specs.Answers.{answer_from, logged_from, logged_at}
@@ -190,11 +190,11 @@ order_out f q m tags (Some vote) o has = placed_out f q m tags (known_place q.tr
 
 -- each is the primary's own
 pub order_own : (f : ℕ) (q : Member) (m : Request) (tags : List (ℕ × List ℕ)) (o : Out) (s : Content) → IsOrderOut q m tags o → Contains (fresh f (Replica q.me) o.msg) s
-    → IsTrue (is_inner s) × ((maker_of s ≡ Replica q.me) × (instance_of s ≡ q.instance) × (is_ruled s ≡ true))
+    → IsTrue (is_inner s) × ((maker_of s ≡ Replica q.me) × (instance_of s ≡ q.instance) × (may_state s ≡ true))
 order_own f q m tags o s is has =
     let in_order : Contains (Order (Replica q.me) q.instance is.x m ∷ []) s = subst (λ (z : Msg). Contains (fresh f (Replica q.me) z) s) is.says has in
     let e = Contains-one (Order (Replica q.me) q.instance is.x m) s in_order in
-    (subst (λ (z : Content). IsTrue (is_inner z)) e refl, (ap maker_of (sym e), ap instance_of (sym e), ap is_ruled (sym e)))
+    (subst (λ (z : Content). IsTrue (is_inner z)) e refl, (ap maker_of (sym e), ap instance_of (sym e), ap may_state (sym e)))
 
 -- and has bytes
 tag_length : (r low : ℕ) (tags : List (ℕ × List ℕ)) → EachFits IsTag above low tags → length (unwrap_or (tag_in r tags) (replicate 32 0)) ≡ 32
@@ -237,7 +237,7 @@ module _ {S : Type 0} (machine : Machine S) where
   silent_with f q (asked m tags) stopped =
       ap (λ b. orders f q m tags (if b then None else answer_from machine q.trimmed (length q.base) q.log m) ++ respond q.instance q.me m (if b then None else answer_from machine q.trimmed (length q.base) q.log m)) stopped
 
-  own_with : (f g : ℕ) (q : Member) (t : Task) (o : Out) (s : Content) → Contains (sends_with machine g q t) o → Contains (fresh f (Replica q.me) o.msg) s → (maker_of s ≡ Replica q.me) × (instance_of s ≡ q.instance) × (is_ruled s ≡ true)
+  own_with : (f g : ℕ) (q : Member) (t : Task) (o : Out) (s : Content) → Contains (sends_with machine g q t) o → Contains (fresh f (Replica q.me) o.msg) s → (maker_of s ≡ Replica q.me) × (instance_of s ≡ q.instance) × (may_state s ≡ true)
   own_with f g q idle o s sent has = absurd (Contains-none o sent)
   own_with f g q (ordered m) o s sent has = responds_own f q.instance q.me m (answer_of machine q m) o s sent has
   own_with f g q (asked m tags) o s sent has =
@@ -266,7 +266,7 @@ module _ {S : Type 0} (machine : Machine S) where
   here c i r q (halted p was) = let h = here c i r p was in record { placed = h.placed; owned = h.owned }
   here c i r q (trimmed n p low high was) = let h = here c i r p was in record { placed = h.placed; owned = h.owned }
 
-  own_law : (c : Cluster) (i r : ℕ) (pen : Pen) (q : Light) (call : Call) (o : Out) (s : Content) → Belongs (zlight machine) is_zlight c i r q → Contains ((zlight machine).sends pen q call) o → Contains (fresh c.f (Replica r) o.msg) s → (maker_of s ≡ Replica r) × (instance_of s ≡ i) × (is_ruled s ≡ true)
+  own_law : (c : Cluster) (i r : ℕ) (pen : Pen) (q : Light) (call : Call) (o : Out) (s : Content) → Belongs (zlight machine) is_zlight c i r q → Contains ((zlight machine).sends pen q call) o → Contains (fresh c.f (Replica r) o.msg) s → (maker_of s ≡ Replica r) × (instance_of s ≡ i) × (may_state s ≡ true)
   own_law c i r pen q call o s was sent has =
       let h = here c i r q was in
       let found = own_with c.f q.f q.at (task q call) o s sent (subst (λ (k : ℕ). Contains (fresh c.f (Replica k) o.msg) s) (sym h.owned) has) in
@@ -298,6 +298,7 @@ module _ {S : Type 0} (machine : Machine S) where
       frozen = λ c i r pen q call was stopped. (frozen_with q.at (task q call) stopped, stopped);
       halts = λ q. (refl, inl refl);
       begins = λ c i r e. (inl refl, refl);
+      logs = λ c i r e served other. refl;
       enters = λ c i r e. refl;
       entered_stays = λ pen q call. refl;
       entered_rests = λ q. refl;
