@@ -5,6 +5,7 @@ pub mod WholeCerts
 pub mod LeftOut
 pub mod Fronts
 pub mod CertActs
+pub mod Offered
 pub mod MarkedActs
 pub mod LaterInstances
 pub mod Reasons
@@ -13,3 +14,8 @@ pub mod SmallPoints
 pub mod SmallVotes
 pub mod SmallMarked
 pub mod SmallForgotten
+pub mod EnsembleActs
+pub mod EnsembleLogs
+pub mod EnsembleFronts
+pub mod ReadingLemmas
+pub mod BasedLemmas

@@ -102,11 +102,8 @@ module _ (bad : ℕ → Bool) where
             ]
       ]
 
-module _ (f : ℕ) (bad : ℕ → Bool) (log : ℕ → List Request) (links : List (List ℕ × Request)) (votes : List Stated)
-    (enough : length votes ≡ 2 * f + 1) (known : AreKnown f bad log votes) (told : AreTold links bad log votes) where
-  of_log : (v : Stated) → IsFair bad votes v → AreAmong (links_from nothing (log v.by)) links
-  of_log v fair = of_one (log v.by) links (λ a. told.logs v a fair)
-
+module _ (f : ℕ) (bad : ℕ → Bool) (log : ℕ → List Request) (votes : List Stated)
+    (enough : length votes ≡ 2 * f + 1) (known : AreKnown f bad log votes) where
   -- the correct ones hold what the one has forgotten that has forgotten the most
   module _ (w : Stated) (is : IsMost bad votes w) where
     front_holds : (v : Stated) → Contains votes v → bad v.by ≡ false → holds w.list.start (digest_of (take w.list.start (log w.by))) v.list ≡ true
@@ -130,12 +127,17 @@ module _ (f : ℕ) (bad : ℕ → Bool) (log : ℕ → List Request) (links : Li
         omega (arith, many, along, known.few, enough)
 
   -- so the last point lies behind all that correct ones have forgotten
-  behind_fronts : (n : ℕ) (d : List ℕ) → IsLastPoint (f + 1) (lists_of votes) n d → (v : Stated) → IsFair bad votes v → v.list.start ≤ n
+  pub behind_fronts : (n : ℕ) (d : List ℕ) → IsLastPoint (f + 1) (lists_of votes) n d → (v : Stated) → IsFair bad votes v → v.list.start ≤ n
   behind_fronts n d point v fair =
       elim (most_or_none bad votes) [
         | inl none ↦ absurd (none v fair)
         | inr some ↦ omega (arith, some.1.most v fair, point.last some.0.list.start (digest_of (take some.0.list.start (log some.0.by))) (shared_front some.0 some.1))
       ]
+
+module _ (f : ℕ) (bad : ℕ → Bool) (log : ℕ → List Request) (links : List (List ℕ × Request)) (votes : List Stated)
+    (enough : length votes ≡ 2 * f + 1) (known : AreKnown f bad log votes) (told : AreTold links bad log votes) where
+  of_log : (v : Stated) → IsFair bad votes v → AreAmong (links_from nothing (log v.by)) links
+  of_log v fair = of_one (log v.by) links (λ a. told.logs v a fair)
 
   -- the lists of enough replicas share a point
   pub a_point : (n : ℕ) × (d : List ℕ) × (f + 1 ≤ point_holders (lists_of votes) n d)
@@ -144,7 +146,7 @@ module _ (f : ℕ) (bad : ℕ → Bool) (log : ℕ → List Request) (links : Li
         | inl none ↦
             let r = one_good (λ (v : Stated). bad v.by) (λ (v : Stated). true) votes (omega (arith, known.few, enough, all_pass votes)) in
             absurd (none r.0 (record { there = r.1; correct = r.2 }))
-        | inr some ↦ (some.0.list.start, digest_of (take some.0.list.start (log some.0.by)), shared_front some.0 some.1)
+        | inr some ↦ (some.0.list.start, digest_of (take some.0.list.start (log some.0.by)), shared_front f bad log votes enough known some.0 some.1)
       ]
     where
       all_pass : (xs : List Stated) → count_by (λ (v : Stated). true) xs ≡ length xs
@@ -247,7 +249,7 @@ module _ (f : ℕ) (bad : ℕ → Bool) (log : ℕ → List Request) (links : Li
           ]
           | inr good ↦
               let ok : IsFair bad votes v = record { there = has; correct = good } in
-              tell (log v.by) (own v ok) (known.stands v ok) (behind_fronts n d point v ok)
+              tell (log v.by) (own v ok) (known.stands v ok) (behind_fronts f bad log votes enough known n d point v ok)
         ]
 
     extracts : IsExtract (f + 1) (map list votes) hist

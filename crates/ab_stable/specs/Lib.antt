@@ -4,6 +4,8 @@ pub mod AgreedLists
 pub mod Certs
 pub mod Leaving
 pub mod CertActs
+pub mod Offers
+pub mod Reading
 pub mod MarkedActs
 pub mod Forgotten
 pub mod Wholes
