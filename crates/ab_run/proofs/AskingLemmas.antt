@@ -1,14 +1,13 @@
 -- A client that commits by a certificate has what the rules of acts ask.
-use Rattle.std.proofs.Common.{◌≡◌, ℕ, zero, suc, ◌+◌, ◌*◌, ◌<◌, ◌≤◌, Bool, true, false, not, Option, None, Some, List, [], ◌∷◌, ◌++◌, ◌⊎◌, length, map, take, refl, sym, ap, ◌∙◌, subst, inl, inr, if◌then◌else◌, arith}
+use Rattle.std.proofs.Common.{◌≡◌, ℕ, zero, suc, ◌+◌, ◌*◌, ◌<◌, Bool, true, false, not, Option, None, Some, List, [], ◌∷◌, ◌++◌, ◌⊎◌, length, map, take, refl, sym, ap, ◌∙◌, subst, inl, inr, if◌then◌else◌, arith}
 use Rattle.std.specs.Prelude.{Contains, ◌==◌, ◌&&◌, ◌||◌, nat_eq, nat_lt, nat_le}
 use Rattle.std.specs.List.{list_any, list_all, IsDistinct, AllByRecursion}
 use Rattle.std.specs.Str.{bytes_eq}
-use Rattle.std.proofs.lemmas.Bool.{cases_Bool, and_parts, eqb-true, ltb-true, leb-true}
+use Rattle.std.proofs.lemmas.Bool.{and_parts, eqb-true, ltb-true, leb-true}
 use Rattle.std.proofs.lemmas.Bool.Decides.{Decides-eqb, nat_tests}
 use Rattle.std.proofs.lemmas.Slice.Eq.{bytes_eq-Decides}
 use Rattle.std.proofs.lemmas.List.{length-take, length-map}
 use Rattle.std.proofs.lemmas.List.Elements.{Contains-append_left, Contains-append_right, Contains-append_cases}
-use mathlib.Core.List.{IsPrefix}
 use Rattle.ab_num.specs.declared.party.Party.TheVariants.{Replica}
 use Rattle.ab_num.proofs.Lists.{Contains-head, Contains-tail, Contains-none, Contains-one, Contains-cons_cases, Contains-map, Contains-map_cases}
 use Rattle.ab_hist.specs.declared.request.Request.{Request}
@@ -16,12 +15,11 @@ use Rattle.ab_msg.specs.declared.content.Content.{Content}
 use Rattle.ab_msg.specs.declared.content.Content.TheVariants.{Spec, LocalCommit}
 use Rattle.ab_msg.specs.declared.zcert.Zcert.{Zcert}
 use Rattle.ab_msg.specs.Claims.{spec_of, specs_of}
-use Rattle.ab_svc.specs.Machines.{Reply}
 use Rattle.ab_abs.specs.declared.ballot.Ballot.{Ballot}
 use Rattle.ab_abs.specs.Votes.{same_vote, voted}
 use Rattle.ab_abs.specs.Acts.{Setting}
 use Rattle.ab_abs.specs.Rules.{AreStated, IsCertified, by_kept}
-use Rattle.ab_abs.specs.Certificates.{are_apart, is_quorum}
+use Rattle.ab_abs.specs.Certificates.{are_apart}
 use Rattle.ab_abs.proofs.Prefixes.{take_begins, Contains-prefix}
 use Rattle.ab_abs.proofs.Extracted.{all_of, apart_distinct}
 use Rattle.ab_run.specs.Asking.{sig_of, with_sig, sigs_below, zcert_of_sigs, or_later, zcert_among, unless_sent, teller, is_told_full, told_claims, IsSent, AreVoters, AreTelling}

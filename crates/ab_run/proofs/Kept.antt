@@ -98,7 +98,7 @@ module _ {P : Type 0} (k : RunSetup) (proto : Proto P) (serves : Kind → Bool) 
     pub begun : (r : ℕ) → r < replicas k → is_faulty k.faulty (Replica r) ≡ false → 1 ≤ (w.reps r).at
     pub from_nothing : (r : ℕ) → is_faulty k.faulty (Replica r) ≡ false → (w.reps r).at ≡ 1 → (w.reps r).entry.base ≡ []
     pub left : (r : ℕ) → r < replicas k → is_faulty k.faulty (Replica r) ≡ false → state_of (acts_in (w.reps r).at v.run) r ≡ Some (state_at k proto (w.reps r))
-    pub made : MadeInActs w.made v.run
+    pub made : MadeInActs k w.made v.run
     pub seen : w.seen ≡ seen_in v.run
     pub had : HistoriesAreHad w.had v.run
     pub asked : RequestsAreAsked w.asked v.run

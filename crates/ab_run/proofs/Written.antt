@@ -1,10 +1,9 @@
 -- What replicas keep and send has bytes.
-use Rattle.std.proofs.Common.{◌≡◌, ℕ, zero, suc, ◌+◌, ◌*◌, ◌<◌, ◌≤◌, true, false, Bool, Some, None, Option, List, [], ◌∷◌, ◌++◌, length, take, drop, length-append, refl, sym, ap, ◌∙◌, subst, inl, inr, arith}
-use Rattle.std.proofs.Math.Dec.{eqb-zero-suc}
-use Rattle.std.specs.Prelude.{Contains, nat_le, nat_lt, min, ◌==◌, ◌&&◌, if◌then◌else◌, replicate}
-use Rattle.std.proofs.lemmas.Bool.{cases_Bool, and_parts, ltb-true}
+use Rattle.std.proofs.Common.{◌≡◌, ◌⊎◌, ℕ, zero, suc, ◌+◌, ◌<◌, ◌≤◌, true, false, Bool, Some, None, Option, List, [], ◌∷◌, ◌++◌, length, take, length-append, refl, sym, ap, ◌∙◌, subst, inl, inr, arith}
+use Rattle.std.specs.Prelude.{Contains, nat_le, nat_lt, min, ◌==◌, ◌&&◌, ◌||◌, if◌then◌else◌, replicate}
+use Rattle.std.proofs.lemmas.Bool.{cases_Bool, and_parts, ltb-true, eqb-true}
 use Rattle.std.proofs.lemmas.List.Elements.{All-nil, All-drop, Contains-append_cases}
-use Rattle.std.proofs.lemmas.List.{length-drop, get_or-drop}
+use Rattle.std.proofs.lemmas.List.{length-drop}
 use Rattle.ab_num.specs.declared.cluster.Cluster.{Cluster}
 use Rattle.ab_num.specs.declared.party.Party.TheVariants.{Replica, Client}
 use Rattle.ab_num.specs.declared.plan.Kind.{Kind}
@@ -24,25 +23,24 @@ use Rattle.ab_msg.specs.Fields.{IsInstance, IsReplica, IsRequest, IsWritten, IsW
 use Rattle.ab_msg.specs.Contents.{IsStopContent, IsCheckpoint, IsZcert}
 use Rattle.ab_msg.specs.Certs.{AreAborts, IsSigned}
 use Rattle.ab_msg.specs.Messages.{IsMessage}
-use Rattle.ab_abs.specs.Kinds.{need_of, needs_equal, rule_of, kind_in}
+use Rattle.ab_abs.specs.Kinds.{is_backup, rule_of, kind_in}
 use Rattle.ab_abs.specs.Messages.{Call, took, timed, IsFormed}
-use Rattle.ab_abs.specs.Certificates.{history_of, history_in, history_held, history_by, is_whole, kept_history, led_history, is_whole_kept}
-use Rattle.ab_abs.specs.Ensembles.{Proto, entry_of}
+use Rattle.ab_abs.specs.Ensembles.{Proto, entry_of, trimmed_entry}
 use Rattle.ab_abs.specs.FormLaws.{KeepsForm, Belongs, begun, called, halted, trimmed, Arises, IsWrittenEntry, from_entry, by_call, by_stop, by_trim}
-use Rattle.ab_abs.proofs.Certified.{certificate_written}
 use Rattle.ab_abs.proofs.Drafts.{few_replicas, written_whole, whole_written}
 use Rattle.ab_hist.proofs.DigestLemmas.{length-digest_of}
-use Rattle.ab_hist.specs.Histories.{IsHistory}
 use mathlib.Core.List.{IsPrefix}
 use Rattle.ab_ckpt.specs.Marks.{Mark, due_of, stable_of}
 use Rattle.ab_ckpt.proofs.StableLemmas.{stable_are, due_is}
 use Rattle.ab_run.specs.Setups.{RunSetup, within, replicas, last_instance}
 use Rattle.ab_run.specs.Checkpoints.{every_in, mark_in, to_others, abort_after}
-use Rattle.ab_run.specs.Replicas.{Rep, RepAction, turn_enter, turn_call, turn_halt, turn_sign, turn_bring, turn_abort, turn_mark, turn_keep, turn_trim, after_turn, after_turns, sent_in_turn, state_at, abort_content, checkpoint_at, pen_of, client_of, cert_instance, cert_to, abort_to, brought, aborting, aborting_with, halting, late, trims_with, trimming, keeping_with, here, taken, taken_in, due, due_by, due_with, is_spent, marking, closing, closed, turns}
+use Rattle.ab_run.specs.Replicas.{Rep, RepAction, turn_enter, turn_call, turn_halt, turn_sign, turn_bring, turn_abort, turn_mark, turn_keep, turn_trim, after_turn, after_turns, sent_in_turn, state_at, abort_content, checkpoint_at, pen_of, client_of, cert_instance, cert_to, abort_to, brought, aborting, aborting_with, halting, late, trims_with, trimming, keeping_with, here, taken, taken_in, own_list, offer_to, may_begin, due, due_by, due_with, is_spent, marking, closing, closed, turns}
 use Rattle.ab_abs.specs.Acts.{State, abort_content as stated_abort}
+use Rattle.ab_stable.specs.Offers.{Based, makes_checkpoints}
 use Rattle.ab_run.specs.Runs.{first_rep}
 use Rattle.ab_run.specs.Local.{sent_in_turns, rep_after, rep_sends}
 use Rattle.ab_run.specs.Forms.{IsDraftOf, IsWrittenRep, IsWrittenSetup}
+use Rattle.ab_run.proofs.Offered.{IsOwn, own_written, offered_written, history_drop}
 
 -- what a replica states as it aborts, whatever the kind
 stop_made : (kd : Kind) (f i r : ℕ) (s : State) → maker_of (stated_abort (rule_of kd f) i r s) ≡ Replica r
@@ -64,10 +62,6 @@ trimmed_made : (n : ℕ) (kd : Kind) (f i r : ℕ) (s : State) → maker_of (abo
 trimmed_made zero kd f i r s = stop_made kd f i r s
 trimmed_made (suc n) kd f i r s = refl
 
-history_drop : (n : ℕ) (h : List Request) → IsHistory h → IsHistory (drop n h)
-history_drop n h history i j d lt within =
-    rw (get_or-drop n h i d, get_or-drop n h j d) (history (n + i) (n + j) d (omega (arith, lt)) (omega (arith, within, length-drop n h)))
-
 after_written : (n : ℕ) (kd : Kind) (f i r : ℕ) (s : State) → IsReplica (Replica r) → IsInstance i → IsWrittenLog n s.log → FitsInside IsZcert s.zcert → IsStopContent (abort_after n (rule_of kd f) i r s)
 after_written zero kd f i r s replica instance log zcert = stop_written kd f i r s replica instance (written_whole s.log log) zcert
 after_written (suc n) kd f i r s replica instance log zcert = (
@@ -88,41 +82,6 @@ after_written (suc n) kd f i r s replica instance log zcert = (
 
 -- ---- certificates
 
-some_need : (kd : Kind) (f : ℕ) → 1 ≤ need_of kd f
-some_need kind.Quorum f = omega arith
-some_need kind.ZLight f = omega arith
-some_need kind.Chain f = omega arith
-some_need kind.Backup f = omega arith
-some_need kind.ZCert f = omega arith
-
-none_held : (kd : Kind) (f n : ℕ) (h : List Request) → need_of kd f ≡ n → 1 ≤ n → history_held kd f (Some []) ≡ Some h → ⊥
-none_held kd f zero h need some is = omega (arith, some)
-none_held kd f (suc n) h need some is =
-    let empty : history_held kd f (Some []) ≡ None =
-    ap (λ z. if is_whole z [] then history_by (needs_equal kd) f [] else None) need ∙ ap (λ (b : Bool). if b && true then history_by (needs_equal kd) f [] else None) (eqb-zero-suc n) in
-    let both : None ≡ Some h = sym empty ∙ is in
-    cc (both)
-
-none_kept : (f n : ℕ) (h : List Request) → 2 * f + 1 ≡ n → 1 ≤ n → kept_history f (Some []) ≡ Some h → ⊥
-none_kept f zero h need some is = omega (arith, some)
-none_kept f (suc n) h need some is =
-    let empty : kept_history f (Some []) ≡ None =
-    ap (λ z. if is_whole_kept z [] then Some (led_history (f + 1) [] None) else None) need ∙ ap (λ (b : Bool). if b && true then Some (led_history (f + 1) [] None) else None) (eqb-zero-suc n) in
-    let both : None ≡ Some h = sym empty ∙ is in
-    cc (both)
-
--- an empty one has no history
-no_aborts : (kd : Kind) (c : Cluster) (j : ℕ) (h : List Request) → history_in kd c j [] ≡ Some h → ⊥
-no_aborts kind.Quorum c j h is = none_held kind.Quorum c.f (need_of kind.Quorum c.f) h refl (some_need kind.Quorum c.f) is
-no_aborts kind.ZLight c j h is = none_held kind.ZLight c.f (need_of kind.ZLight c.f) h refl (some_need kind.ZLight c.f) is
-no_aborts kind.Chain c j h is = none_held kind.Chain c.f (need_of kind.Chain c.f) h refl (some_need kind.Chain c.f) is
-no_aborts kind.Backup c j h is = none_held kind.Backup c.f (need_of kind.Backup c.f) h refl (some_need kind.Backup c.f) is
-no_aborts kind.ZCert c j h is = none_kept c.f (2 * c.f + 1) h refl (omega arith) is
-
-some_aborts : (c : Cluster) (j : ℕ) (cert : List Signed) (h : List Request) → history_of c j cert ≡ Some h → 1 ≤ length cert
-some_aborts c j [] h is = absurd (no_aborts (kind_of c.plan j) c j h is)
-some_aborts c j (s ∷ cert) h is = omega arith
-
 brought_aborts : (m : Msg) (cert : List Signed) → IsMessage m → brought m ≡ Some cert → AreAborts 0 7 cert
 brought_aborts (msg.Init aborts) cert of_grammar is =
     let same : aborts ≡ cert = cc (is) in
@@ -136,7 +95,7 @@ brought_aborts _ cert of_grammar is = absurd (cc (is))
 -- a turn whose parts have bytes
 module _ {P : Type 0} (k : RunSetup) (proto : Proto P) (r : ℕ) where
   abbrev pub IsGood : Rep P → RepAction → Type 0
-  IsGood s (turn_enter j cert h) = (j < last_instance) × (AreAborts 1 7 cert × IsWritten h)
+  IsGood s (turn_enter j cert n h) = (j < last_instance) × AreAborts 1 7 cert × IsWrittenLog n h × (may_begin k proto (j + 1) n ≡ true)
   IsGood s (turn_call call) = IsFormed call
   IsGood s turn_halt = Unit {0}
   IsGood s turn_sign = Unit {0}
@@ -209,33 +168,54 @@ module _ {P : Type 0} (k : RunSetup) (proto : Proto P) (r : ℕ) where
   taken_good s m None is = tt
   taken_good s m (Some i) is = good_if s (i == s.at) (here k proto r s m) (if nat_lt i s.at then late m else []) (here_good s m is) (good_if s (nat_lt i s.at) (late m) [] (late_good s m) tt)
 
-  entering_good : (s : Rep P) (m : Msg) (j : ℕ) (cert : List Signed) (o : Option (List Request)) → IsMessage m → AreAborts 0 7 cert → history_of k.cluster j cert ≡ o → AllGood s (due_with k proto r s m j cert o)
-  entering_good s m j cert None is aborts valid = taken_good s m (instance_in m) is
-  entering_good s m j cert (Some h) is aborts valid =
-      let there = after_turn k proto r s (turn_enter j cert h) in
-      let may = nat_le s.at j && nat_lt j last_instance in
-      let some : AreAborts 1 7 cert = ((some_aborts k.cluster j cert h valid, aborts.0.1), aborts.1) in
-      elim (cases_Bool may) [
+  entering_good : (s : Rep P) (m : Msg) (j : ℕ) (cert : List Signed) (o : Option Based) → IsMessage m → ((b : Based) → o ≡ Some b → AreAborts 1 7 cert × IsWrittenLog b.trimmed b.base) → AllGood s (due_with k proto r s m j cert o)
+  entering_good s m j cert None is offers = taken_good s m (instance_in m) is
+  entering_good s m j cert (Some b) is offers =
+      let enter = turn_enter j cert b.trimmed b.base in
+      let there = after_turn k proto r s enter in
+      let may = nat_lt j last_instance && may_begin k proto (j + 1) b.trimmed in
+      elim (cases_Bool (nat_le s.at j && may)) [
         | inl goes ↦
-            subst (AllGood s) (sym (ap (λ (b : Bool). if b then turn_enter j cert h ∷ taken k proto r there m else taken k proto r s m) goes))
-            ((ltb-true j last_instance (and_parts (nat_le s.at j) (nat_lt j last_instance) goes).1, (some, certificate_written k.cluster j 1 7 cert h some valid)), taken_good there m (instance_in m) is)
-        | inr rests ↦ subst (AllGood s) (sym (ap (λ (b : Bool). if b then turn_enter j cert h ∷ taken k proto r there m else taken k proto r s m) rests)) (taken_good s m (instance_in m) is)
+            let found = offers b refl in
+            let both = and_parts (nat_lt j last_instance) (may_begin k proto (j + 1) b.trimmed) (and_parts (nat_le s.at j) may goes).1 in
+            subst (AllGood s) (sym (ap (λ (c : Bool). if c then enter ∷ taken k proto r there m else taken k proto r s m) goes))
+            ((ltb-true j last_instance both.0, found.0, found.1, both.1), taken_good there m (instance_in m) is)
+        | inr rests ↦ subst (AllGood s) (sym (ap (λ (c : Bool). if c then enter ∷ taken k proto r there m else taken k proto r s m) rests)) (taken_good s m (instance_in m) is)
       ]
 
-  by_good : (s : Rep P) (m : Msg) (o : Option (List Signed)) → IsMessage m → brought m ≡ o → AllGood s (due_by k proto r s m o)
-  by_good s m None is brings = taken_good s m (instance_in m) is
-  by_good s m (Some cert) is brings = entering_good s m (cert_instance cert) cert (history_of k.cluster (cert_instance cert) cert) is (brought_aborts m cert is brings) refl
+  -- what it knows of histories by itself has bytes
+  abbrev Knows : Rep P → Type 0
+  Knows s = IsOwn (proto.trimmed s.value) (own_list k proto s)
 
-  due_good : (s : Rep P) (call : Call) → IsFormed call → AllGood s (due k proto r s call)
-  due_good s (took m) is = by_good s m (brought m) is refl
-  due_good s timed is = (tt, tt)
+  by_good : (s : Rep P) (m : Msg) (o : Option (List Signed)) → IsMessage m → Knows s → brought m ≡ o → AllGood s (due_by k proto r s m o)
+  by_good s m None is knows brings = taken_good s m (instance_in m) is
+  by_good s m (Some cert) is knows brings =
+      let j = cert_instance cert in
+      entering_good s m j cert (offer_to k proto s j cert) is
+      (λ b e. offered_written k.cluster (proto.trimmed s.value) (own_list k proto s) j cert b knows (brought_aborts m cert is brings) e)
 
-  pub turns_good : (s : Rep P) (call : Call) → IsFormed call → AllGood s (turns k proto r s call)
-  turns_good s call is =
+  due_good : (s : Rep P) (call : Call) → IsFormed call → Knows s → AllGood s (due k proto r s call)
+  due_good s (took m) is knows = by_good s m (brought m) is knows refl
+  due_good s timed is knows = (tt, tt)
+
+  turns_of : (s : Rep P) (call : Call) → IsFormed call → Knows s → AllGood s (turns k proto r s call)
+  turns_of s call is knows =
       let ts = due k proto r s call in
-      good_if s (is_spent k proto r s call) [] (closed k proto r s ts) tt (good_both ts (closing k proto r (after_turns k proto r s ts)) s (due_good s call is) (closing_good (after_turns k proto r s ts)))
+      good_if s (is_spent k proto r s call) [] (closed k proto r s ts) tt (good_both ts (closing k proto r (after_turns k proto r s ts)) s (due_good s call is knows) (closing_good (after_turns k proto r s ts)))
 
 -- ---- what is kept and sent
+
+-- a history of which entries are trimmed begins where the history is the log
+begins_so : (n : ℕ) (kd : Kind) → ((n == 0) || makes_checkpoints kd) ≡ true → (n ≡ 0) ⊎ (is_backup kd ≡ false)
+begins_so n kind.Quorum may = inr refl
+begins_so n kind.ZLight may = inr refl
+begins_so n kind.Chain may = inr refl
+begins_so n kind.ZCert may = inr refl
+begins_so n kind.Backup may =
+    elim (cases_Bool (n == 0)) [
+      | inl none ↦ inl (eqb-true n 0 none)
+      | inr some ↦ let both : false ≡ true = sym (ap (λ (b : Bool). b || false) some) ∙ may in absurd (cc (both))
+    ]
 
 no_requests : IsWritten []
 no_requests = ((omega arith, omega arith), (All-nil (IsRequest 0 15), λ i j d e less. absurd (omega (arith, less))))
@@ -273,6 +253,10 @@ module _ {P : Type 0} (k : RunSetup) (proto : Proto P) {serves : Kind → Bool} 
       let low : min (proto.trimmed s.value) (length log) ≡ proto.trimmed s.value = omega (arith, was.within) in
       subst (λ (n : ℕ). IsWrittenLog n log) low (form.written k.cluster s.at r s.value was.arises)
 
+  pub turns_good : (r : ℕ) (s : Rep P) (call : Call) → IsFormed call → Stands r s → AllGood k proto r s (turns k proto r s call)
+  turns_good r s call formed was =
+      turns_of k proto r s call formed (own_written (proto.trimmed s.value) s.entry.trimmed (state_at k proto s).log s.entry.base (log_written r s was) was.entry.base)
+
   pub abort_written : (r : ℕ) (s : Rep P) → r < replicas k → Stands r s → IsStopContent (abort_content k proto r s)
   abort_written r s lt was =
       after_written (proto.trimmed s.value) (kind_in (within k s.at)) k.cluster.f s.at r (state_at k proto s) (omega arith, few_replicas k.cluster r lt) (placed proto serves k.cluster s.at r s.value was.arises)
@@ -282,12 +266,24 @@ module _ {P : Type 0} (k : RunSetup) (proto : Proto P) {serves : Kind → Bool} 
   longer_within : (n : ℕ) (log longer : List Request) → n ≤ length log → IsPrefix log longer → n ≤ length longer
   longer_within n log longer low begins = omega (arith, low, sym (ap length begins.1) ∙ length-append log begins.0)
 
+  -- and within the log with which it enters
+  entered_within : (r j n : ℕ) (cert : List Signed) (h : List Request) → n ≤ length h → may_begin k proto (j + 1) n ≡ true
+      → proto.trimmed (proto.begin k.cluster (j + 1) r (trimmed_entry h n cert)) ≤ length (proto.state (proto.begin k.cluster (j + 1) r (trimmed_entry h n cert))).log
+  entered_within r j n cert h reaches may =
+      let e = trimmed_entry h n cert in
+      let trims = form.begins_trimmed k.cluster (j + 1) r e in
+      elim (begins_so n (kind_of k.cluster.plan (j + 1)) may) [
+        | inl none ↦ omega (arith, trims, none)
+        | inr own ↦ omega (arith, trims, reaches, ap length (form.logs k.cluster (j + 1) r e (are.serves_all (j + 1) (omega arith)) own))
+      ]
+
   pub turn_keeps : (r : ℕ) (t : RepAction) (s : Rep P) → r < replicas k → IsGood k proto r s t → Stands r s → Stands r (after_turn k proto r s t)
-  turn_keeps r (turn_enter j cert h) s lt good was =
-      let entry : IsWrittenEntry (entry_of h (Some cert)) = record { base = whole_written h good.1.1; cert = λ other is. let same : cert ≡ other = cc (is) in subst (AreAborts 1 7) same good.1.0 } in
+  turn_keeps r (turn_enter j cert n h) s lt good was =
+      let e = trimmed_entry h n cert in
+      let entry : IsWrittenEntry e = record { base = good.2; cert = λ other is. let same : cert ≡ other = cc (is) in subst (AreAborts 1 7) same good.1 } in
       record {
-        arises = from_entry (entry_of h (Some cert)) (are.serves_all (j + 1) (omega arith)) (omega arith, omega (arith, good.0)) lt entry;
-        within = omega (arith, form.begins_trimmed k.cluster (j + 1) r (entry_of h (Some cert)));
+        arises = from_entry e (are.serves_all (j + 1) (omega arith)) (omega arith, omega (arith, good.0)) lt entry;
+        within = entered_within r j n cert h good.2.reaches good.3;
         entry = entry;
         abort = λ v is. absurd (cc (is));
       }
@@ -344,7 +340,7 @@ module _ {P : Type 0} (k : RunSetup) (proto : Proto P) {serves : Kind → Bool} 
           subst (IsDraftOf k.cluster.f (Replica r)) (Contains-one sent o one) (record { draft = formed; own = λ q at. subst (λ (z : Content). maker_of z ≡ Replica r) (Contains-one content q at) own })
 
   pub turn_drafts : (r : ℕ) (t : RepAction) (s : Rep P) → r < replicas k → IsGood k proto r s t → Stands r s → (o : Out) → Contains (sent_in_turn k proto r s t) o → IsDraftOf k.cluster.f (Replica r) o
-  turn_drafts r (turn_enter j cert h) s lt good was o has = absurd (Contains-none o has)
+  turn_drafts r (turn_enter j cert n h) s lt good was o has = absurd (Contains-none o has)
   turn_drafts r (turn_call call) s lt good was o has = record {
     draft = form.drafts k.cluster s.at r (pen_of k proto r s) s.value call (λ q n. are.signs r q n lt) was.arises good o has;
     own = λ q at. (form.own k.cluster s.at r (pen_of k proto r s) s.value call o q (belongs proto serves k.cluster s.at r s.value was.arises) has at).0;
@@ -379,4 +375,4 @@ module _ {P : Type 0} (k : RunSetup) (proto : Proto P) {serves : Kind → Bool} 
 
   pub call_goes : (r : ℕ) (s : Rep P) (call : Call) → r < replicas k → IsFormed call → Stands r s → Goes r (rep_after k proto r s call) (rep_sends k proto r s call)
   call_goes r s call lt formed was =
-      turns_go r (turns k proto r s call) s lt (turns_good k proto r s call formed) was
+      turns_go r (turns k proto r s call) s lt (turns_good r s call formed was) was

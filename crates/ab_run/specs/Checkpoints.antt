@@ -1,7 +1,5 @@
 -- Which CHECKPOINTs a replica makes, and what it states of a log that is trimmed.
-use Rattle.std.specs.Prelude.{ℕ, zero, suc, ◌==◌, Bool, true, false, if◌then◌else◌, Option, None, Some, List, [], ◌∷◌, ◌++◌, take, drop}
-use Rattle.ab_num.specs.declared.plan.Kind.{Kind}
-use Rattle.ab_num.specs.declared.plan.Kind.TheVariants as kind
+use Rattle.std.specs.Prelude.{ℕ, zero, suc, ◌==◌, if◌then◌else◌, Option, None, Some, List, [], ◌∷◌, ◌++◌, take, drop}
 use Rattle.ab_num.specs.declared.party.Party.TheVariants.{Replica}
 use Rattle.ab_hist.specs.declared.request.Request.{Request}
 use Rattle.ab_hist.specs.Digests.{digest_of}
@@ -13,15 +11,8 @@ use Rattle.ab_msg.specs.declared.message.Out.{Out}
 use Rattle.ab_abs.specs.declared.rule.ReplyRule.{ReplyRule}
 use Rattle.ab_abs.specs.Acts.{State, abort_content}
 use Rattle.ab_abs.specs.Kinds.{kind_in}
+use Rattle.ab_stable.specs.Offers.{makes_checkpoints}
 use Rattle.ab_run.specs.Setups.{RunSetup, within}
-
--- whether replicas make CHECKPOINTs in instances of this kind
-abbrev pub makes_checkpoints : Kind → Bool
-makes_checkpoints kind.Quorum = true
-makes_checkpoints kind.ZLight = true
-makes_checkpoints kind.Chain = true
-makes_checkpoints kind.Backup = false
-makes_checkpoints kind.ZCert = false
 
 -- after how many requests one is due in instance i, 0 if none ever is
 abbrev pub every_in : RunSetup → ℕ → ℕ
