@@ -72,7 +72,7 @@ module _ {P : Type 0} (k : RunSetup) (proto : Proto P) (r : ℕ) where
 
   module _ {serves : Kind → Bool} (form : KeepsForm proto serves) where
     counts_turn : (contents : List Content) (s : Rep P) (t : RepAction) → Counts contents s → Counts (contents ++ signed_in_turn k proto r s t) (after_turn k proto r s t)
-    counts_turn contents s (turn_enter j cert h) counts = record { used = ap length (append-nil contents) ∙ counts.used; abort = λ v is. absurd (cc is) }
+    counts_turn contents s (turn_enter j cert n h) counts = record { used = ap length (append-nil contents) ∙ counts.used; abort = λ v is. absurd (cc is) }
     counts_turn contents s (turn_call call) counts = record {
       used = length-append contents (proto.signs s.value call) ∙ ap (λ n. n + length (proto.signs s.value call)) counts.used;
       abort = λ v is. longer contents (proto.signs s.value call) v (counts.abort v is);
@@ -96,7 +96,7 @@ module _ {P : Type 0} (k : RunSetup) (proto : Proto P) (r : ℕ) where
     counts_turn contents s (turn_trim n) counts = record { used = (none contents s counts).used; abort = (none contents s counts).abort }
 
     sent_turn : (contents : List Content) (s : Rep P) (t : RepAction) → Counts contents s → AreNumbered k r (contents ++ signed_in_turn k proto r s t) (sent_in_turn k proto r s t)
-    sent_turn contents s (turn_enter j cert h) counts o v has in_it = absurd (Contains-none o has)
+    sent_turn contents s (turn_enter j cert n h) counts o v has in_it = absurd (Contains-none o has)
     sent_turn contents s (turn_call call) counts o v has in_it =
         let (n, at, sig) = form.signed (pen_of k proto r s) s.value call o v has in_it in
         record {

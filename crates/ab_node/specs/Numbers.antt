@@ -19,7 +19,7 @@ use Rattle.ab_node.specs.Locality.{calls_in, sent_locally}
 module _ {P : Type 0} (k : RunSetup) (proto : Proto P) (r : ℕ) where
   -- the contents that it signs in a turn, one number after the other
   abbrev pub signed_in_turn : Rep P → RepAction → List Content
-  signed_in_turn s (turn_enter j cert h) = []
+  signed_in_turn s (turn_enter j cert n h) = []
   signed_in_turn s (turn_call call) = proto.signs s.value call
   signed_in_turn s turn_halt = []
   signed_in_turn s turn_sign = abort_content k proto r s ∷ []

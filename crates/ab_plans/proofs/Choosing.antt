@@ -1,5 +1,6 @@
 -- A choice between two lawful protocols keeps the laws that a run rests on.
-use Rattle.std.proofs.Common.{◌≡◌, ℕ, Bool, true, false, None, List, [], refl}
+use Rattle.std.proofs.Common.{◌≡◌, ℕ, Bool, true, false, ◌||◌, None, List, [], ◌⊎◌, refl, ap, inl, inr}
+use Rattle.std.specs.Prelude.{IsTrue}
 use Rattle.ab_num.specs.declared.plan.Kind.{Kind}
 use Rattle.ab_num.specs.Places.{kind_of}
 use Rattle.ab_num.specs.declared.cluster.Cluster.{Cluster}
@@ -7,6 +8,8 @@ use Rattle.ab_svc.specs.Machines.{Machine}
 use Rattle.ab_abs.specs.Observations.{observed_in}
 use Rattle.ab_abs.specs.Instances.{IsAbstract}
 use Rattle.ab_abs.specs.Acts.{Act, Setting, observations, named_in}
+use Rattle.ab_abs.specs.declared.entry.Entry.{Entry}
+use Rattle.ab_abs.specs.Kinds.{is_backup}
 use Rattle.ab_abs.specs.Ensembles.{Proto, entry_of}
 use Rattle.ab_abs.specs.FormLaws.{KeepsPlace, IsBlank, Belongs}
 use Rattle.ab_plans.specs.declared.choice.Choice.{Choice}
@@ -27,6 +30,23 @@ module _ {P Q : Type 0} (p : Proto P) (q : Proto Q) (serves_p serves_q : Kind �
     starts_in true c r = place_p.starts c r
     starts_in false c r = place_q.starts c r
 
+    halts_in : (v : Choice P Q) → ((both.state (both.halt v)).log ≡ (both.state v).log) × (((both.state (both.halt v)).stopped ≡ true) ⊎ (both.halt v ≡ v))
+    halts_in (First v) = let h = place_p.halts v in (h.0, elim h.1 [ inl stopped ↦ inl stopped | inr same ↦ inr (ap First same) ])
+    halts_in (Second v) = let h = place_q.halts v in (h.0, elim h.1 [ inl stopped ↦ inl stopped | inr same ↦ inr (ap Second same) ])
+
+    logs_in : (b : Bool) (c : Cluster) (i r : ℕ) (e : Entry) → serves_p (kind_of c.plan i) ≡ b → IsTrue (b || serves_q (kind_of c.plan i)) → is_backup (kind_of c.plan i) ≡ false
+        → (both.state (begins p q b c i r e)).log ≡ e.base
+    logs_in true c i r e is served other = place_p.logs c i r e is other
+    logs_in false c i r e is served other = place_q.logs c i r e served other
+
+    enters_in : (b : Bool) (c : Cluster) (i r : ℕ) (e : Entry) → (both.state (begins p q b c i r e)).entered ≡ e.base
+    enters_in true c i r e = place_p.enters c i r e
+    enters_in false c i r e = place_q.enters c i r e
+
+    begins_trimmed_in : (b : Bool) (c : Cluster) (i r : ℕ) (e : Entry) → both.trimmed (begins p q b c i r e) ≡ e.trimmed
+    begins_trimmed_in true c i r e = place_p.begins_trimmed c i r e
+    begins_trimmed_in false c i r e = place_q.begins_trimmed c i r e
+
     pub place_law : KeepsPlace both (either serves_p serves_q)
     place_law = record {
       starts = λ c r. starts_in (serves_p (kind_of c.plan 1)) c r;
@@ -39,6 +59,18 @@ module _ {P Q : Type 0} (p : Proto P) (q : Proto Q) (serves_p serves_q : Kind �
         | Second v ↦ λ call cert was. place_q.settles c i r pen v call cert (belongs_in c i r (Second v) was)
       ];
       trim_rests = λ n. elim [ First v ↦ place_p.trim_rests n v | Second v ↦ place_q.trim_rests n v ];
+      grows = λ pen. elim [ First v ↦ place_p.grows pen v | Second v ↦ place_q.grows pen v ];
+      frozen = λ c i r pen. elim [
+        | First v ↦ λ call was. place_p.frozen c i r pen v call (belongs_in c i r (First v) was)
+        | Second v ↦ λ call was. place_q.frozen c i r pen v call (belongs_in c i r (Second v) was)
+      ];
+      halts = halts_in;
+      logs = λ c i r e served other. logs_in (serves_p (kind_of c.plan i)) c i r e refl served other;
+      enters = λ c i r e. enters_in (serves_p (kind_of c.plan i)) c i r e;
+      trims = λ n. elim [ First v ↦ place_p.trims n v | Second v ↦ place_q.trims n v ];
+      begins_trimmed = λ c i r e. begins_trimmed_in (serves_p (kind_of c.plan i)) c i r e;
+      trimmed_stays = λ pen. elim [ First v ↦ place_p.trimmed_stays pen v | Second v ↦ place_q.trimmed_stays pen v ];
+      trimmed_rests = elim [ First v ↦ place_p.trimmed_rests v | Second v ↦ place_q.trimmed_rests v ];
     }
 
 module _ {S P Q : Type 0} (machine : Machine S) (p : Proto P) (q : Proto Q) (serves_p serves_q : Kind → Bool)

@@ -11,8 +11,9 @@ use Rattle.ab_svc.specs.Machines.{Machine}
 use Rattle.ab_abs.specs.Acts.{Setting, Act}
 use Rattle.ab_abs.specs.Instances.{EachIsAbstract}
 use Rattle.ab_abs.specs.Order.{Ordered}
-use Rattle.ab_abs.specs.Promises.{ServesAll}
-use Rattle.ab_abs.specs.Ensembles.{Proto}
+use Rattle.ab_abs.specs.Promises.{MeetsPremises, ServesAll}
+use Rattle.ab_abs.specs.Deeds.{seen_in, named_in_run}
+use Rattle.ab_abs.specs.Ensembles.{Proto, Ensemble, Reached}
 use Rattle.ab_abs.proofs.Reach.{reached_abstract, reached_ordered}
 use Rattle.ab_plans.specs.ChoiceRules.{sound_by, stands_by}
 use Rattle.ab_abs.specs.Kinds.{is_backup, is_zcert}
@@ -27,24 +28,26 @@ use Rattle.ab_zlight.specs.Rules.{is_zlight}
 use Rattle.ab_run.specs.Setups.{RunSetup}
 use Rattle.ab_run.specs.Runs.{Event, run, named_by}
 use Rattle.ab_run.specs.Premises.{RunPremises, AreFormed}
-use Rattle.ab_run.proofs.Events.{whole_run_abstract, whole_run_ordered}
+use Rattle.ab_run.proofs.Promised.{run_ordered, run_abstract}
 use Rattle.ab_plans.specs.Lawful.{IsLawfulProto}
 use Rattle.ab_plans.specs.Runs.{with_backup, served, is_fast}
 use Rattle.ab_plans.proofs.Choosing.{choice_law}
 
 module _ {S P : Type 0} (machine : Machine S) (proto : Proto P) (serves : Kind → Bool) (sound : Setting → List Act → Type 0) (stands : Setting → P → ℕ → List Act → Type 0) (law : IsLawfulProto machine proto serves sound stands)
     (k : RunSetup) (events : List Event) (all : ServesAll serves k.cluster) (formed : AreFormed k events) (premises : RunPremises k proto events) where
+  instances : (v : Ensemble P) → Reached proto k.cluster k.faulty v → MeetsPremises k.cluster k.faulty v.run → EachIsAbstract machine (seen_in v.run) (named_in_run k.cluster k.faulty v.run) k.faulty
+  instances v reached meets =
+      reached_abstract machine proto sound stands serves law.stands_stays law.sound_nil law.lawful_start law.lawful_on law.lawful_stop law.stands_trimmed law.lawful_others law.sound_abstract law.sound_names k.cluster k.faulty all v reached meets
+
   pub lawful_ordered : Ordered machine (run k proto events).seen (named_by k (run k proto events)) k.faulty
   lawful_ordered =
-      whole_run_ordered machine k proto serves (record { form = law.placed; all = all }) events formed premises
+      run_ordered machine k proto serves (record { form = law.placed; all = all }) instances
       (λ v reached meets.
       reached_ordered machine proto sound stands serves law.stands_stays law.sound_nil law.lawful_start law.lawful_on law.lawful_stop law.stands_trimmed law.lawful_others law.sound_abstract law.sound_names k.cluster k.faulty all v reached meets)
+      events formed premises
 
   pub lawful_abstract : EachIsAbstract machine (run k proto events).seen (named_by k (run k proto events)) k.faulty
-  lawful_abstract =
-      whole_run_abstract machine k proto serves (record { form = law.placed; all = all }) events formed premises
-      (λ v reached meets.
-      reached_abstract machine proto sound stands serves law.stands_stays law.sound_nil law.lawful_start law.lawful_on law.lawful_stop law.stands_trimmed law.lawful_others law.sound_abstract law.sound_names k.cluster k.faulty all v reached meets)
+  lawful_abstract = run_abstract machine k proto serves (record { form = law.placed; all = all }) instances events formed premises
 
 module _ {S Q : Type 0} (machine : Machine S) (orders : OrderProto Q Pbft) (obeys : Obeys orders pbft) where
   pub backup_law : IsLawfulProto machine (backup orders pbft machine) is_backup (backup_sound machine IsPbftSound) (backup_stands orders pbft PbftStands)

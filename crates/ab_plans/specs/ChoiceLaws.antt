@@ -9,7 +9,7 @@ use Rattle.ab_msg.specs.Pens.{Pen}
 use Rattle.ab_abs.specs.declared.seen.Seen.{Seen}
 use Rattle.ab_abs.specs.declared.entry.Entry.{Entry}
 use Rattle.ab_abs.specs.Acts.{Act, Setting, MayStart, Premises, start_of}
-use Rattle.ab_abs.specs.Kinds.{kind_in}
+use Rattle.ab_abs.specs.Kinds.{kind_in, is_backup}
 use Rattle.ab_abs.specs.Rules.{IsStill}
 use Rattle.ab_abs.specs.Messages.{Call}
 use Rattle.ab_abs.specs.Ensembles.{Proto, entry_of, begin_of, asked_of, halt_of, MayTake}
@@ -83,6 +83,11 @@ module _ {P Q : Type 0} (p : Proto P) (q : Proto Q) (serves_p serves_q : Kind �
     begins_in true c i r e = form_p.begins c i r e
     begins_in false c i r e = form_q.begins c i r e
 
+    logs_in : (b : Bool) (c : Cluster) (i r : ℕ) (e : Entry) → serves_p (kind_of c.plan i) ≡ b → IsTrue (b || serves_q (kind_of c.plan i)) → is_backup (kind_of c.plan i) ≡ false
+        → (one_of.state (begins p q b c i r e)).log ≡ e.base
+    logs_in true c i r e is served other = form_p.logs c i r e is other
+    logs_in false c i r e is served other = form_q.logs c i r e served other
+
     pub form_law : KeepsForm one_of serves
     form_law = record {
       starts = λ c r. starts_in (serves_p (kind_of c.plan 1)) c r;
@@ -93,6 +98,7 @@ module _ {P Q : Type 0} (p : Proto P) (q : Proto Q) (serves_p serves_q : Kind �
       ];
       halts = halts_in;
       begins = λ c i r e. begins_in (serves_p (kind_of c.plan i)) c i r e;
+      logs = λ c i r e served other. logs_in (serves_p (kind_of c.plan i)) c i r e refl served other;
       enters = λ c i r e. enters_in (serves_p (kind_of c.plan i)) c i r e;
       entered_stays = λ pen. elim [ First v ↦ form_p.entered_stays pen v | Second v ↦ form_q.entered_stays pen v ];
       entered_rests = elim [ First v ↦ form_p.entered_rests v | Second v ↦ form_q.entered_rests v ];

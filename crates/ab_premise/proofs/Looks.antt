@@ -20,8 +20,8 @@ use Rattle.ab_msg.specs.Claims.{claims, instance_in, maker_of}
 use Rattle.ab_abs.specs.Faults.{is_faulty}
 use Rattle.ab_abs.specs.Acts.{State, with_first}
 use Rattle.ab_abs.specs.Messages.{Call, took, timed}
-use Rattle.ab_abs.specs.Ensembles.{Proto, entry_of}
-use Rattle.ab_abs.specs.Certificates.{history_of}
+use Rattle.ab_abs.specs.Ensembles.{Proto, trimmed_entry}
+use Rattle.ab_stable.specs.Offers.{Based}
 use Rattle.ab_abs.specs.FormLaws.{KeepsForm}
 use Rattle.ab_abs.proofs.Prefixes.{prefix_is_take}
 use Rattle.ab_links.specs.Links.{Continues}
@@ -31,7 +31,7 @@ use Rattle.ab_ckpt.specs.Marks.{Mark, due_of, stable_of}
 use Rattle.ab_msg.specs.declared.content.Content.{Content}
 use Rattle.ab_run.specs.Setups.{RunSetup, replicas, last_instance}
 use Rattle.ab_run.specs.Checkpoints.{every_in, mark_in}
-use Rattle.ab_run.specs.Replicas.{Rep, RepAction, turn_enter, turn_call, turn_halt, turn_sign, turn_bring, turn_abort, turn_mark, turn_keep, turn_trim, state_at, pen_of, after_turn, after_turns, client_of, cert_instance, brought, aborting, aborting_with, halting, trims_with, trimming, keeping_with, keeping, late, here, taken, taken_in, due, due_by, due_with, is_spent, marking, closing, closed, turns}
+use Rattle.ab_run.specs.Replicas.{Rep, RepAction, turn_enter, turn_call, turn_halt, turn_sign, turn_bring, turn_abort, turn_mark, turn_keep, turn_trim, offer_to, may_begin, state_at, pen_of, after_turn, after_turns, client_of, cert_instance, brought, aborting, aborting_with, halting, trims_with, trimming, keeping_with, keeping, late, here, taken, taken_in, due, due_by, due_with, is_spent, marking, closing, closed, turns}
 use Rattle.ab_run.specs.Runs.{Event, invoke, to_replica, to_client, replica_time, client_time, Run, step, start, had_at, histories_for, requests_for}
 use Rattle.ab_run.specs.Local.{rep_after, cue_command, cue_message, cue_time, Cue}
 use Rattle.ab_run.specs.Stages.{had_in_turns, had_in_call, call_histories, call_requests}
@@ -63,7 +63,7 @@ pub data IsCalm : List RepAction → Type 0 where
 -- the same, in the instance where a replica is or in a later one that it enters first
 pub data IsCalmFrom {P : Type 0} (s : Rep P) : List RepAction → Type 0 where
   stays : (ts : List RepAction) → IsCalm ts → IsCalmFrom s ts
-  enters : (j : ℕ) (cert : List Signed) (h : List Request) (ts : List RepAction) → s.at ≤ j → IsCalm ts → IsCalmFrom s (turn_enter j cert h ∷ ts)
+  enters : (j : ℕ) (cert : List Signed) (n : ℕ) (h : List Request) (ts : List RepAction) → s.at ≤ j → IsCalm ts → IsCalmFrom s (turn_enter j cert n h ∷ ts)
 
 calm_if : (b : Bool) (ts us : List RepAction) → IsCalm ts → IsCalm us → IsCalm (if b then ts else us)
 calm_if true ts us one other = one
@@ -93,7 +93,7 @@ calm_join _ us (stops ts all) more = stops (ts ++ us) (quiet_join ts us all more
 
 from_join : {P : Type 0} (s : Rep P) (ts us : List RepAction) → IsCalmFrom s ts → AllQuiet us → IsCalmFrom s (ts ++ us)
 from_join s ts us (stays _ calm) more = stays (ts ++ us) (calm_join ts us calm more)
-from_join s _ us (enters j cert h ts le calm) more = enters j cert h (ts ++ us) le (calm_join ts us calm more)
+from_join s _ us (enters j cert n h ts le calm) more = enters j cert n h (ts ++ us) le (calm_join ts us calm more)
 
 module _ {P : Type 0} (k : RunSetup) (proto : Proto P) where
   halting_calm : (c : ℕ) (s : Rep P) → IsCalm (halting k proto c s)
@@ -147,21 +147,22 @@ module _ {P : Type 0} (k : RunSetup) (proto : Proto P) where
   calm_there : (r : ℕ) (s : Rep P) (m : Msg) → IsCalmFrom s (taken k proto r s m)
   calm_there r s m = stays (taken k proto r s m) (taken_calm r s m (instance_in m))
 
-  entering_calm : (r : ℕ) (s : Rep P) (m : Msg) (j : ℕ) (cert : List Signed) (o : Option (List Request)) → IsCalmFrom s (due_with k proto r s m j cert o)
+  entering_calm : (r : ℕ) (s : Rep P) (m : Msg) (j : ℕ) (cert : List Signed) (o : Option Based) → IsCalmFrom s (due_with k proto r s m j cert o)
   entering_calm r s m j cert None = calm_there r s m
-  entering_calm r s m j cert (Some h) =
-      let there = after_turn k proto r s (turn_enter j cert h) in
-      let may = nat_le s.at j && nat_lt j last_instance in
-      elim (cases_Bool may) [
+  entering_calm r s m j cert (Some b) =
+      let t = turn_enter j cert b.trimmed b.base in
+      let there = after_turn k proto r s t in
+      let rest = nat_lt j last_instance && may_begin k proto (j + 1) b.trimmed in
+      elim (cases_Bool (nat_le s.at j && rest)) [
         | inl goes ↦
-            subst (IsCalmFrom s) (sym (ap (λ (b : Bool). if b then turn_enter j cert h ∷ taken k proto r there m else taken k proto r s m) goes))
-            (enters j cert h (taken k proto r there m) (leb-true s.at j (and_parts (nat_le s.at j) (nat_lt j last_instance) goes).0) (taken_calm r there m (instance_in m)))
-        | inr rests ↦ subst (IsCalmFrom s) (sym (ap (λ (b : Bool). if b then turn_enter j cert h ∷ taken k proto r there m else taken k proto r s m) rests)) (calm_there r s m)
+            subst (IsCalmFrom s) (sym (ap (λ (z : Bool). if z then t ∷ taken k proto r there m else taken k proto r s m) goes))
+            (enters j cert b.trimmed b.base (taken k proto r there m) (leb-true s.at j (and_parts (nat_le s.at j) rest goes).0) (taken_calm r there m (instance_in m)))
+        | inr rests ↦ subst (IsCalmFrom s) (sym (ap (λ (z : Bool). if z then t ∷ taken k proto r there m else taken k proto r s m) rests)) (calm_there r s m)
       ]
 
   by_calm : (r : ℕ) (s : Rep P) (m : Msg) (o : Option (List Signed)) → IsCalmFrom s (due_by k proto r s m o)
   by_calm r s m None = calm_there r s m
-  by_calm r s m (Some cert) = entering_calm r s m (cert_instance cert) cert (history_of k.cluster (cert_instance cert) cert)
+  by_calm r s m (Some cert) = entering_calm r s m (cert_instance cert) cert (offer_to k proto s (cert_instance cert) cert)
 
   pub due_calm : (r : ℕ) (s : Rep P) (call : Call) → IsCalmFrom s (due k proto r s call)
   due_calm r s (took m) = by_calm r s m (brought m)
@@ -290,11 +291,11 @@ module _ {P : Type 0} (k : RunSetup) (proto : Proto P) where
           each = λ h has. inl (is.each h has);
           last = is.last;
         }
-    calm_went r ts s (enters j cert h us le calm) =
-        let there = after_turn k proto r s (turn_enter j cert h) in
+    calm_went r ts s (enters j cert n h us le calm) =
+        let there = after_turn k proto r s (turn_enter j cert n h) in
         let now = after_turns k proto r there us in
         let is = calm_moved r us there calm in
-        let entry = entry_of h (Some cert) in
+        let entry = trimmed_entry h n cert in
         let begins = form.begins k.cluster (j + 1) r entry in
         let entered : (state_at k proto there).entered ≡ h = form.enters k.cluster (j + 1) r entry in
         let apart : (s.at == now.at) ≡ true → ⊥ = λ same. let e : s.at ≡ now.at = eqb-true s.at now.at same in omega (arith, e, is.at, le) in

@@ -75,7 +75,7 @@ module _ {P : Type 0} (k : RunSetup) (proto : Proto P) {serves : Kind → Bool} 
       ((omega arith, few_replicas k.cluster r lt), (placed proto serves k.cluster s.at r s.value was.arises, ((omega (arith, some), omega (arith, within, few)), length-digest_of (take n (state_at k proto s).log))))
 
   turn_makes : (r : ℕ) (t : RepAction) (s : Rep P) → r < replicas k → IsGood k proto r s t → IsWrittenRep proto serves k.cluster r s → (c : Content) → Contains (made_in_turn k proto r s t) c → IsContent c
-  turn_makes r (turn_enter j cert h) s lt good was = nothing
+  turn_makes r (turn_enter j cert n h) s lt good was = nothing
   turn_makes r (turn_call call) s lt good was = λ c has.
       let sends = proto.sends (pen_of k proto r s) s.value call in
       let found = flat_map_cases (λ o. stated k.cluster.f (Replica r) o.msg) sends c has in
@@ -100,7 +100,7 @@ module _ {P : Type 0} (k : RunSetup) (proto : Proto P) {serves : Kind → Bool} 
 
   call_makes : (r : ℕ) (s : Rep P) (call : Call) → r < replicas k → IsFormed call → IsWrittenRep proto serves k.cluster r s → Makes r (rep_makes k proto r s call) (rep_after k proto r s call)
   call_makes r s call lt formed was =
-      turns_make r (turns k proto r s call) s lt (turns_good k proto r s call formed) was
+      turns_make r (turns k proto r s call) s lt (turns_good k proto form are r s call formed was) was
 
 -- ---- the moves of clients
 

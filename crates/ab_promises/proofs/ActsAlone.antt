@@ -1,14 +1,17 @@
 -- In each run what a correct replica makes in an instance is what its own acts there make.
-use Rattle.std.proofs.Common.{◌≡◌, ◌≢◌, ℕ, ◌+◌, ◌<◌, ◌≤◌, Bool, true, false, Option, Some, None, List, [], ◌∷◌, ◌++◌, refl, sym, ap, ◌∙◌, subst, inl, inr, arith, length}
-use Rattle.std.specs.Prelude.{Contains, ◌==◌, ◌&&◌, nat_le, nat_lt, if◌then◌else◌}
-use Rattle.std.proofs.lemmas.Bool.{cases_eq, cases_lt, leb-true, eqb-true, and_parts}
+use Rattle.std.proofs.Common.{◌≡◌, ◌≢◌, ℕ, ◌+◌, ◌<◌, ◌≤◌, Bool, true, false, Option, Some, None, List, [], ◌∷◌, ◌++◌, ◌⊎◌, refl, sym, ap, ◌∙◌, subst, inl, inr, arith, length}
+use Rattle.std.specs.Prelude.{Contains, ◌==◌, ◌&&◌, ◌||◌, nat_le, nat_lt, if◌then◌else◌}
+use Rattle.std.proofs.lemmas.Bool.{cases_Bool, cases_eq, cases_lt, leb-true, eqb-true, and_parts}
 use Rattle.std.proofs.lemmas.List.Elements.{Contains-append_cases}
 use Rattle.std.proofs.lemmas.Option.{none-some}
 use Rattle.ab_num.specs.declared.party.Party.TheVariants.{Replica, Client}
 use Rattle.ab_num.specs.declared.plan.Kind.{Kind}
+use Rattle.ab_num.specs.declared.plan.Kind.TheVariants as kind
+use Rattle.ab_num.specs.Places.{kind_of}
 use Rattle.ab_num.proofs.Lists.{Contains-head, Contains-tail, Contains-none, Contains-one, Contains-flat_map, flat_map_cases}
 use Rattle.ab_hist.specs.declared.request.Request.{Request}
 use Rattle.ab_hist.specs.Histories.{IsHistory}
+use Rattle.ab_hist.specs.Trimmed.{Trimmed}
 use Rattle.ab_msg.specs.declared.content.Content.{Content}
 use Rattle.ab_msg.specs.declared.content.Content.TheVariants.{Req, Panic, Prepare}
 use Rattle.ab_msg.specs.declared.signed.Signed.{Signed}
@@ -22,21 +25,24 @@ use Rattle.ab_abs.specs.declared.seen.Seen.{Seen}
 use Rattle.ab_abs.specs.declared.seen.Seen.TheVariants.{Init}
 use Rattle.ab_abs.specs.declared.entry.Entry.{Entry}
 use Rattle.ab_abs.specs.Faults.{is_faulty}
-use Rattle.ab_abs.specs.Acts.{Act, MayStart, WasMade, setting, unmarked, with_init, observations, own_acts}
-use Rattle.ab_abs.specs.Kinds.{rule_in}
+use Rattle.ab_abs.specs.Acts.{Act, State, MayStart, WasMade, setting, unmarked, with_init, observations, own_acts}
+use Rattle.ab_abs.specs.Kinds.{is_backup, rule_in}
 use Rattle.ab_abs.specs.Certificates.{history_of}
-use Rattle.ab_abs.specs.Ensembles.{Proto, MayTake, entry_of, begin_of, asked_of, halt_of}
+use Rattle.ab_abs.specs.Ensembles.{Proto, MayTake, entry_of, trimmed_entry, begin_of, asked_of, halt_of}
 use Rattle.ab_abs.specs.FormLaws.{KeepsPlace, IsOffered, in_first, by_cert}
 use Rattle.ab_abs.specs.Messages.{Call, took, timed, offered, IsFor, IsFormed}
 use Rattle.ab_abs.specs.Promises.{ServesAll}
 use Rattle.ab_abs.proofs.Certified.{certificate_rises}
+use Rattle.ab_abs.proofs.Prefixes.{prefix_length}
 use Rattle.ab_abs.proofs.Reach.{put_same, put_other}
+use Rattle.ab_stable.specs.Offers.{Based, makes_checkpoints, are_whole, list_of, based_on_list, based_on_whole}
+use Rattle.ab_stable.proofs.Offered.{base_from_list, base_from_whole}
 use Rattle.ab_ckpt.specs.Marks.{Mark, due_of, stable_of}
 use Rattle.ab_ckpt.proofs.StableLemmas.{due_is, stable_are}
 use Rattle.ab_run.specs.Setups.{RunSetup, within, replicas, last_instance}
 use Rattle.ab_run.specs.Checkpoints.{every_in, mark_in}
 use Rattle.ab_run.specs.Clients.{Cli, CliAction, move_ask, move_vote, move_commit, move_keep, move_take, move_panic, move_again, move_spec, move_cert, move_told, made_in_move, moves, panics, asking}
-use Rattle.ab_run.specs.Replicas.{Rep, RepAction, turn_enter, turn_call, turn_halt, turn_sign, turn_bring, turn_abort, turn_mark, turn_keep, turn_trim, client_of, cert_instance, brought, aborting_with, aborting, halting, trims_with, trimming, keeping_with, keeping, here, late, taken_in, taken, due_with, due_by, due, is_spent, marking, closing, closed, turns, state_at, abort_content, checkpoint_at, pen_of, after_turn, after_turns, made_in_turn}
+use Rattle.ab_run.specs.Replicas.{Rep, RepAction, turn_enter, turn_call, turn_halt, turn_sign, turn_bring, turn_abort, turn_mark, turn_keep, turn_trim, client_of, cert_instance, brought, logged_or, own_list, offer_to, may_begin, aborting_with, aborting, halting, trims_with, trimming, keeping_with, keeping, here, late, taken_in, taken, due_with, due_by, due, is_spent, marking, closing, closed, turns, state_at, abort_content, checkpoint_at, pen_of, after_turn, after_turns, made_in_turn}
 use Rattle.ab_run.specs.Runs.{Event, invoke, to_replica, to_client, replica_time, client_time, Run, take_turn, take_turns, take_move, take_moves, at_replica, at_client, step, start, run, checks}
 use Rattle.ab_run.specs.Premises.{AreFormed, IsFormedEvent, IsFormedFor}
 use Rattle.ab_run.proofs.Did.{if_each}
@@ -66,9 +72,30 @@ made_by_client c s (move_spec b sig) q has = absurd (Contains-none q has)
 made_by_client c s (move_cert z) q has = absurd (Contains-none q has)
 made_by_client c s (move_told n) q has = absurd (Contains-none q has)
 
+-- a history of which entries are trimmed begins where the history is the log
+begins_so : (n : ℕ) (kd : Kind) → ((n == 0) || makes_checkpoints kd) ≡ true → (n ≡ 0) ⊎ (is_backup kd ≡ false)
+begins_so n kind.Quorum may = inr refl
+begins_so n kind.ZLight may = inr refl
+begins_so n kind.Chain may = inr refl
+begins_so n kind.ZCert may = inr refl
+begins_so n kind.Backup may =
+    elim (cases_Bool (n == 0)) [
+      | inl none ↦ inl (eqb-true n 0 none)
+      | inr some ↦ let both : false ≡ true = sym (ap (λ (b : Bool). b || false) some) ∙ may in absurd (cc (both))
+    ]
+
+-- what is trimmed of the log is of what a replica knows by itself
+own_reaches : (n : ℕ) (log base : List Request) → n ≤ length log → n ≤ length (logged_or log base)
+own_reaches n [] base low = omega (arith, low)
+own_reaches n (m ∷ log) base low = low
+
 module _ {P : Type 0} (k : RunSetup) (proto : Proto P) (serves : Kind → Bool) (place : KeepsPlace proto serves) (all : ServesAll serves k.cluster) (r : ℕ) (lt : r < replicas k) (good : is_faulty k.faulty (Replica r) ≡ false) where
   abbrev Said : List Content → ℕ → List Act → Type 0
   Said made i acts = (s : Content) → Contains made s → maker_of s ≡ Replica r → instance_of s ≡ i → WasMade acts s
+
+  -- what is trimmed is of its log
+  abbrev IsLow : P → Type 0
+  IsLow p = proto.trimmed p ≤ length (proto.state p).log
 
   -- replica r is in instance i with this value
   record IsHere (i : ℕ) (p : P) (made : List Content) : Type 0 where
@@ -78,6 +105,7 @@ module _ {P : Type 0} (k : RunSetup) (proto : Proto P) (serves : Kind → Bool) 
     said : Said made i acts
     past : (j : ℕ) → j < i → ActsByItself proto k.cluster j r made
     within : (s : Content) → Contains made s → maker_of s ≡ Replica r → instance_of s ≤ i
+    low : IsLow p
 
   abbrev IsNone : List Content → ℕ → Type 0
   IsNone more j = (s : Content) → Contains more s → maker_of s ≡ Replica r → instance_of s ≡ j → ⊥
@@ -102,12 +130,13 @@ module _ {P : Type 0} (k : RunSetup) (proto : Proto P) (serves : Kind → Bool) 
     said = λ s has mine is. elim (Contains-append_cases more made s has) [ inl new ↦ absurd (other s new mine) | inr old ↦ was.said s old mine is ];
     past = λ j less. wider j more made (λ s new mine is. other s new mine) (was.past j less);
     within = λ s has mine. elim (Contains-append_cases more made s has) [ inl new ↦ absurd (other s new mine) | inr old ↦ was.within s old mine ];
+    low = was.low;
   }
 
   -- one more act in the same instance
-  goes_on : (i : ℕ) (p q : P) (a : Act) (more made : List Content) (was : IsHere i p made) → AreActsIn proto k.cluster i r (a ∷ was.acts) q
+  goes_on : (i : ℕ) (p q : P) (a : Act) (more made : List Content) (was : IsHere i p made) → AreActsIn proto k.cluster i r (a ∷ was.acts) q → IsLow q
       → ((s : Content) → Contains more s → (instance_of s ≡ i) × Contains a.made s) → IsHere i q (more ++ made)
-  goes_on i p q a more made was now own = record {
+  goes_on i p q a more made was now low own = record {
     one = was.one;
     acts = a ∷ was.acts;
     are = now;
@@ -120,20 +149,29 @@ module _ {P : Type 0} (k : RunSetup) (proto : Proto P) (serves : Kind → Bool) 
       | inl new ↦ omega (arith, (own s new).0)
       | inr old ↦ was.within s old mine
     ];
+    low = low;
   }
 
   -- it states something in the same instance, and goes on where it is
   says : (i : ℕ) (p : P) (a : Act) (c : Content) (made : List Content) (was : IsHere i p made) → AreActsIn proto k.cluster i r (a ∷ was.acts) p → Contains a.made c → instance_of c ≡ i → IsHere i p ((c ∷ []) ++ made)
   says i p a c made was now states is =
-      goes_on i p p a (c ∷ []) made was now (λ s has. let same : c ≡ s = Contains-one c s has in (subst (λ (z : Content). instance_of z ≡ i) same is, subst (λ (z : Content). Contains a.made z) same states))
+      goes_on i p p a (c ∷ []) made was now was.low (λ s has. let same : c ≡ s = Contains-one c s has in (subst (λ (z : Content). instance_of z ≡ i) same is, subst (λ (z : Content). Contains a.made z) same states))
 
   -- it trims its log
   trims_on : (i n : ℕ) (p : P) (made : List Content) → (proto.state p).stopped ≡ false → proto.trimmed p ≤ n → n ≤ length (proto.state p).log → IsHere i p made → IsHere i (proto.trim n p) made
-  trims_on i n p made runs more within was = record { one = was.one; acts = was.acts; are = trims n was.are runs more within; said = was.said; past = was.past; within = was.within }
+  trims_on i n p made runs more within was = record {
+    one = was.one;
+    acts = was.acts;
+    are = trims n was.are runs more within;
+    said = was.said;
+    past = was.past;
+    within = was.within;
+    low = omega (arith, place.trims n p, ap (λ (t : State). length t.log) (place.trim_rests n p), within);
+  }
 
   -- it begins in a later instance
-  enters : (i j : ℕ) (p : P) (made : List Content) (e : Entry) → e.trimmed ≤ length e.base → i ≤ j → IsHistory e.base → IsHere i p made → IsHere (j + 1) (proto.begin k.cluster (j + 1) r e) made
-  enters i j p made e fits le rises was =
+  enters : (i j : ℕ) (p : P) (made : List Content) (e : Entry) → e.trimmed ≤ length e.base → IsLow (proto.begin k.cluster (j + 1) r e) → i ≤ j → IsHistory e.base → IsHere i p made → IsHere (j + 1) (proto.begin k.cluster (j + 1) r e) made
+  enters i j p made e fits low le rises was =
       let may : MayStart (setting k.cluster [] (j + 1)) [] r e.base = record { within = lt; correct = refl; none = refl; rises = rises; nothing = λ first. absurd (omega (arith, first, le, was.one)) } in
       record {
         one = omega arith;
@@ -151,7 +189,27 @@ module _ {P : Type 0} (k : RunSetup) (proto : Proto P) (serves : Kind → Bool) 
                   ]
             ];
         within = λ s has mine. omega (arith, was.within s has mine, le);
+        low = low;
       }
+
+  -- so it is after a call, a stop, or as it begins
+  called_low : (pen : Pen) (p : P) (call : Call) → IsLow p → IsLow (proto.after pen p call)
+  called_low pen p call low =
+      let log = (proto.state p).log in
+      let longer = (proto.state (proto.after pen p call)).log in
+      omega (arith, low, place.trimmed_stays pen p call, prefix_length log longer (place.grows pen p call))
+
+  halted_low : (p : P) → IsLow p → IsLow (proto.halt p)
+  halted_low p low = omega (arith, low, place.trimmed_rests p, ap length (place.halts p).0)
+
+  begun_low : (j n : ℕ) (cert : List Signed) (h : List Request) → n ≤ length h → may_begin k proto (j + 1) n ≡ true → IsLow (proto.begin k.cluster (j + 1) r (trimmed_entry h n cert))
+  begun_low j n cert h fits may =
+      let e = trimmed_entry h n cert in
+      let trims = place.begins_trimmed k.cluster (j + 1) r e in
+      elim (begins_so n (kind_of k.cluster.plan (j + 1)) may) [
+        | inl none ↦ omega (arith, trims, none)
+        | inr other ↦ omega (arith, trims, fits, ap length (place.logs k.cluster (j + 1) r e (all (j + 1) (omega arith)) other))
+      ]
 
   -- ---- what it may take
 
@@ -185,7 +243,7 @@ module _ {P : Type 0} (k : RunSetup) (proto : Proto P) (serves : Kind → Bool) 
 
   -- when a turn is taken
   abbrev MayTurn : Rep P → RepAction → Type 0
-  MayTurn s (turn_enter j cert h) = (s.at ≤ j) × IsHistory h
+  MayTurn s (turn_enter j cert n h) = (s.at ≤ j) × (n ≤ length h) × IsHistory h × (may_begin k proto (j + 1) n ≡ true)
   MayTurn s (turn_call call) = IsFormed call × IsFor s.at call
   MayTurn s turn_halt = Unit {0}
   MayTurn s turn_sign = (state_at k proto s).stopped ≡ true
@@ -203,17 +261,17 @@ module _ {P : Type 0} (k : RunSetup) (proto : Proto P) (serves : Kind → Bool) 
   Stays s made = IsHere s.at s.value made
 
   turn_stays : (s : Rep P) (t : RepAction) (made : List Content) → MayTurn s t → Stays s made → Stays (after_turn k proto r s t) (made_in_turn k proto r s t ++ made)
-  turn_stays s (turn_enter j cert h) made may was = enters s.at j s.value made (entry_of h (Some cert)) (omega arith) may.0 may.1 was
+  turn_stays s (turn_enter j cert n h) made may was = enters s.at j s.value made (trimmed_entry h n cert) may.1 (begun_low j n cert h may.1 may.3) may.0 may.2 was
   turn_stays s (turn_call call) made may was =
       let pen = pen_of k proto r s in
       let x = setting k.cluster [] s.at in
       let can = may_take s.at was.acts s.value pen call was.are was.one may.0 may.1 (offered call) refl in
-      goes_on s.at s.value (proto.after pen s.value call) (asked_of proto x r pen s.value call can.0) (made_in_turn k proto r s (turn_call call)) made was (takes pen call can.0 was.are can.1)
+      goes_on s.at s.value (proto.after pen s.value call) (asked_of proto x r pen s.value call can.0) (made_in_turn k proto r s (turn_call call)) made was (takes pen call can.0 was.are can.1) (called_low pen s.value call was.low)
       (λ q has.
       let found = statement_by k.cluster.f r (proto.sends pen s.value call) q has in
       ((place.own k.cluster s.at r pen s.value call found.0 q (acts_belong proto serves x r was.acts s.value was.are (all s.at was.one)) found.1 found.2).1, has))
   turn_stays s turn_halt made may was =
-      goes_on s.at s.value (proto.halt s.value) (halt_of proto r s.value) [] made was (stops was.are) (λ q has. absurd (Contains-none q has))
+      goes_on s.at s.value (proto.halt s.value) (halt_of proto r s.value) [] made was (stops was.are) (halted_low s.value was.low) (λ q has. absurd (Contains-none q has))
   turn_stays s turn_sign made may was =
       let x = setting k.cluster [] s.at in
       says s.at s.value (aborts_by proto x r s.value) (abort_content k proto r s) made was (aborts was.are may) (Contains-head (abort_content k proto r s) [])
@@ -310,23 +368,55 @@ module _ {P : Type 0} (k : RunSetup) (proto : Proto P) (serves : Kind → Bool) 
       (λ same. here_may s m i formed is (eqb-true i s.at same))
       (λ _. if_each (MayTurns s) (nat_lt i s.at) (late m) [] (λ _. late_may s m) (λ _. tt))
 
-  due_may_with : (s : Rep P) (m : Msg) (cert : List Signed) (o : Option (List Request)) → IsFormedFor k (Replica r) m → brought m ≡ Some cert → history_of k.cluster (cert_instance cert) cert ≡ o
-      → MayTurns s (due_with k proto r s m (cert_instance cert) cert o)
-  due_may_with s m cert None formed brings is = taken_may s m (instance_in m) formed.of_grammar refl
-  due_may_with s m cert (Some h) formed brings is =
-      let j = cert_instance cert in
-      let now = after_turn k proto r s (turn_enter j cert h) in
+  -- a history with which it enters
+  abbrev MayEnter : Based → Type 0
+  MayEnter b = (b.trimmed ≤ length b.base) × IsHistory b.base
+
+  whole_may : (s : Rep P) (m : Msg) (cert : List Signed) (o : Option (List Request)) (b : Based) → IsFormedFor k (Replica r) m → brought m ≡ Some cert → history_of k.cluster (cert_instance cert) cert ≡ o
+      → based_on_whole (proto.trimmed s.value) (own_list k proto s) o ≡ Some b → MayEnter b
+  whole_may s m cert None b formed brings found is = absurd (cc (is))
+  whole_may s m cert (Some h) b formed brings found is =
+      let by = base_from_whole (proto.trimmed s.value) (own_list k proto s) h b is in
       let rises : IsHistory h =
-      certificate_rises k.cluster k.faulty j cert h (λ g has.
-      let found = flat_map_cases stated_history (signed_contents cert) g has in
-      formed.rises g (Contains-flat_map stated_history (claims k.cluster.f (Replica r) m) found.0 g (brought_checked k.cluster.f r m cert brings found.0 found.1) found.2)) is in
-      if_each (MayTurns s) (nat_le s.at j && nat_lt j last_instance) (turn_enter j cert h ∷ taken k proto r now m) (taken k proto r s m)
-      (λ goes. ((leb-true s.at j (and_parts (nat_le s.at j) (nat_lt j last_instance) goes).0, rises), taken_may now m (instance_in m) formed.of_grammar refl))
+      certificate_rises k.cluster k.faulty (cert_instance cert) cert h (λ g has.
+      let found' = flat_map_cases stated_history (signed_contents cert) g has in
+      formed.rises g (Contains-flat_map stated_history (claims k.cluster.f (Replica r) m) found'.0 g (brought_checked k.cluster.f r m cert brings found'.0 found'.1) found'.2)) found in
+      (omega (arith, by.1, by.2, ap length by.0), subst IsHistory (sym by.0) rises)
+
+  part_may : (s : Rep P) (o : Option Trimmed) (b : Based) → IsLow s.value → based_on_list (proto.trimmed s.value) (own_list k proto s) o ≡ Some b → MayEnter b
+  part_may s None b low is = absurd (cc (is))
+  part_may s (Some t) b low is =
+      let n = proto.trimmed s.value in
+      let by = base_from_list n (own_list k proto s) t (own_reaches n (state_at k proto s).log s.entry.base low) b is in
+      (by.3, by.7)
+
+  offer_may : (s : Rep P) (m : Msg) (cert : List Signed) (b : Based) → IsLow s.value → IsFormedFor k (Replica r) m → brought m ≡ Some cert → offer_to k proto s (cert_instance cert) cert ≡ Some b → MayEnter b
+  offer_may s m cert b low formed brings is =
+      let j = cert_instance cert in
+      let n = proto.trimmed s.value in
+      let by : Bool → Option Based = λ z. if z then based_on_whole n (own_list k proto s) (history_of k.cluster j cert) else based_on_list n (own_list k proto s) (list_of k.cluster j cert) in
+      elim (cases_Bool (are_whole cert)) [
+        | inl whole ↦ whole_may s m cert (history_of k.cluster j cert) b formed brings refl (sym (ap by whole) ∙ is)
+        | inr part ↦ part_may s (list_of k.cluster j cert) b low (sym (ap by part) ∙ is)
+      ]
+
+  due_may_with : (s : Rep P) (m : Msg) (cert : List Signed) (o : Option Based) → IsFormedFor k (Replica r) m → ((b : Based) → o ≡ Some b → MayEnter b) → MayTurns s (due_with k proto r s m (cert_instance cert) cert o)
+  due_may_with s m cert None formed may = taken_may s m (instance_in m) formed.of_grammar refl
+  due_may_with s m cert (Some b) formed may =
+      let j = cert_instance cert in
+      let enter = turn_enter j cert b.trimmed b.base in
+      let now = after_turn k proto r s enter in
+      let begins' = may_begin k proto (j + 1) b.trimmed in
+      if_each (MayTurns s) (nat_le s.at j && (nat_lt j last_instance && begins')) (enter ∷ taken k proto r now m) (taken k proto r s m)
+      (λ goes.
+      let parts = and_parts (nat_le s.at j) (nat_lt j last_instance && begins') goes in
+      let can = may b refl in
+      ((leb-true s.at j parts.0, can.0, can.1, (and_parts (nat_lt j last_instance) begins' parts.1).1), taken_may now m (instance_in m) formed.of_grammar refl))
       (λ _. taken_may s m (instance_in m) formed.of_grammar refl)
 
-  due_may_by : (s : Rep P) (m : Msg) (o : Option (List Signed)) → IsFormedFor k (Replica r) m → brought m ≡ o → MayTurns s (due_by k proto r s m o)
-  due_may_by s m None formed is = taken_may s m (instance_in m) formed.of_grammar refl
-  due_may_by s m (Some cert) formed is = due_may_with s m cert (history_of k.cluster (cert_instance cert) cert) formed is refl
+  due_may_by : (s : Rep P) (m : Msg) (o : Option (List Signed)) → IsLow s.value → IsFormedFor k (Replica r) m → brought m ≡ o → MayTurns s (due_by k proto r s m o)
+  due_may_by s m None low formed is = taken_may s m (instance_in m) formed.of_grammar refl
+  due_may_by s m (Some cert) low formed is = due_may_with s m cert (offer_to k proto s (cert_instance cert) cert) formed (λ b found. offer_may s m cert b low formed is found)
 
   spared : (s : Rep P) (call : Call) → MayTurns s (due k proto r s call) → MayTurns s (turns k proto r s call)
   spared s call may =
@@ -334,8 +424,8 @@ module _ {P : Type 0} (k : RunSetup) (proto : Proto P) (serves : Kind → Bool) 
       let now = after_turns k proto r s ts in
       if_each (MayTurns s) (is_spent k proto r s call) [] (closed k proto r s ts) (λ _. tt) (λ _. may_join ts (closing k proto r now) s may (closing_may now))
 
-  took_may : (s : Rep P) (m : Msg) → IsFormedFor k (Replica r) m → MayTurns s (turns k proto r s (took m))
-  took_may s m formed = spared s (took m) (due_may_by s m (brought m) formed refl)
+  took_may : (s : Rep P) (m : Msg) → IsLow s.value → IsFormedFor k (Replica r) m → MayTurns s (turns k proto r s (took m))
+  took_may s m low formed = spared s (took m) (due_may_by s m (brought m) low formed refl)
 
   timed_may : (s : Rep P) → MayTurns s (turns k proto r s timed)
   timed_may s = spared s timed ((tt, tt), tt)
@@ -344,7 +434,7 @@ module _ {P : Type 0} (k : RunSetup) (proto : Proto P) (serves : Kind → Bool) 
 
   -- another replica makes what is its own, and leaves this one where it is
   made_by_other : (q : ℕ) (s : Rep P) (t : RepAction) (c : Content) → Contains (made_in_turn k proto q s t) c → maker_of c ≡ Replica q
-  made_by_other q s (turn_enter j cert h) c has = absurd (Contains-none c has)
+  made_by_other q s (turn_enter j cert n h) c has = absurd (Contains-none c has)
   made_by_other q s (turn_call call) c has = (statement_by k.cluster.f q (proto.sends (pen_of k proto q s) s.value call) c has).3
   made_by_other q s turn_halt c has = absurd (Contains-none c has)
   made_by_other q s turn_sign c has = ap maker_of (sym (Contains-one (abort_content k proto q s) c has)) ∙ (stop_is (proto.trimmed s.value) (rule_in (within k s.at)) s.at q (state_at k proto s)).1
@@ -398,7 +488,7 @@ module _ {P : Type 0} (k : RunSetup) (proto : Proto P) (serves : Kind → Bool) 
         | inl e ↦
             let now : IsFormedFor k (Replica r) m → StaysIn (step k proto w (to_replica r m)) =
             λ so. let ts = turns k proto r (w.reps r) (took m) in
-            unless (nat_lt r (replicas k)) w (at_replica k proto r (checks k (Replica r) m w) ts) was (own_stays ts (checks k (Replica r) m w) (took_may (w.reps r) m so) was) in
+            unless (nat_lt r (replicas k)) w (at_replica k proto r (checks k (Replica r) m w) ts) was (own_stays ts (checks k (Replica r) m w) (took_may (w.reps r) m was.low so) was) in
             subst (λ (z : ℕ). IsFormedFor k (Replica z) m → StaysIn (step k proto w (to_replica z m))) e now formed
         | inr ne ↦
             let ts = turns k proto q (w.reps q) (took m) in
@@ -430,6 +520,7 @@ module _ {P : Type 0} (k : RunSetup) (proto : Proto P) (serves : Kind → Bool) 
         said = λ s has mine is. absurd (Contains-none s has);
         past = λ j less. inl (λ s has mine is. Contains-none s has);
         within = λ s has mine. absurd (Contains-none s has);
+        low = omega (arith, place.begins_trimmed k.cluster 1 r (entry_of [] None));
       }
 
   run_stays : (events : List Event) → AreFormed k events → StaysIn (run k proto events)

@@ -15,7 +15,7 @@ use Rattle.ab_abs.specs.Observations.{IsInitHistory}
 use Rattle.ab_abs.specs.Acts.{Act, Setting, MayStart, unmarked, with_init, setting, observations, own_acts, state_of}
 use Rattle.ab_abs.specs.Rules.{IsOther, by_client, takes as takes_cert, aborts}
 use Rattle.ab_abs.specs.Deeds.{InstanceAct, acts_in}
-use Rattle.ab_abs.specs.Ensembles.{Proto, Ensemble, EnsembleEvent, begins as begins_in, asked, accepts, panics, trims as trims_in, other, enters, Reached, at_first, further, MayTake, entry_of, begin_of, asked_of, halt_of, did, put}
+use Rattle.ab_abs.specs.Ensembles.{Proto, Ensemble, EnsembleEvent, begins as begins_in, asked, accepts, panics, trims as trims_in, other, enters, Reached, at_first, further, MayTake, entry_of, trimmed_entry, begin_of, asked_of, halt_of, did, put}
 use Rattle.ab_abs.proofs.Facts.{party_eq-Decides, init_later, init_first}
 use Rattle.ab_abs.proofs.Reach.{did_cases, more_state, put_same, put_other}
 use Rattle.ab_promises.specs.OwnCalls.{AreOwnCalls, none_yet, begins, takes, stops, trims, others}
@@ -227,8 +227,8 @@ module _ {P : Type 0} (proto : Proto P) (c : Cluster) (faulty : List Party) wher
           here = before.here;
         };
   }
-  step_keeps w v (enters r j held h lt good begun le rises took_it) was =
-      starts w r (j + 1) (entry_of h (Some held)) (omega arith) lt good (omega arith) (omega (arith, le)) rises (λ e. absurd (omega (arith, e, begun, le))) was
+  step_keeps w v (enters r j n held h lt good begun le fits rises took_it) was =
+      starts w r (j + 1) (trimmed_entry h n held) fits lt good (omega arith) (omega (arith, le)) rises (λ e. absurd (omega (arith, e, begun, le))) was
 
   keeps : (w : Ensemble P) → Reached proto c faulty w → Keeps w
   keeps w (at_first value base) = record {

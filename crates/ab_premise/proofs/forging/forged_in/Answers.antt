@@ -1,7 +1,6 @@
 use Rattle.std.proofs.Common.{List, map, ap, sym, ◌∙◌}
 use Rattle.std.specs.List.{list_any}
 use Rattle.std.specs.Str.{bytes_eq}
-use Rattle.ab_num.specs.declared.party.Party.{Party}
 use Rattle.ab_msg.specs.declared.content.Content.{Content}
 use Rattle.ab_msg.specs.Contents.{spell_content}
 use Rattle.ab_abs.specs.Faults.{is_faulty}

@@ -1,4 +1,4 @@
-use Rattle.std.proofs.Common.{◌≡◌, ◌||◌, map}
+use Rattle.std.proofs.Common.{◌≡◌, ◌||◌}
 use Rattle.std.specs.Prelude.{flat_map}
 use Rattle.ab_links.specs.Digested.{any_found, keep_items}
 use Rattle.ab_premise.specs.Collisions.{content_items}

@@ -1,5 +1,4 @@
 use Rattle.std.proofs.Common.{◌≡◌, ◌||◌, map}
-use Rattle.std.specs.Prelude.{flat_map}
 use Rattle.ab_links.specs.Digested.{any_found, keep_items}
 use Rattle.ab_links.specs.Digested.{request as request_item}
 use Rattle.ab_form.specs.Readers.{listed}
