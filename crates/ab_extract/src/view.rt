@@ -177,9 +177,9 @@ pub fn own_abort(
     })
 }
 
-/// A certificate with parts of its own. Its logs share with `like` what they begin with.
+/// A certificate with parts of its own, valid or not. Its logs share with `like` what they begin with.
 #[tactic(auto, using(ab_wire::proofs::KindLemmas::abort_content))]
-fn own_cert<'a>(
+pub fn own_cert<'a>(
     alloc: Global,
     cert: &ListRef<'a, SignedRef<'a>>,
     like: &History,

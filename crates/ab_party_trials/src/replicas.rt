@@ -35,6 +35,12 @@ const PANIC: [u8; 41] = [
     0, 0, 0, 0, 0, 0, 0, 0, 0,
 ];
 
+/// Its panic in instance 2.
+const NEXT_PANIC: [u8; 41] = [
+    5, 5, 1, 0, 0, 0, 0, 0, 2, 0, 0, 0, 0, 0, 0, 0, 0, 0, 0, 0, 0, 0, 0, 0, 0, 0, 0, 0, 0, 0, 0, 0,
+    0, 0, 0, 0, 0, 0, 0, 0, 0,
+];
+
 /// It makes signatures without bytes.
 #[derive(Drop)]
 struct Blank {
@@ -78,6 +84,23 @@ fn put_aborts(bytes: &mut Vec<u8>) -> Result<(), AllocError> {
 fn init(alloc: Global) -> Result<Vec<u8>, AllocError> {
     let mut bytes = Vec::from_slice(alloc, &[7, 3])?;
     put_aborts(&mut bytes)?;
+    Ok(bytes)
+}
+
+/// Adds the ABORT of instance 1 by replica r, whose log is two entries with this digest, both trimmed, and whose signature is of zeros.
+fn put_trimmed(bytes: &mut Vec<u8>, r: u8, digest: &[u8; 32]) -> Result<(), AllocError> {
+    bytes.extend_from_slice(&[6, 0, 0, r, 0, 0, 0, 1, 255, 255, 0, 2])?;
+    bytes.extend_from_slice(digest)?;
+    bytes.extend_from_slice(&[0, 0, 9, 44])?;
+    bytes.extend_from_slice(&[0; 2348])
+}
+
+/// An INIT with such ABORTs by replicas 0, 1 and 3.
+fn trimmed_init(alloc: Global, digest: &[u8; 32]) -> Result<Vec<u8>, AllocError> {
+    let mut bytes = Vec::from_slice(alloc, &[7, 3])?;
+    put_trimmed(&mut bytes, 0, digest)?;
+    put_trimmed(&mut bytes, 1, digest)?;
+    put_trimmed(&mut bytes, 3, digest)?;
     Ok(bytes)
 }
 
@@ -311,6 +334,27 @@ fn hears_of_two<P: Protocol<Echo>, N: Notary>(
     !done.spent && done.outs == 0
 }
 
+/// Whether a replica answers both requests, and then takes the CHECKPOINTs of the others.
+fn hears_all<P: Protocol<Echo>, N: Notary>(
+    alloc: Global,
+    replica: &mut Replica<Echo, P>,
+    n: &mut N,
+) -> bool
+    requires { IsPenOf (N.pen n.old) (N.remains n.old) replica.old }
+    ensures { result ≡ true → IsPenOf (N.pen n.new) (N.remains n.new) replica.new }
+{
+    if !hears_both(alloc, replica, n) {
+        return false;
+    }
+    if !hears_of_two(alloc, replica, n, 0) {
+        return false;
+    }
+    if !hears_of_two(alloc, replica, n, 1) {
+        return false;
+    }
+    hears_of_two(alloc, replica, n, 3)
+}
+
 /// How many entries are trimmed of the log that it states, and how many aren't, as it is stopped after both requests and the
 /// others' CHECKPOINTs.
 fn stops_after_all<P: Protocol<Echo>, N: Notary>(
@@ -320,19 +364,50 @@ fn stops_after_all<P: Protocol<Echo>, N: Notary>(
 ) -> Option<(u16, usize)>
     requires { IsPenOf (N.pen n.old) (N.remains n.old) replica.old }
 {
-    if !hears_both(alloc, replica, n) {
-        return None;
-    }
-    if !hears_of_two(alloc, replica, n, 0) {
-        return None;
-    }
-    if !hears_of_two(alloc, replica, n, 1) {
-        return None;
-    }
-    if !hears_of_two(alloc, replica, n, 3) {
+    if !hears_all(alloc, replica, n) {
         return None;
     }
     heard(alloc, replica, n, &PANIC).trimmed
+}
+
+/// In which instance it is, and how it then aborts in instance 2, after an INIT with logs whose two trimmed entries have this digest.
+fn enters_by<P: Protocol<Echo>, N: Notary>(
+    alloc: Global,
+    replica: &mut Replica<Echo, P>,
+    n: &mut N,
+    digest: &[u8; 32],
+) -> Option<(u32, Option<(u16, usize)>)>
+    requires { IsPenOf (N.pen n.old) (N.remains n.old) replica.old }
+{
+    let Ok(init) = trimmed_init(alloc, digest) else {
+        return None;
+    };
+    let entry = heard(alloc, replica, n, &init);
+    if entry.spent {
+        return None;
+    }
+    let there = replica.instance();
+    Some((there, heard(alloc, replica, n, &NEXT_PANIC).trimmed))
+}
+
+/// The same of a replica that has heard both requests and the others' CHECKPOINTs, by the digest of its own log or by another.
+fn enters_after_all<P: Protocol<Echo>, N: Notary>(
+    alloc: Global,
+    replica: &mut Replica<Echo, P>,
+    n: &mut N,
+    own: bool,
+) -> Option<(u32, Option<(u16, usize)>)>
+    requires { IsPenOf (N.pen n.old) (N.remains n.old) replica.old }
+{
+    if !hears_all(alloc, replica, n) || replica.log().len() < 2 {
+        return None;
+    }
+    let digest = if own {
+        replica.log().digest_at(2)
+    } else {
+        [0; 32]
+    };
+    enters_by(alloc, replica, n, &digest)
 }
 
 /// Whether replica 2 sends its CHECKPOINT of two entries to the others, if each two requests are to have one.
@@ -359,6 +434,39 @@ fn stops<P: Protocol<Echo>>(alloc: Global, c: &Cluster) -> Option<(u16, usize)>
     let stated = stops_after_all(alloc, &mut replica, &mut pen);
     drop(replica);
     stated
+}
+
+/// In which instance replica 2 is after a certificate of trimmed logs with its own digest, or with another, and how it aborts there.
+fn leads_on<P: Protocol<Echo>>(
+    alloc: Global,
+    c: &Cluster,
+    own: bool,
+) -> Option<(u32, Option<(u16, usize)>)>
+    requires { ServesAll P.serves c.now }
+{
+    let Ok(mut replica) = Replica::<Echo, P>::new(alloc, c, 2, 1) else {
+        return None;
+    };
+    let mut pen = Blank { used: 0, left: 1 };
+    let there = enters_after_all(alloc, &mut replica, &mut pen, own);
+    drop(replica);
+    there
+}
+
+/// The same of a replica whose log is empty.
+fn leads_nobody<P: Protocol<Echo>>(
+    alloc: Global,
+    c: &Cluster,
+) -> Option<(u32, Option<(u16, usize)>)>
+    requires { ServesAll P.serves c.now }
+{
+    let Ok(mut replica) = Replica::<Echo, P>::new(alloc, c, 2, 1) else {
+        return None;
+    };
+    let mut pen = Blank { used: 0, left: 1 };
+    let there = enters_by(alloc, &mut replica, &mut pen, &[0; 32]);
+    drop(replica);
+    there
 }
 
 #[test]
@@ -409,4 +517,34 @@ fn a_stable_log_is_trimmed(rt: HostRuntime) {
         None => None,
     };
     assert!(rt; stated == Some((2, 0)));
+}
+
+#[test]
+fn a_certificate_of_trimmed_logs_leads_on(rt: HostRuntime) {
+    let alloc = rt.alloc();
+    let there = match Cluster::new(1, 4, Plan::Quorum, 2) {
+        Some(c) => leads_on::<Quorum<Echo>>(alloc, &c, true),
+        None => None,
+    };
+    assert!(rt; there == Some((2, Some((2, 0)))));
+}
+
+#[test]
+fn trimmed_logs_of_another_digest_lead_nowhere(rt: HostRuntime) {
+    let alloc = rt.alloc();
+    let there = match Cluster::new(1, 4, Plan::Quorum, 2) {
+        Some(c) => leads_on::<Quorum<Echo>>(alloc, &c, false),
+        None => None,
+    };
+    assert!(rt; there == Some((1, None)));
+}
+
+#[test]
+fn trimmed_logs_lead_no_empty_replica_on(rt: HostRuntime) {
+    let alloc = rt.alloc();
+    let there = match Cluster::new(1, 4, Plan::Quorum, 2) {
+        Some(c) => leads_nobody::<Quorum<Echo>>(alloc, &c),
+        None => None,
+    };
+    assert!(rt; there == Some((1, None)));
 }

@@ -1,57 +1,180 @@
 -- Certificates and the entries that they lead to.
-use Rattle.std.proofs.Common.{◌≡◌, ℕ, ◌+◌, ◌<◌, ◌≤◌, Bool, true, false, ◌&&◌, nat_le, nat_lt, if◌then◌else◌, Option, None, Some, List, refl, arith}
+use Rattle.std.proofs.Common.{◌≡◌, ℕ, ◌+◌, ◌<◌, ◌≤◌, Bool, true, false, ◌&&◌, nat_le, nat_lt, if◌then◌else◌, Option, None, Some, List, length, refl, sym, ap, subst, ◌∙◌, arith}
+use Rattle.std.specs.Prelude.{◌==◌}
 use Rattle.std.specs.Bool.{⊤}
-use Rattle.std.proofs.lemmas.Bool.{leb-true}
+use Rattle.std.proofs.lemmas.Bool.{and_left, and_right, eqb-false, ne_eqb, leb-true, le-leb, le-ltb, lt-leb, lt-ltb, or_parts, or_from}
 use Rattle.ab_num.specs.declared.cluster.Cluster.{Cluster}
+use Rattle.ab_num.specs.Places.{kind_of}
 use Rattle.ab_hist.specs.declared.request.Request.{Request}
+use Rattle.ab_hist.specs.Trimmed.{Trimmed}
 use Rattle.ab_msg.specs.declared.signed.Signed.{Signed}
 use Rattle.ab_msg.specs.declared.message.Msg.{Msg}
 use Rattle.ab_abs.specs.Certificates.{history_of}
-use Rattle.ab_abs.specs.Ensembles.{Proto, entry_of}
+use Rattle.ab_abs.specs.Ensembles.{Proto, trimmed_entry}
 use Rattle.ab_abs.specs.Messages.{took}
+use Rattle.ab_stable.specs.Offers.{Based, are_whole, based_on_list, based_on_whole, list_of, makes_checkpoints, offered_by}
+use Rattle.ab_stable.proofs.Offered.{base_from_list, base_from_whole}
 use Rattle.ab_run.specs.Setups.{RunSetup, last_instance}
-use Rattle.ab_run.specs.Replicas.{Rep, RepAction, brought, cert_instance, due, due_by, due_with, taken}
+use Rattle.ab_run.specs.Replicas.{Rep, RepAction, brought, cert_instance, due, due_by, due_with, logged_or, offer_to, own_list, taken}
 use Rattle.ab_replica.specs.declared.crossing.Crossing.{Crossing}
-use Rattle.ab_replica.specs.Crossings.{crossing_with, crossing_in}
+use Rattle.ab_replica.specs.Crossings.{crossing_with, crossing_by, crossing_in, led_by, may_begin}
+use Rattle.ab_replica.specs.Sites.{Site}
 use Rattle.ab_replica.specs.Doings.{entering}
+
+-- to the instance after j, with this
+abbrev leads_to : ℕ → List Signed → Based → Crossing
+leads_to j cert b = record { instance = j + 1; entry = trimmed_entry b.base b.trimmed cert }
 
 module _ {P : Type 0} (k : RunSetup) (proto : Proto P) (r : ℕ) (s : Rep P) (m : Msg) where
   -- what is due where the message leads over or doesn't
   abbrev pub IsDue : Option Crossing → List RepAction → Type 0
   IsDue None ts = ts ≡ taken k proto r s m
-  IsDue (Some x) ts = (j : ℕ) × (cert : List Signed) × (h : List Request) × (x ≡ record { instance = j + 1; entry = entry_of h (Some cert) }) × (ts ≡ entering k proto r s m j cert h)
+  IsDue (Some x) ts =
+      (j : ℕ) × (cert : List Signed) × (n : ℕ) × (h : List Request) × (x ≡ record { instance = j + 1; entry = trimmed_entry h n cert }) × (ts ≡ entering k proto r s m j cert n h)
 
-  due_if : (j : ℕ) (cert : List Signed) (h : List Request) (b : Bool)
-      → IsDue (if b then Some (record { instance = j + 1; entry = entry_of h (Some cert) }) else None) (if b then entering k proto r s m j cert h else taken k proto r s m)
-  due_if j cert h true = (j, cert, h, refl, refl)
-  due_if j cert h false = refl
+  due_if : (j : ℕ) (cert : List Signed) (b : Based) (goes : Bool)
+      → IsDue (if goes then Some (leads_to j cert b) else None) (if goes then entering k proto r s m j cert b.trimmed b.base else taken k proto r s m)
+  due_if j cert b true = (j, cert, b.trimmed, b.base, refl, refl)
+  due_if j cert b false = refl
 
-  due_of : (j : ℕ) (cert : List Signed) (o : Option (List Request)) → IsDue (crossing_with s.at j cert o) (due_with k proto r s m j cert o)
+  due_of : (j : ℕ) (cert : List Signed) (o : Option Based) → IsDue (crossing_with k.cluster s.at j cert o) (due_with k proto r s m j cert o)
   due_of j cert None = refl
-  due_of j cert (Some h) = due_if j cert h (nat_le s.at j && nat_lt j last_instance)
+  due_of j cert (Some b) = due_if j cert b (nat_le s.at j && (nat_lt j last_instance && may_begin k.cluster (j + 1) b.trimmed))
 
-  due_in : (o : Option (List Signed)) → IsDue (crossing_in k.cluster s.at o) (due_by k proto r s m o)
+  due_in : (o : Option (List Signed)) → IsDue (crossing_in k.cluster s.at (proto.trimmed s.value) (own_list k proto s) o) (due_by k proto r s m o)
   due_in None = refl
-  due_in (Some cert) = due_of (cert_instance cert) cert (history_of k.cluster (cert_instance cert) cert)
+  due_in (Some cert) = due_of (cert_instance cert) cert (offer_to k proto s (cert_instance cert) cert)
 
-  pub due_is : IsDue (crossing_in k.cluster s.at (brought m)) (due k proto r s (took m))
+  pub due_is : IsDue (crossing_in k.cluster s.at (proto.trimmed s.value) (own_list k proto s) (brought m)) (due k proto r s (took m))
   due_is = due_in (brought m)
 
--- where a certificate leads is ahead
-abbrev pub IsAhead : ℕ → Option Crossing → Type 0
-IsAhead at None = ⊤
-IsAhead at (Some x) = at < x.instance
+-- ---- what a certificate brings
 
-ahead_if : (at j : ℕ) (cert : List Signed) (h : List Request) (a b : Bool) → (a ≡ true → at ≤ j)
-    → IsAhead at (if a && b then Some (record { instance = j + 1; entry = entry_of h (Some cert) }) else None)
-ahead_if at j cert h true true low = omega (arith, low refl)
-ahead_if at j cert h true false low = tt
-ahead_if at j cert h false b low = tt
+-- it has what is trimmed of it, and no less than that of the own log
+abbrev HasTrimmed : ℕ → Option Based → Type 0
+HasTrimmed k None = ⊤
+HasTrimmed k (Some b) = (k ≤ b.trimmed) × (b.trimmed ≤ length b.base)
 
-ahead_with : (at j : ℕ) (cert : List Signed) (o : Option (List Request)) → IsAhead at (crossing_with at j cert o)
-ahead_with at j cert None = tt
-ahead_with at j cert (Some h) = ahead_if at j cert h (nat_le at j) (nat_lt j last_instance) (leb-true at j)
+module _ (k : ℕ) (own : List Request) (le : k ≤ length own) where
+  of_list : (t : Option Trimmed) → HasTrimmed k (based_on_list k own t)
+  of_list None = tt
+  of_list (Some t) = by_base (based_on_list k own (Some t)) refl
+    where
+      by_base : (o : Option Based) → based_on_list k own (Some t) ≡ o → HasTrimmed k o
+      by_base None is = tt
+      by_base (Some b) is = let base = base_from_list k own t le b is in (base.2, base.3)
 
-pub ahead : (c : Cluster) (at : ℕ) (o : Option (List Signed)) → IsAhead at (crossing_in c at o)
-ahead c at None = tt
-ahead c at (Some cert) = ahead_with at (cert_instance cert) cert (history_of c (cert_instance cert) cert)
+  of_whole : (h : Option (List Request)) → HasTrimmed k (based_on_whole k own h)
+  of_whole None = tt
+  of_whole (Some h) = by_base (based_on_whole k own (Some h)) refl
+    where
+      by_base : (o : Option Based) → based_on_whole k own (Some h) ≡ o → HasTrimmed k o
+      by_base None is = tt
+      by_base (Some b) is =
+          let base = base_from_whole k own h b is in
+          (omega (arith, base.1), omega (arith, base.1, base.2, ap length base.0))
+
+  of_cert : (c : Cluster) (j : ℕ) (cert : List Signed) → HasTrimmed k (offered_by c k own j cert)
+  of_cert c j cert = by_test (are_whole cert)
+    where
+      by_test : (b : Bool) → HasTrimmed k (if b then based_on_whole k own (history_of c j cert) else based_on_list k own (list_of c j cert))
+      by_test true = of_whole (history_of c j cert)
+      by_test false = of_list (list_of c j cert)
+
+-- ---- which histories may begin an instance
+
+-- where one doesn't, one of which more is trimmed doesn't either
+no_more : (c : Cluster) (i k n : ℕ) → k ≤ n → may_begin c i k ≡ false → may_begin c i n ≡ false
+no_more c i k n le lacks =
+    let both = or_parts (k == 0) (makes_checkpoints (kind_of c.plan i)) lacks in
+    or_from (n == 0) (makes_checkpoints (kind_of c.plan i)) (ne_eqb n 0 (λ none. eqb-false k 0 both.0 (omega (arith, le, none)))) both.1
+
+-- so a certificate leads nowhere if what the own log has trimmed may not begin there
+led_nowhere : (c : Cluster) (j k : ℕ) (cert : List Signed) (o : Option Based) → HasTrimmed k o → may_begin c (j + 1) k ≡ false → led_by c j cert o ≡ None
+led_nowhere c j k cert None has lacks = refl
+led_nowhere c j k cert (Some b) has lacks = ap (λ (goes : Bool). if goes then Some (leads_to j cert b) else None) (no_more c (j + 1) k b.trimmed has.0 lacks)
+
+pub offers_nowhere : (c : Cluster) (j k : ℕ) (own : List Request) (cert : List Signed) → k ≤ length own → may_begin c (j + 1) k ≡ false → led_by c j cert (offered_by c k own j cert) ≡ None
+offers_nowhere c j k own cert le = led_nowhere c j k cert (offered_by c k own j cert) (of_cert k own le c j cert)
+
+-- where it leads from instance at
+from_here : (c : Cluster) (at j : ℕ) (cert : List Signed) (o : Option Based) → at ≤ j → j < last_instance → crossing_with c at j cert o ≡ led_by c j cert o
+from_here c at j cert None low high = refl
+from_here c at j cert (Some b) low high =
+    ap (λ (goes : Bool). if goes && (nat_lt j last_instance && may_begin c (j + 1) b.trimmed) then Some (leads_to j cert b) else None) (le-leb at j low)
+    ∙ ap (λ (goes : Bool). if goes && may_begin c (j + 1) b.trimmed then Some (leads_to j cert b) else None) (lt-ltb j last_instance high)
+
+-- or doesn't
+not_from : (c : Cluster) (at j : ℕ) (cert : List Signed) (o : Option Based) → (nat_le at j && nat_lt j last_instance) ≡ false → crossing_with c at j cert o ≡ None
+not_from c at j cert None lacks = refl
+not_from c at j cert (Some b) lacks = by_tests (nat_le at j) (nat_lt j last_instance) lacks
+  where
+    by_tests : (low high : Bool) → (low && high) ≡ false → (if low && (high && may_begin c (j + 1) b.trimmed) then Some (leads_to j cert b) else None) ≡ None
+    by_tests false high is = refl
+    by_tests true false is = refl
+    by_tests true true is = absurd (cc (is))
+
+module _ (c : Cluster) (at k : ℕ) (own : List Request) (cert : List Signed) (j : ℕ) (names : j ≡ cert_instance cert) where
+  abbrev same : ℕ → Type 0
+  same i = crossing_by c at k own cert ≡ led_by c i cert (offered_by c k own i cert)
+
+  pub goes_by : at ≤ j → j < last_instance → same j
+  goes_by low high =
+      subst same (sym names) (from_here c at (cert_instance cert) cert (offered_by c k own (cert_instance cert) cert) (omega (arith, low, names)) (omega (arith, high, names)))
+
+  pub too_early : j < at → crossing_by c at k own cert ≡ None
+  too_early before =
+      let i = cert_instance cert in
+      not_from c at i cert (offered_by c k own i cert) (and_left (nat_le at i) (nat_lt i last_instance) (lt-leb at i (omega (arith, before, names))))
+
+  pub too_late : last_instance ≤ j → crossing_by c at k own cert ≡ None
+  too_late behind =
+      let i = cert_instance cert in
+      not_from c at i cert (offered_by c k own i cert) (and_right (nat_le at i) (nat_lt i last_instance) (le-ltb i last_instance (omega (arith, behind, names))))
+
+-- ---- where a certificate leads
+
+-- ahead, with a history that may begin there
+pub record MayEnter (c : Cluster) (at : ℕ) (x : Crossing) : Type 0 where
+  pub higher : at < x.instance
+  pub within : x.entry.trimmed ≤ length x.entry.base
+  pub begins : may_begin c x.instance x.entry.trimmed ≡ true
+
+abbrev pub MayLead : Cluster → ℕ → Option Crossing → Type 0
+MayLead c at None = ⊤
+MayLead c at (Some x) = MayEnter c at x
+
+leads_if : (c : Cluster) (at j : ℕ) (cert : List Signed) (b : Based) (low high begins : Bool) → (low ≡ true → at ≤ j) → b.trimmed ≤ length b.base → may_begin c (j + 1) b.trimmed ≡ begins
+    → MayLead c at (if low && (high && begins) then Some (leads_to j cert b) else None)
+leads_if c at j cert b true true true is within begins = record { higher = omega (arith, is refl); within = within; begins = begins }
+leads_if c at j cert b true true false is within begins = tt
+leads_if c at j cert b true false goes is within begins = tt
+leads_if c at j cert b false high goes is within begins = tt
+
+leads_with : (c : Cluster) (at k j : ℕ) (cert : List Signed) (o : Option Based) → HasTrimmed k o → MayLead c at (crossing_with c at j cert o)
+leads_with c at k j cert None has = tt
+leads_with c at k j cert (Some b) has = leads_if c at j cert b (nat_le at j) (nat_lt j last_instance) (may_begin c (j + 1) b.trimmed) (leb-true at j) has.1 refl
+
+pub leads : (c : Cluster) (at k : ℕ) (own : List Request) → k ≤ length own → (o : Option (List Signed)) → MayLead c at (crossing_in c at k own o)
+leads c at k own le None = tt
+leads c at k own le (Some cert) = leads_with c at k (cert_instance cert) cert (offered_by c k own (cert_instance cert) cert) (of_cert k own le c (cert_instance cert) cert)
+
+-- ---- of a replica
+
+module _ {P : Type 0} (proto : Proto P) (m : Msg) where
+  -- where the message leads it
+  abbrev pub own_crossing : Site P → Option Crossing
+  own_crossing s = crossing_in s.cluster s.rep.at (proto.trimmed s.rep.value) (logged_or (proto.state s.rep.value).log s.rep.entry.base) (brought m)
+
+  pub own_is : {q : Site P} (s : Site P) (k : ℕ) (own : List Request) (o : Option Crossing) → q ≡ s → k ≡ proto.trimmed q.rep.value
+      → own ≡ logged_or (proto.state s.rep.value).log s.rep.entry.base → o ≡ crossing_in q.cluster q.rep.at k own (brought m) → o ≡ own_crossing s
+  own_is {q} s k own o same trimmed list is =
+      is ∙ ap (λ (n : ℕ). crossing_in q.cluster q.rep.at n own (brought m)) trimmed
+      ∙ ap (λ (t : Site P). crossing_in t.cluster t.rep.at (proto.trimmed t.rep.value) own (brought m)) same
+      ∙ ap (λ (log : List Request). crossing_in s.cluster s.rep.at (proto.trimmed s.rep.value) log (brought m)) list
+
+  pub own_enters : (s : Site P) (own : List Request) (x : Crossing) → own ≡ logged_or (proto.state s.rep.value).log s.rep.entry.base → proto.trimmed s.rep.value ≤ length own
+      → Some x ≡ own_crossing s → MayEnter s.cluster s.rep.at x
+  own_enters s own x list within is =
+      let log = logged_or (proto.state s.rep.value).log s.rep.entry.base in
+      subst (MayLead s.cluster s.rep.at) (sym is) (leads s.cluster s.rep.at (proto.trimmed s.rep.value) log (omega (arith, within, ap length list)) (brought m))

@@ -11,7 +11,7 @@ use Rattle.ab_msg.specs.declared.message.Out.{Out}
 use Rattle.ab_msg.specs.Pens.{Pen}
 use Rattle.ab_abs.specs.declared.seen.Seen.{Seen}
 use Rattle.ab_abs.specs.declared.seen.Seen.TheVariants.{Init, Cert}
-use Rattle.ab_abs.specs.Ensembles.{Proto, entry_of}
+use Rattle.ab_abs.specs.Ensembles.{Proto, trimmed_entry}
 use Rattle.ab_abs.specs.Messages.{Call, offered}
 use Rattle.ab_run.specs.Replicas.{RepAction, turn_enter, turn_call, accepted, accepted_marks, if_offered, new_first, after_turn, after_turns, pen_of, wanted, taken}
 use Rattle.ab_run.specs.Local.{sent_in_turns, marks_in_turns}
@@ -144,24 +144,24 @@ module _ {P : Type 0} (proto : Proto P) (pen : Pen) (s : Site P) where
   }
   arrives_if ts now e i me h (Err x) does entry outs marks spent = tt
 
-module _ {P : Type 0} (proto : Proto P) (pen : Pen) (s : Site P) (j : ℕ) (cert : List Signed) (h : List Request) where
+module _ {P : Type 0} (proto : Proto P) (pen : Pen) (s : Site P) (j : ℕ) (cert : List Signed) (n : ℕ) (h : List Request) where
   -- the replica as it has entered
   abbrev pub there : Site P
-  there = record s { rep = after_turn (setup_of s pen) proto s.me s.rep (turn_enter j cert h); entries = s.entries + 1 }
+  there = record s { rep = after_turn (setup_of s pen) proto s.me s.rep (turn_enter j cert n h); entries = s.entries + 1 }
 
-  pub enters_spent : (ts : List RepAction) (now : Site P) (outs : List Out) (marks : List Seen) → Does proto pen there ts now outs marks true → Does proto pen s (turn_enter j cert h ∷ ts) s outs marks true
+  pub enters_spent : (ts : List RepAction) (now : Site P) (outs : List Out) (marks : List Seen) → Does proto pen there ts now outs marks true → Does proto pen s (turn_enter j cert n h ∷ ts) s outs marks true
   enters_spent ts now outs marks does =
       let was = was_spent proto pen there ts now outs marks does in
-      same_effects proto pen s (turn_enter j cert h ∷ ts) s outs marks true refl was.silent was.unseen
-      (does_none proto pen s (turn_enter j cert h ∷ ts) (omega (arith, was.over)))
+      same_effects proto pen s (turn_enter j cert n h ∷ ts) s outs marks true refl was.silent was.unseen
+      (does_none proto pen s (turn_enter j cert n h ∷ ts) (omega (arith, was.over)))
 
   pub enters_taken : (ts : List RepAction) (now : Site P) (outs : List Out) (marks : List Seen) → Does proto pen there ts now outs marks false
-      → Does proto pen s (turn_enter j cert h ∷ ts) now outs (Cert j (Replica s.me) h ∷ Init (j + 1) s.me h ∷ marks) false
+      → Does proto pen s (turn_enter j cert n h ∷ ts) now outs (Cert j (Replica s.me) h ∷ Init (j + 1) s.me h ∷ marks) false
   enters_taken ts now outs marks does =
       let was = was_taken proto pen there ts now outs marks does in
       let k = setup_of s pen in
       let more : s.entries + 1 + entries_in ts ≡ s.entries + (1 + entries_in ts) = omega arith in
-      does_all proto pen s (turn_enter j cert h ∷ ts) now outs (Cert j (Replica s.me) h ∷ Init (j + 1) s.me h ∷ marks) (omega (arith, was.fits))
+      does_all proto pen s (turn_enter j cert n h ∷ ts) now outs (Cert j (Replica s.me) h ∷ Init (j + 1) s.me h ∷ marks) (omega (arith, was.fits))
       (was.after ∙ ap (λ n. let t : Site P = record s { rep = after_turns k proto s.me there.rep ts; entries = n } in t) more)
       was.sends
       (ap (λ l. Cert j (Replica s.me) h ∷ Init (j + 1) s.me h ∷ l) was.shows)
@@ -170,26 +170,26 @@ module _ {P : Type 0} (proto : Proto P) (pen : Pen) (s : Site P) (j : ℕ) (cert
   abbrev pub entered_by : Crossing → Site P
   entered_by x = record s { rep = record { at = x.instance; value = proto.begin s.cluster x.instance s.me x.entry; entry = x.entry; abort = None; used = s.rep.used; kept = no_marks }; entries = s.entries + 1 }
 
-  crossing_there : (x : Crossing) (t : Site P) → x ≡ record { instance = j + 1; entry = entry_of h (Some cert) } → t ≡ entered_by x → t ≡ there
+  crossing_there : (x : Crossing) (t : Site P) → x ≡ record { instance = j + 1; entry = trimmed_entry h n cert } → t ≡ entered_by x → t ≡ there
   crossing_there x t leads is = is ∙ ap entered_by leads
 
-  pub crosses_spent : (m : Msg) (x : Crossing) (t now : Site P) (outs : List Out) (shown : List Seen) (spent : Bool) → x ≡ record { instance = j + 1; entry = entry_of h (Some cert) } → t ≡ entered_by x → spent ≡ true
-      → Arrives proto pen t (taken (setup_of t pen) proto t.me t.rep m) now outs shown spent → Does proto pen s (entering (setup_of s pen) proto s.me s.rep m j cert h) s outs shown spent
+  pub crosses_spent : (m : Msg) (x : Crossing) (t now : Site P) (outs : List Out) (shown : List Seen) (spent : Bool) → x ≡ record { instance = j + 1; entry = trimmed_entry h n cert } → t ≡ entered_by x → spent ≡ true
+      → Arrives proto pen t (taken (setup_of t pen) proto t.me t.rep m) now outs shown spent → Does proto pen s (entering (setup_of s pen) proto s.me s.rep m j cert n h) s outs shown spent
   crosses_spent m x t now outs shown spent leads is over arrives =
-      subst (λ (b : Bool). Does proto pen s (entering (setup_of s pen) proto s.me s.rep m j cert h) s outs shown b) (sym over)
-      (subst (λ (l : List Seen). Does proto pen s (entering (setup_of s pen) proto s.me s.rep m j cert h) s outs l true)
+      subst (λ (b : Bool). Does proto pen s (entering (setup_of s pen) proto s.me s.rep m j cert n h) s outs shown b) (sym over)
+      (subst (λ (l : List Seen). Does proto pen s (entering (setup_of s pen) proto s.me s.rep m j cert n h) s outs l true)
       (sym (arrives.shows ∙ ap (with_entry t.rep.at t.me t.rep.entry.base arrives.marks) over))
       (enters_spent (taken (setup_of s pen) proto s.me there.rep m) now outs arrives.marks
       (subst (λ (b : Bool). Does proto pen there (taken (setup_of s pen) proto s.me there.rep m) now outs arrives.marks b) over
       (subst (λ (u : Site P). Does proto pen u (taken (setup_of u pen) proto u.me u.rep m) now outs arrives.marks spent) (crossing_there x t leads is) arrives.does))))
 
-  pub crosses_taken : (m : Msg) (x : Crossing) (t now last : Site P) (outs : List Out) (shown : List Seen) (spent : Bool) → x ≡ record { instance = j + 1; entry = entry_of h (Some cert) } → t ≡ entered_by x → spent ≡ false → last ≡ now
-      → Arrives proto pen t (taken (setup_of t pen) proto t.me t.rep m) now outs shown spent → Does proto pen s (entering (setup_of s pen) proto s.me s.rep m j cert h) last outs shown spent
+  pub crosses_taken : (m : Msg) (x : Crossing) (t now last : Site P) (outs : List Out) (shown : List Seen) (spent : Bool) → x ≡ record { instance = j + 1; entry = trimmed_entry h n cert } → t ≡ entered_by x → spent ≡ false → last ≡ now
+      → Arrives proto pen t (taken (setup_of t pen) proto t.me t.rep m) now outs shown spent → Does proto pen s (entering (setup_of s pen) proto s.me s.rep m j cert n h) last outs shown spent
   crosses_taken m x t now last outs shown spent leads is under same arrives =
       let back : j + 1 - 1 ≡ j = omega arith in
-      subst (λ (b : Bool). Does proto pen s (entering (setup_of s pen) proto s.me s.rep m j cert h) last outs shown b) (sym under)
-      (subst (λ (u : Site P). Does proto pen s (entering (setup_of s pen) proto s.me s.rep m j cert h) u outs shown false) (sym same)
-      (subst (λ (l : List Seen). Does proto pen s (entering (setup_of s pen) proto s.me s.rep m j cert h) now outs l false)
+      subst (λ (b : Bool). Does proto pen s (entering (setup_of s pen) proto s.me s.rep m j cert n h) last outs shown b) (sym under)
+      (subst (λ (u : Site P). Does proto pen s (entering (setup_of s pen) proto s.me s.rep m j cert n h) u outs shown false) (sym same)
+      (subst (λ (l : List Seen). Does proto pen s (entering (setup_of s pen) proto s.me s.rep m j cert n h) now outs l false)
       (sym (arrives.shows ∙ ap (λ (u : Site P). with_entry u.rep.at u.me u.rep.entry.base arrives.marks spent) (crossing_there x t leads is) ∙ ap (with_entry (j + 1) s.me h arrives.marks) under ∙ ap (λ i. Cert i (Replica s.me) h ∷ Init (j + 1) s.me h ∷ arrives.marks) back))
       (enters_taken (taken (setup_of s pen) proto s.me there.rep m) now outs arrives.marks
       (subst (λ (b : Bool). Does proto pen there (taken (setup_of s pen) proto s.me there.rep m) now outs arrives.marks b) under

@@ -15,7 +15,7 @@ use Rattle.ab_replica.specs.Sites.{Site, setup_of}
 use Rattle.ab_replica.specs.Entries.{with_entry}
 
 abbrev pub enters : RepAction → ℕ
-enters (turn_enter j cert h) = 1
+enters (turn_enter j cert n h) = 1
 enters (turn_call call) = 0
 enters turn_halt = 0
 enters turn_sign = 0
@@ -38,8 +38,8 @@ pub record Hears {P : Type 0} (proto : Proto P) (k : RunSetup) (s : Site P) (cal
   pub spends : spent ≡ is_spent k proto s.me s.rep call
 
 -- a replica enters the instance after j, and takes the message there
-abbrev pub entering : {P : Type 0} → RunSetup → Proto P → ℕ → Rep P → Msg → ℕ → List Signed → List Request → List RepAction
-entering k proto r s m j cert h = turn_enter j cert h ∷ taken k proto r (after_turn k proto r s (turn_enter j cert h)) m
+abbrev pub entering : {P : Type 0} → RunSetup → Proto P → ℕ → Rep P → Msg → ℕ → List Signed → ℕ → List Request → List RepAction
+entering k proto r s m j cert n h = turn_enter j cert n h ∷ taken k proto r (after_turn k proto r s (turn_enter j cert n h)) m
 
 module _ {P : Type 0} (proto : Proto P) (k : RunSetup) (s : Site P) (ts : List RepAction) where
   -- whether these turns want more signatures than are left

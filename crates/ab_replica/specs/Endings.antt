@@ -6,7 +6,8 @@ use Rattle.ab_ckpt.specs.Marks.{Mark, keep_mark, due_of, stable_of}
 use Rattle.ab_msg.specs.declared.message.Msg.TheVariants as msg
 use Rattle.ab_msg.specs.declared.message.Out.{Out}
 use Rattle.ab_abs.specs.Ensembles.{Proto}
-use Rattle.ab_run.specs.Checkpoints.{makes_checkpoints, checkpoint_of, own_mark, to_others}
+use Rattle.ab_stable.specs.Offers.{makes_checkpoints}
+use Rattle.ab_run.specs.Checkpoints.{checkpoint_of, own_mark, to_others}
 use Rattle.ab_replica.specs.Sites.{Site}
 
 -- after how many requests a CHECKPOINT is due in instance i, 0 if none ever is

@@ -1,21 +1,22 @@
 //! How a certificate leads a replica to another instance.
 
-ghost use Rattle.std.specs.Prelude.{◌≡◌, ◌+◌, ◌<◌, ◌≤◌, Some, All, IfOk, slice_get};
+ghost use Rattle.std.specs.Prelude.{◌≡◌, ◌+◌, ◌<◌, ◌≤◌, All, IfOk, length, slice_get};
 ghost use Rattle.std.specs.Option.{option_map};
 ghost use Rattle.ab_form.specs.Readers.{listed};
 ghost use Rattle.ab_msg.specs.Certs.{IsSigned};
 ghost use Rattle.ab_msg.specs.Contents.{IsStopContent};
 ghost use Rattle.ab_wire.specs.Views.{IsReceived, aborts, message};
 ghost use Rattle.ab_abs.specs.Certificates.{history_of};
-ghost use Rattle.ab_abs.specs.Ensembles.{entry_of};
+ghost use Rattle.ab_stable.specs.Offers.{based_on_whole, offered_by};
 ghost use Rattle.ab_run.specs.Replicas.{brought, cert_instance};
-ghost use Rattle.ab_replica.specs.Crossings.{crossing_by, crossing_in};
+ghost use Rattle.ab_replica.specs.Crossings.{crossing_by, crossing_in, led_by, may_begin};
 
 use ab_abs::Entry;
-use ab_extract::take_view;
+use ab_extract::{history_view, own_cert};
 use ab_form::{ListRef, Part};
 use ab_hist::History;
 use ab_num::{Cluster, OutOfMemory};
+use ab_stable::{are_whole, based_on, list_of, makes_checkpoints, shows};
 use ab_wire::{MsgRef, OfferRef, SignedRef};
 use std::alloc::Global;
 
@@ -44,70 +45,139 @@ fn cert_instance<'a>(cert: &ListRef<'a, SignedRef<'a>>) -> u32
     }
 }
 
-/// Where a certificate of instance `j` leads, if it is valid. One that isn't is not copied. What its logs have in common with
-/// `like` is not hashed again.
-fn crossing_with<'a>(
+/// Whether a history of which the first `n` entries are trimmed may begin instance `i`.
+fn may_begin(c: &Cluster, i: u32, n: usize) -> bool
+    requires { 1 ≤ i }
+    ensures { result ≡ may_begin c.now i n }
+{
+    n == 0 || makes_checkpoints(c.kind(i))
+}
+
+/// What a certificate of instance `j` that has whole logs alone brings to a replica with this log, of which the first `k` entries
+/// are trimmed. What its first log has in common with the own one is not hashed again.
+fn whole_offer<'a>(
     alloc: Global,
     c: &Cluster,
     j: u32,
     cert: &ListRef<'a, SignedRef<'a>>,
-    like: &History,
-) -> Result<Option<Crossing>, OutOfMemory>
-    requires instance { (1 ≤ j) × (j < 4294967295) }
+    own: &History,
+    k: usize,
+) -> Result<Option<(History, usize)>, OutOfMemory>
+    requires instance { 1 ≤ j }
     requires formed { All (IsSigned IsStopContent) (aborts cert.now) }
-    ensures { IfOk result (λ o. o ≡ option_map (λ h. record { instance = j + 1; entry = entry_of h (Some (aborts cert.now)) }) (history_of c.now j (aborts cert.now))) }
+    requires trimmed { k ≤ length own.now }
+    ensures { IfOk result (λ o. option_map (λ b. record { base = b.0; trimmed = b.1 }) o ≡ based_on_whole k own.now (history_of c.now j (aborts cert.now))) }
 {
-    match take_view(alloc, c, j, cert, Some(like))? {
-        Some((base, aborts)) => Ok(Some(Crossing {
-            instance: j + 1,
-            entry: Entry {
-                base,
-                trimmed: 0,
-                cert: Some(aborts),
-            },
-        })),
+    let Some(base) = history_view(alloc, c, j, cert, Some(own))? else {
+        return Ok(None);
+    };
+    if !shows(own, k, &base) {
+        return Ok(None);
+    }
+    Ok(Some((base, k)))
+}
+
+/// The same of any certificate.
+fn offered_by<'a>(
+    alloc: Global,
+    c: &Cluster,
+    j: u32,
+    cert: &ListRef<'a, SignedRef<'a>>,
+    own: &History,
+    k: usize,
+) -> Result<Option<(History, usize)>, OutOfMemory>
+    requires instance { 1 ≤ j }
+    requires formed { All (IsSigned IsStopContent) (aborts cert.now) }
+    requires trimmed { k ≤ length own.now }
+    ensures { IfOk result (λ o. option_map (λ b. record { base = b.0; trimmed = b.1 }) o ≡ offered_by c.now k own.now j (aborts cert.now)) }
+{
+    if are_whole(cert) {
+        return whole_offer(alloc, c, j, cert, own, k);
+    }
+    match list_of(alloc, c, j, cert)? {
+        Some(list) => based_on(alloc, own, k, &list),
         None => Ok(None),
     }
 }
 
-/// Where a certificate leads a replica that is in instance `at`. One of an earlier instance leads
-/// nowhere, and costs nothing.
+/// Where a certificate of instance `j` leads a replica with this log. One that leads nowhere is not copied.
+fn led_by<'a>(
+    alloc: Global,
+    c: &Cluster,
+    j: u32,
+    cert: &ListRef<'a, SignedRef<'a>>,
+    own: &History,
+    k: usize,
+) -> Result<Option<Crossing>, OutOfMemory>
+    requires instance { (1 ≤ j) × (j < 4294967295) }
+    requires formed { All (IsSigned IsStopContent) (aborts cert.now) }
+    requires trimmed { k ≤ length own.now }
+    ensures { IfOk result (λ o. o ≡ led_by c.now j (aborts cert.now) (offered_by c.now k own.now j (aborts cert.now))) }
+{
+    // No less is trimmed of what it brings.
+    if !may_begin(c, j + 1, k) {
+        return Ok(None);
+    }
+    let Some((base, trimmed)) = offered_by(alloc, c, j, cert, own, k)? else {
+        return Ok(None);
+    };
+    if !may_begin(c, j + 1, trimmed) {
+        return Ok(None);
+    }
+    let aborts = own_cert(alloc, cert, &base)?;
+    Ok(Some(Crossing {
+        instance: j + 1,
+        entry: Entry {
+            base,
+            trimmed,
+            cert: Some(aborts),
+        },
+    }))
+}
+
+/// Where a certificate leads a replica that is in instance `at`, and has this log. One of an earlier instance leads nowhere, and
+/// costs nothing.
 fn crossing_by<'a>(
     alloc: Global,
     c: &Cluster,
     at: u32,
     cert: &ListRef<'a, SignedRef<'a>>,
-    like: &History,
+    own: &History,
+    k: usize,
 ) -> Result<Option<Crossing>, OutOfMemory>
     requires instance { 1 ≤ at }
     requires formed { All (IsSigned IsStopContent) (aborts cert.now) }
-    ensures { IfOk result (λ o. o ≡ crossing_by c.now at (aborts cert.now)) }
+    requires trimmed { k ≤ length own.now }
+    ensures { IfOk result (λ o. o ≡ crossing_by c.now at k own.now (aborts cert.now)) }
 {
     let j = cert_instance(cert);
     if j < at || j == u32::MAX {
         return Ok(None);
     }
-    crossing_with(alloc, c, j, cert, like)
+    led_by(alloc, c, j, cert, own, k)
 }
 
-/// Where the certificate that a message brings leads a replica that is in instance `at`, and has this log.
+/// Where the certificate that a message brings leads a replica that is in instance `at`, and has this log, of which the first `k`
+/// entries are trimmed.
 pub(crate) fn crossing_in(
     alloc: Global,
     c: &Cluster,
     at: u32,
     m: &MsgRef<'_>,
-    log: &History,
+    own: &History,
+    k: usize,
 ) -> Result<Option<Crossing>, OutOfMemory>
     requires instance { 1 ≤ at }
     requires received { IsReceived m.now }
-    ensures { IfOk result (λ o. o ≡ crossing_in c.now at (brought (message m.now))) }
+    requires trimmed { k ≤ length own.now }
+    ensures { IfOk result (λ o. o ≡ crossing_in c.now at k own.now (brought (message m.now))) }
 {
     match m {
-        MsgRef::Init { cert } => crossing_by(alloc, c, at, cert, log),
+        MsgRef::Init { cert } => crossing_by(alloc, c, at, cert, own, k),
         MsgRef::PrePrepare {
             offer: OfferRef::Base(cert),
             ..
-        } => crossing_by(alloc, c, at, cert, log),
+        } => crossing_by(alloc, c, at, cert, own, k),
         _ => Ok(None),
     }
 }

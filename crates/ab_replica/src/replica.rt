@@ -15,13 +15,14 @@ ghost use Rattle.ab_wire.specs.Views.{IsReceived, message};
 ghost use Rattle.ab_abs.specs.Promises.{ServesAll};
 ghost use Rattle.ab_abs.specs.Acts.{abort_content};
 ghost use Rattle.ab_abs.specs.Kinds.{rule_of};
-ghost use Rattle.ab_abs.specs.Ensembles.{entry_of};
+ghost use Rattle.ab_abs.specs.Ensembles.{trimmed_entry};
 ghost use Rattle.ab_abs.specs.Messages.{took, timed, offered};
 ghost use Rattle.ab_abs.specs.Signers.{SignsNothing};
 ghost use Rattle.ab_run.specs.Setups.{RunSetup};
 ghost use Rattle.ab_run.specs.Runs.{first_rep};
-ghost use Rattle.ab_run.specs.Replicas.{aborting, due, halting, here, keeping_with, late, taken, turn_call};
+ghost use Rattle.ab_run.specs.Replicas.{aborting, due, halting, here, keeping_with, late, logged_or, taken, turn_call};
 ghost use Rattle.ab_replica.specs.Sites.{IsPenAfter, IsPenOf, IsSetupOf, Site, first_site, setup_of, stated_by, timer_number};
+ghost use Rattle.ab_replica.specs.Crossings.{may_begin};
 ghost use Rattle.ab_replica.specs.Doings.{Arrives, Does, Hears, entering};
 ghost use Rattle.ab_replica.specs.Endings.{due_at, ended, ended_with, every_at, stable_at, told, told_with, trimmed_by, with_mark, with_own_mark};
 
@@ -38,6 +39,7 @@ use ab_ckpt::Marks;
 use ab_hist::History;
 use ab_msg::{Content, Notary, Out, SignFault, Signed, Zcert};
 use ab_num::{Cluster, Kind, OutOfMemory, Party};
+use ab_stable::makes_checkpoints;
 use ab_svc::Service;
 use ab_wire::MsgRef;
 use std::alloc::Global;
@@ -217,6 +219,19 @@ impl<S: Service, P: Protocol<S>> Replica<S, P> {
         Ok(self.end(done, room))
     }
 
+    /// What it knows of histories by itself: its log, or as long as that is empty the history with which it entered.
+    fn own_list(&self) -> &History
+        ensures list { result.now ≡ logged_or (P.proto.state self.now.rep.value).log self.now.rep.entry.base }
+        ensures trimmed { P.proto.trimmed self.now.rep.value ≤ length result.now }
+    {
+        let log = self.log();
+        if log.len() == 0 {
+            &self.entry.base
+        } else {
+            log
+        }
+    }
+
     /// Does what a message asks for, but for what ends each event.
     fn hear<'a, N: Notary>(
         &mut self,
@@ -231,7 +246,15 @@ impl<S: Service, P: Protocol<S>> Replica<S, P> {
         ensures unused { IfOk result (λ e. e.spent ≡ true → SignsNothing (N.pen n.old) (N.remains n.old) (N.pen n.new) (N.remains n.new)) }
         ensures err { OnErr result (self.new ≡ self.old) }
     {
-        let next = crossing_in(alloc, &self.cluster, self.instance, &m, self.log())?;
+        let trimmed = self.value.trimmed();
+        let next = crossing_in(
+            alloc,
+            &self.cluster,
+            self.instance,
+            &m,
+            self.own_list(),
+            trimmed,
+        )?;
         match next {
             Some(next) => self.enter(alloc, next, m, n),
             None => self.take(alloc, m, n),
@@ -290,9 +313,10 @@ impl<S: Service, P: Protocol<S>> Replica<S, P> {
         ensures every { result ≡ every_at self.now.cluster self.now.rep.at }
         ensures some { 0 < result → 0 < self.now.cluster.every }
     {
-        match self.cluster.kind(self.instance) {
-            Kind::Quorum | Kind::ZLight | Kind::Chain => self.cluster.every,
-            Kind::Backup | Kind::ZCert => 0,
+        if makes_checkpoints(self.cluster.kind(self.instance)) {
+            self.cluster.every
+        } else {
+            0
         }
     }
 
@@ -364,7 +388,8 @@ impl<S: Service, P: Protocol<S>> Replica<S, P> {
     /// The replica as it enters another instance.
     fn entered(&self, alloc: Global, next: Crossing) -> Result<Self, OutOfMemory>
         requires higher { self.now.rep.at < next.instance }
-        requires whole { next.entry.trimmed ≡ 0 }
+        requires within { next.entry.trimmed ≤ length next.entry.base }
+        requires begins { may_begin self.now.cluster next.instance next.entry.trimmed ≡ true }
         ensures { IfOk result (λ q. q ≡ record self.now { rep = record { at = next.instance; value = P.proto.begin self.now.cluster next.instance self.now.me next.entry; entry = next.entry; abort = None; used = self.now.rep.used; kept = no_marks }; entries = self.now.entries + 1 }) }
     {
         let value = P::start(alloc, &self.cluster, next.instance, self.me, &next.entry)?;
@@ -392,10 +417,11 @@ impl<S: Service, P: Protocol<S>> Replica<S, P> {
         n: &mut N,
     ) -> Result<Done, OutOfMemory>
         requires higher { self.old.rep.at < next.instance }
-        requires whole { next.entry.trimmed ≡ 0 }
+        requires within { next.entry.trimmed ≤ length next.entry.base }
+        requires begins { may_begin self.old.cluster next.instance next.entry.trimmed ≡ true }
         requires received { IsReceived m }
         requires pen { IsPenOf (N.pen n.old) (N.remains n.old) self.old }
-        ensures does { (j : ℕ) (cert : List SignedContent) (h : List Request) → next ≡ record { instance = j + 1; entry = entry_of h (Some cert) } → IfOk result (λ e. Does P.proto (N.pen n.old) self.old (entering (setup_of self.old (N.pen n.old)) P.proto self.old.me self.old.rep (message m.entry) j cert h) self.new e.outs e.marks.items e.spent) }
+        ensures does { (j : ℕ) (cert : List SignedContent) (trimmed : ℕ) (h : List Request) → next ≡ record { instance = j + 1; entry = trimmed_entry h trimmed cert } → IfOk result (λ e. Does P.proto (N.pen n.old) self.old (entering (setup_of self.old (N.pen n.old)) P.proto self.old.me self.old.rep (message m.entry) j cert trimmed h) self.new e.outs e.marks.items e.spent) }
         ensures pen { IfOk result (λ e. e.spent ≡ false → IsPenAfter (N.pen n.old) (N.pen n.new) (N.remains n.new) self.new) }
         ensures unused { IfOk result (λ e. e.spent ≡ true → SignsNothing (N.pen n.old) (N.remains n.old) (N.pen n.new) (N.remains n.new)) }
         ensures err { OnErr result (self.new ≡ self.old) }
