@@ -32,14 +32,21 @@ module _ {P : Type 0} (k : RunSetup) (proto : Proto P) (r : ℕ) (s : Rep P) (m 
   IsDue (Some x) ts =
       (j : ℕ) × (cert : List Signed) × (n : ℕ) × (h : List Request) × (x ≡ record { instance = j + 1; entry = trimmed_entry h n cert }) × (ts ≡ entering k proto r s m j cert n h)
 
-  due_if : (j : ℕ) (cert : List Signed) (b : Based) (goes : Bool)
-      → IsDue (if goes then Some (leads_to j cert b) else None) (if goes then entering k proto r s m j cert b.trimmed b.base else taken k proto r s m)
-  due_if j cert b true = (j, cert, b.trimmed, b.base, refl, refl)
-  due_if j cert b false = refl
+  due_if : (j : ℕ) (cert : List Signed) (b : Based) (low high begins : Bool)
+      → IsDue (if low && high then (if begins then Some (leads_to j cert b) else None) else None)
+      (if low && (high && begins) then entering k proto r s m j cert b.trimmed b.base else taken k proto r s m)
+  due_if j cert b true true true = (j, cert, b.trimmed, b.base, refl, refl)
+  due_if j cert b true true false = refl
+  due_if j cert b true false begins = refl
+  due_if j cert b false high begins = refl
+
+  none_due : (goes : Bool) → IsDue (if goes then None else None) (taken k proto r s m)
+  none_due true = refl
+  none_due false = refl
 
   due_of : (j : ℕ) (cert : List Signed) (o : Option Based) → IsDue (crossing_with k.cluster s.at j cert o) (due_with k proto r s m j cert o)
-  due_of j cert None = refl
-  due_of j cert (Some b) = due_if j cert b (nat_le s.at j && (nat_lt j last_instance && may_begin k.cluster (j + 1) b.trimmed))
+  due_of j cert None = none_due (nat_le s.at j && nat_lt j last_instance)
+  due_of j cert (Some b) = due_if j cert b (nat_le s.at j) (nat_lt j last_instance) (may_begin k.cluster (j + 1) b.trimmed)
 
   due_in : (o : Option (List Signed)) → IsDue (crossing_in k.cluster s.at (proto.trimmed s.value) (own_list k proto s) o) (due_by k proto r s m o)
   due_in None = refl
@@ -99,20 +106,13 @@ offers_nowhere c j k own cert le = led_nowhere c j k cert (offered_by c k own j 
 
 -- where it leads from instance at
 from_here : (c : Cluster) (at j : ℕ) (cert : List Signed) (o : Option Based) → at ≤ j → j < last_instance → crossing_with c at j cert o ≡ led_by c j cert o
-from_here c at j cert None low high = refl
-from_here c at j cert (Some b) low high =
-    ap (λ (goes : Bool). if goes && (nat_lt j last_instance && may_begin c (j + 1) b.trimmed) then Some (leads_to j cert b) else None) (le-leb at j low)
-    ∙ ap (λ (goes : Bool). if goes && may_begin c (j + 1) b.trimmed then Some (leads_to j cert b) else None) (lt-ltb j last_instance high)
+from_here c at j cert o low high =
+    ap (λ (goes : Bool). if goes && nat_lt j last_instance then led_by c j cert o else None) (le-leb at j low)
+    ∙ ap (λ (goes : Bool). if goes then led_by c j cert o else None) (lt-ltb j last_instance high)
 
 -- or doesn't
 not_from : (c : Cluster) (at j : ℕ) (cert : List Signed) (o : Option Based) → (nat_le at j && nat_lt j last_instance) ≡ false → crossing_with c at j cert o ≡ None
-not_from c at j cert None lacks = refl
-not_from c at j cert (Some b) lacks = by_tests (nat_le at j) (nat_lt j last_instance) lacks
-  where
-    by_tests : (low high : Bool) → (low && high) ≡ false → (if low && (high && may_begin c (j + 1) b.trimmed) then Some (leads_to j cert b) else None) ≡ None
-    by_tests false high is = refl
-    by_tests true false is = refl
-    by_tests true true is = absurd (cc (is))
+not_from c at j cert o lacks = ap (λ (goes : Bool). if goes then led_by c j cert o else None) lacks
 
 module _ (c : Cluster) (at k : ℕ) (own : List Request) (cert : List Signed) (j : ℕ) (names : j ≡ cert_instance cert) where
   abbrev same : ℕ → Type 0
@@ -144,16 +144,23 @@ abbrev pub MayLead : Cluster → ℕ → Option Crossing → Type 0
 MayLead c at None = ⊤
 MayLead c at (Some x) = MayEnter c at x
 
-leads_if : (c : Cluster) (at j : ℕ) (cert : List Signed) (b : Based) (low high begins : Bool) → (low ≡ true → at ≤ j) → b.trimmed ≤ length b.base → may_begin c (j + 1) b.trimmed ≡ begins
-    → MayLead c at (if low && (high && begins) then Some (leads_to j cert b) else None)
-leads_if c at j cert b true true true is within begins = record { higher = omega (arith, is refl); within = within; begins = begins }
-leads_if c at j cert b true true false is within begins = tt
-leads_if c at j cert b true false goes is within begins = tt
-leads_if c at j cert b false high goes is within begins = tt
+leads_begun : (c : Cluster) (at j : ℕ) (cert : List Signed) (b : Based) (begins : Bool) → at ≤ j → b.trimmed ≤ length b.base → may_begin c (j + 1) b.trimmed ≡ begins
+    → MayLead c at (if begins then Some (leads_to j cert b) else None)
+leads_begun c at j cert b true low within begins = record { higher = omega (arith, low); within = within; begins = begins }
+leads_begun c at j cert b false low within begins = tt
+
+leads_by : (c : Cluster) (at k j : ℕ) (cert : List Signed) (o : Option Based) → HasTrimmed k o → at ≤ j → MayLead c at (led_by c j cert o)
+leads_by c at k j cert None has low = tt
+leads_by c at k j cert (Some b) has low = leads_begun c at j cert b (may_begin c (j + 1) b.trimmed) low has.1 refl
+
+leads_if : (c : Cluster) (at k j : ℕ) (cert : List Signed) (o : Option Based) (low high : Bool) → (low ≡ true → at ≤ j) → HasTrimmed k o
+    → MayLead c at (if low && high then led_by c j cert o else None)
+leads_if c at k j cert o true true is has = leads_by c at k j cert o has (is refl)
+leads_if c at k j cert o true false is has = tt
+leads_if c at k j cert o false high is has = tt
 
 leads_with : (c : Cluster) (at k j : ℕ) (cert : List Signed) (o : Option Based) → HasTrimmed k o → MayLead c at (crossing_with c at j cert o)
-leads_with c at k j cert None has = tt
-leads_with c at k j cert (Some b) has = leads_if c at j cert b (nat_le at j) (nat_lt j last_instance) (may_begin c (j + 1) b.trimmed) (leb-true at j) has.1 refl
+leads_with c at k j cert o has = leads_if c at k j cert o (nat_le at j) (nat_lt j last_instance) (leb-true at j) has
 
 pub leads : (c : Cluster) (at k : ℕ) (own : List Request) → k ≤ length own → (o : Option (List Signed)) → MayLead c at (crossing_in c at k own o)
 leads c at k own le None = tt

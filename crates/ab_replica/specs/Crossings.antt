@@ -22,11 +22,7 @@ led_by c j cert (Some b) =
 
 -- the same from instance at
 abbrev pub crossing_with : Cluster → ℕ → ℕ → List Signed → Option Based → Option Crossing
-crossing_with c at j cert None = None
-crossing_with c at j cert (Some b) =
-    if nat_le at j && (nat_lt j last_instance && may_begin c (j + 1) b.trimmed)
-    then Some (record { instance = j + 1; entry = trimmed_entry b.base b.trimmed cert })
-    else None
+crossing_with c at j cert o = if nat_le at j && nat_lt j last_instance then led_by c j cert o else None
 
 -- of a replica that knows a log by itself, of which the first k entries are trimmed
 abbrev pub crossing_by : Cluster → ℕ → ℕ → List Request → List Signed → Option Crossing
