@@ -19,7 +19,7 @@ use Rattle.ab_abs.specs.declared.rule.ReplyRule.TheVariants as rules
 use Rattle.ab_abs.specs.declared.seen.Seen.TheVariants.{Invoked, Init, Cert, Committed}
 use Rattle.ab_abs.specs.Faults.{is_faulty}
 use Rattle.ab_msg.specs.Claims.{maker_of}
-use Rattle.ab_abs.specs.Acts.{State, Act, observations, state_of, begun_with, abort_by, WasMade, IsHonest, histories, requests, SlotsApart, unmarked}
+use Rattle.ab_abs.specs.Acts.{State, Act, observations, state_of, begun_with, abort_by, WasMade, IsHonest, histories, bases, requests, SlotsApart, unmarked}
 use Rattle.ab_abs.specs.Rules.{AreStated, IsCertified, IsKeptBeside, by_kept, IsOtherBy, by_client, request, aborts, Kept, IsExtension, AreUpTo, with_zcert, IsKeptCert}
 use Rattle.ab_abs.specs.Lawful.{BeginsThere, IsLawfulBy, first, call, other}
 use Rattle.ab_abs.specs.ZcertRules.{ZcertCalls, AreZcertLawful, IsZcertSound}
@@ -28,6 +28,7 @@ use Rattle.ab_abs.specs.SmallZcerts.{small_faulty, begins_z, empty_stopped, keep
 use Rattle.ab_abs.proofs.Prefixes.{prefix_length}
 use Rattle.ab_abs.proofs.Extracts.{starts_with-Decides}
 use Rattle.ab_abs.proofs.Witness.{short}
+use Rattle.ab_abs.specs.Observations.{is_whole_seen}
 
 full_named : (claims : List Content) (c stamp kstamp n o : ℕ) (d b : List ℕ) (reply later : Reply) → stamp ≡ kstamp → n ≡ o → d ≡ b → reply ≡ later
     → IsCertified small_faulty claims c stamp n d reply → IsCertified small_faulty claims c kstamp o b later
@@ -59,6 +60,7 @@ module _ {S : Type 0} (machine : Machine S) (m : Request) where
     commits = λ j k q n e y has. let f = Contains-one (Invoked 1 m.client m) (Committed j k q n e y) has in absurd (cc (f));
     takes = λ j p h has. let f = Contains-one (Invoked 1 m.client m) (Cert j p h) has in absurd (cc (f));
     enters = λ j r h has. let f = Contains-one (Invoked 1 m.client m) (Init j r h) has in absurd (cc (f));
+    whole = λ s has. ap is_whole_seen (sym (Contains-one (Invoked 1 m.client m) s has));
   })
 
   commits_in : (acts : List Act) (votes : List Content) → Contains (observations acts) (Invoked 1 m.client m) → IsCertified small_faulty votes m.client m.stamp 1 (digest_of (m ∷ [])) (reply_to machine m)
@@ -77,6 +79,7 @@ module _ {S : Type 0} (machine : Machine S) (m : Request) where
         );
     takes = λ j p h has. let f = Contains-one (Committed 1 m.client m 1 (digest_of (m ∷ [])) (reply_to machine m)) (Cert j p h) has in absurd (cc (f));
     enters = λ j r h has. let f = Contains-one (Committed 1 m.client m 1 (digest_of (m ∷ [])) (reply_to machine m)) (Init j r h) has in absurd (cc (f));
+    whole = λ s has. ap is_whole_seen (sym (Contains-one (Committed 1 m.client m 1 (digest_of (m ∷ [])) (reply_to machine m)) s has));
   })
 
   takes_in : (acts : List Act) (given : List Content) (h : List Request) → IsKeptCert small_faulty given h → IsOtherBy rules.Certified small_faulty acts (of_client machine m given [] (Cert 1 (Client m.client) h ∷ []))
@@ -88,6 +91,7 @@ module _ {S : Type 0} (machine : Machine S) (m : Request) where
         let f = Contains-one (Cert 1 (Client m.client) h) (Cert j p k) has in
         let k_is : h ≡ k = cc (f) in (cc (f), subst (λ (l : List Request). IsKeptCert small_faulty given l) k_is cert);
     enters = λ j r k has. let f = Contains-one (Cert 1 (Client m.client) h) (Init j r k) has in absurd (cc (f));
+    whole = λ s has. ap is_whole_seen (sym (Contains-one (Cert 1 (Client m.client) h) s has));
   })
 
   nothing_rises : IsHistory []
@@ -331,5 +335,5 @@ module _ {S : Type 0} (machine : Machine S) (m : Request) where
     ),
   )
 
-  pub zcert_witness : NoCollision (histories (small_zcert machine m)) → SlotsApart (histories (small_zcert machine m)) (requests (small_zcert machine m)) → IsZcertSound machine small_faulty (small_zcert machine m)
+  pub zcert_witness : NoCollision (histories (small_zcert machine m)) → SlotsApart (bases (small_zcert machine m)) (requests (small_zcert machine m)) → IsZcertSound machine small_faulty (small_zcert machine m)
   zcert_witness apart slots = record { later_than_none = omega arith; lawful = lawful; premises = record { few = omega arith; honest = honest; apart = apart; slots = slots } }

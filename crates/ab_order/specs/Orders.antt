@@ -11,7 +11,7 @@ use Rattle.ab_msg.specs.declared.value.Value.TheVariants as value
 use Rattle.ab_msg.specs.Slots.{slot_digest}
 use Rattle.ab_abs.specs.Observations.{IsInitHistory}
 use Rattle.ab_abs.specs.declared.seen.Seen.TheVariants.{Init}
-use Rattle.ab_abs.specs.Acts.{Setting, Act, observations, histories, state_of, log_of, base_of, Premises}
+use Rattle.ab_abs.specs.Acts.{Setting, Act, observations, bases, state_of, log_of, base_of, Premises}
 use Rattle.ab_abs.specs.Backing.{IsCorrect}
 use Rattle.ab_abs.specs.OrderRules.{WasClaimed}
 
@@ -75,7 +75,7 @@ pub record IsQuiet (acts : List Act) (a : Act) : Type 0 where
   pub states : (s : Content) → Contains a.made s → is_ordering s ≡ false
   pub rests : (r : ℕ) → state_of (a ∷ acts) r ≡ state_of acts r
 
--- each init history that was observed is a history of the acts, and in instance 1 the empty one is, if any value was shown
+-- each init history that was observed is a base of the acts, and in instance 1 the empty one is, if any value was shown
 pub record AreHeld (x : Setting) (acts : List Act) : Type 0 where
-  pub inits : (r : ℕ) (h : List Request) → Contains (observations acts) (Init x.i r h) → Contains (histories acts) h
-  pub first : x.i ≡ 1 → ((value : Value) → WasShown acts value → ⊥) ⊎ Contains (histories acts) []
+  pub inits : (r : ℕ) (h : List Request) → Contains (observations acts) (Init x.i r h) → Contains (bases acts) h
+  pub first : x.i ≡ 1 → ((value : Value) → WasShown acts value → ⊥) ⊎ Contains (bases acts) []
