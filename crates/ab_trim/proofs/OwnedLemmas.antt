@@ -1,5 +1,5 @@
 -- A list that is made of its entries, one after the other.
-use Rattle.std.proofs.Common.{◌≡◌, ◌∙◌, ◌+◌, ◌<◌, ltb, true, List, [], ◌∷◌, ◌++◌, length, get_or, sym, ap, arith, append-nil, append_assoc}
+use Rattle.std.proofs.Common.{◌≡◌, ◌∙◌, ℕ, suc, ◌+◌, ◌-◌, ◌<◌, ltb, true, Some, List, [], ◌∷◌, ◌++◌, length, drop, get_or, slice_get, sym, ap, subst, arith, append-nil, append_assoc}
 use Rattle.std.specs.List.{list_all}
 use Rattle.std.proofs.lemmas.Bool.{lt-ltb}
 use Rattle.std.proofs.lemmas.List.{length-append, get_or-append-add}
@@ -10,6 +10,7 @@ use Rattle.ab_content.proofs.OwnLemmas.{may-follow}
 use Rattle.ab_hist.specs.Trimmed.{Trimmed, end_of}
 use Rattle.ab_trim.specs.Known.{can_push_by, follows_last}
 use Rattle.ab_trim.specs.Logs.{TrimmedLog, as_last, last_at, log_of, no_lasts, push_log}
+use Rattle.ab_trim.proofs.ChunkLemmas.{drop_here}
 use Rattle.ab_trim.proofs.RestLemmas.{all_follow-Decides}
 use Rattle.ab_trim.proofs.LastLemmas.{none_at}
 
@@ -39,6 +40,12 @@ module _ (own : TrimmedLog) (t : Trimmed) (m : Request) (more : List Request) (i
       let later : list_all (may_follow m) own.list.rest ≡ true = (all_follow-Decides m own.list.rest).1 may.1 in
       let last : follows_last (last_at own.lasts m.client) m ≡ true = ap (λ l. follows_last (last_at l m.client) m) is.lasts ∙ ap (λ o. follows_last (as_last o) m) (none_at 16 m.client) in
       rw (room, few, later) last
+
+-- the next of its entries
+pub next_own : (own : TrimmedLog) (t : Trimmed) (n : ℕ) (m : Request) → IsFrontOf own t (drop n t.rest) → slice_get t.rest (n + 1 - 1) ≡ Some m → IsFrontOf own t (m ∷ drop (n + 1) t.rest)
+next_own own t n m is at =
+    let here : slice_get t.rest n ≡ Some m = ap (slice_get t.rest) (let e : n ≡ n + 1 - 1 = omega arith in e) ∙ at in
+    subst (IsFrontOf own t) (drop_here t.rest n m here ∙ ap (λ k. m ∷ drop k t.rest) (let e : suc n ≡ n + 1 = omega arith in e)) is
 
 pub one_more : (own new : TrimmedLog) (t : Trimmed) (m : Request) (more : List Request) → IsFrontOf own t (m ∷ more) → new ≡ push_log own m → IsFrontOf new t more
 one_more own new t m more is pushed = record {

@@ -1,10 +1,10 @@
 -- Entries in two parts, of which the second goes on where the first ends.
-use Rattle.std.proofs.Common.{◌≡◌, ℕ, ◌+◌, ◌-◌, ◌<◌, ◌≤◌, true, Option, Some, None, Ok, Err, IfSome, IfNone, OnOk, OnErr, List, [], ◌∷◌, ◌++◌, Contains, length, take, drop, slice_get, append_assoc, arith, sym, ◌∙◌, ap, refl, subst, length-append}
+use Rattle.std.proofs.Common.{◌≡◌, ℕ, ◌+◌, ◌-◌, ◌<◌, ◌≤◌, true, Option, Some, None, Ok, Err, IfSome, IfNone, OnOk, OnErr, List, [], ◌∷◌, ◌++◌, Contains, length, take, drop, get_or, slice_get, append_assoc, arith, sym, ◌∙◌, ap, refl, subst, length-append}
 use Rattle.std.specs.Prelude.{Result, Decides}
 use Rattle.std.specs.List.{list_all}
 use Rattle.std.proofs.Math.Seq.{take-append-add}
 use Rattle.std.proofs.lemmas.Bool.Decides.{Decides-by_and, nat_tests}
-use Rattle.std.proofs.lemmas.List.{length-take, length-drop, take_more, drop-drop, drop_at, drop-append-le, take-append-drop, get_or_append_left, get_or-append-add}
+use Rattle.std.proofs.lemmas.List.{get_or-take, length-take, length-drop, take_more, drop-drop, drop_at, drop-append-le, take-append-drop, get_or_append_left, get_or-append-add}
 use Rattle.std.proofs.lemmas.List.Quantifiers.{all_pairs_push}
 use Rattle.std.proofs.lemmas.Option.{slice_get_within, get_or_from_slice_get}
 use Rattle.ab_hist.specs.declared.request.Request.{Request}
@@ -50,6 +50,16 @@ place_more h k m at =
     let here : slice_get h k ≡ Some m = ap (slice_get h) (let e : k ≡ k + 1 - 1 = omega arith in e) ∙ at in
     let within = slice_get_within h k m here in
     (within, take_more h k m within ∙ ap (λ d. take k h ++ d ∷ []) (get_or_from_slice_get h k m m here))
+
+-- and may come next there
+pub next_there : (h : List Request) (k : ℕ) (m : Request) → IsHistory h → slice_get h (k + 1 - 1) ≡ Some m → IsNext (take k h) m
+next_there h k m history at i d short =
+    let here : slice_get h k ≡ Some m = ap (slice_get h) (let e : k ≡ k + 1 - 1 = omega arith in e) ∙ at in
+    let low : i < k = omega (arith, short, length-take k h) in
+    let first : get_or (take k h) i d ≡ get_or h i d = get_or-take k h i d low in
+    let second : m ≡ get_or h k d = sym (get_or_from_slice_get h k m d here) in
+    let pair : Precedes (get_or h i d) (get_or h k d) = history i k d low (slice_get_within h k m here) in
+    rw (first, second) pair
 
 -- what stands at one place in a list and in one that begins with it
 pub same_there : (xs ys : List Request) (k : ℕ) (x y : Request) → slice_get xs (k + 1 - 1) ≡ Some x → slice_get ys (k + 1 - 1) ≡ Some y → take (length xs) ys ≡ xs → x ≡ y

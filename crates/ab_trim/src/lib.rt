@@ -21,7 +21,7 @@ pub use known::{
 pub use lists::{
     grounded_lists_are_whole, links_are_histories, lists_stand_for_one_history, lists_stay,
 };
-pub use owning::own_trimmed;
+pub use owning::{own_trimmed, trimmed_of};
 pub use points::{agreed_lists_are_one, agreed_lists_are_there};
 pub use trimmed::Trimmed;
 pub use writing::put_trimmed;

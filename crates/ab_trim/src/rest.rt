@@ -1,13 +1,13 @@
 //! The entries of a list behind those that are forgotten.
 
-ghost use Rattle.std.specs.Prelude.{◌≡◌, ◌-◌, ◌<◌, ◌≤◌, ◌↔◌, length, take, slice_get, IsTrue, Some, OnOk, OnErr, IfOk, IfSome, IfNone, Contains};
+ghost use Rattle.std.specs.Prelude.{◌≡◌, ◌-◌, ◌<◌, ◌≤◌, ◌↔◌, [], ◌∷◌, ◌++◌, length, take, slice_get, IsTrue, Some, OnOk, OnErr, IfOk, IfSome, IfNone, Contains};
 ghost use Rattle.ab_hist.specs.Histories.{IsHistory, IsNext, place_in};
 ghost use Rattle.ab_hist.specs.Chunks.{begun, grown, front, digest_from};
 ghost use Rattle.ab_trim.specs.Chained.{behind};
 
 use crate::chain::Chain;
 use crate::head::Head;
-use ab_hist::Request;
+use ab_hist::{History, PushFault, Request};
 use ab_num::OutOfMemory;
 use std::alloc::{AllocError, Global};
 use std::marker::Model;
@@ -36,6 +36,19 @@ impl Model for Rest {
     ghost view = { λ r. record { start = r.head.start; requests = r.head.requests ++ r.chain.requests } };
 
     ghost invariant = { λ r. AreJoined r.head r.chain };
+}
+
+/// Adds an entry that may come next, and for which there is room.
+fn add(alloc: Global, h: &mut History, m: Request) -> Result<(), OutOfMemory>
+    requires room { length h.old < 65535 }
+    requires next { IsNext h.old m }
+    ensures { OnOk result (h.new ≡ h.old ++ m ∷ []) }
+{
+    match h.push(alloc, m) {
+        Ok(()) => Ok(()),
+        Err(PushFault::OutOfMemory) => Err(OutOfMemory),
+        Err(_) => unreachable!(),
+    }
 }
 
 /// Whether two requests are equal.
@@ -88,6 +101,17 @@ impl Rest {
         } else {
             self.chain.digest_at(n - first)
         }
+    }
+
+    /// These entries as a history.
+    pub(crate) fn history(&self, alloc: Global) -> Result<History, OutOfMemory>
+        ensures { IfOk result (λ h. h ≡ self.now.requests) }
+    {
+        let mut h = History::new(alloc);
+        'entries: for n in 0..self.len() {
+            add(alloc, &mut h, self.at(n + 1).copy())?;
+        }
+        Ok(h)
     }
 
     /// Whether the stamp of `m` is above those of its client.

@@ -7,7 +7,7 @@ ghost use Rattle.ab_trim.specs.Logs.{IsFull, follows_by, log_of, begun_log, push
 
 use crate::lasts::{all_lasts, copy_lasts, follows_last, no_lasts, note_all, place_of_last};
 use crate::rest::Rest;
-use ab_hist::{PushFault, Request};
+use ab_hist::{History, PushFault, Request};
 use ab_num::OutOfMemory;
 use std::alloc::Global;
 use std::marker::Model;
@@ -104,6 +104,13 @@ impl Trimmed {
         ensures { result ≡ digest_of_front self.now.list n }
     {
         self.rest.digest_at(n - self.start)
+    }
+
+    /// The entries that are not forgotten, as a history.
+    pub fn rest(&self, alloc: Global) -> Result<History, OutOfMemory>
+        ensures { IfOk result (λ h. h ≡ self.now.list.rest) }
+    {
+        self.rest.history(alloc)
     }
 
     /// Whether the list shows that its first `n` entries have that digest.
