@@ -11,7 +11,7 @@ use Rattle.ab_svc.specs.Machines.{Machine}
 use Rattle.ab_msg.specs.declared.content.Content.{Content}
 use Rattle.ab_msg.specs.Carried.{stated_history, stated_request, value_histories, value_requests}
 use Rattle.ab_abs.specs.declared.seen.Seen.{Seen}
-use Rattle.ab_abs.specs.Acts.{Setting, Act, observations, newer, state_of, log_at, log_of, named_in, logs_in_state, firsts_in_state, histories_of_act, histories, requests_of_act, requests, WasMade, IsHonest, Premises}
+use Rattle.ab_abs.specs.Acts.{Setting, Act, observations, newer, state_of, log_at, log_of, named_in, logs_in_state, firsts_in_state, histories_of_act, histories, bases_of_act, bases, requests_of_act, requests, WasMade, IsHonest, Premises}
 use Rattle.ab_abs.specs.Instances.{IsAbstract}
 use Rattle.ab_abs.specs.Observations.{history_at}
 use Rattle.ab_abs.proofs.Facts.{state_quiet}
@@ -112,6 +112,16 @@ module _ (is_mark : Content → Bool) where
   histories_still acts bare h (marks q c older rest is more) has = Contains-append_right (histories_of_act (mark_of q c)) (histories older) h (histories_still older rest h more has)
   histories_still acts bare h (forgets q older rest more) has = histories_still older rest h more has
 
+  bases_still : (acts bare : List Act) (h : List Request) → Leaves is_mark acts bare → Contains (bases bare) h → Contains (bases acts) h
+  bases_still acts bare h nothing has = has
+  bases_still acts bare h (kept a older rest more) has =
+      elim (Contains-append_cases (bases_of_act a) (bases rest) h has) [
+        | inl here ↦ Contains-append_left (bases_of_act a) (bases older) h here
+        | inr later ↦ Contains-append_right (bases_of_act a) (bases older) h (bases_still older rest h more later)
+      ]
+  bases_still acts bare h (marks q c older rest is more) has = Contains-append_right (bases_of_act (mark_of q c)) (bases older) h (bases_still older rest h more has)
+  bases_still acts bare h (forgets q older rest more) has = bases_still older rest h more has
+
   requests_still : (acts bare : List Act) (m : Request) → Leaves is_mark acts bare → Contains (requests bare) m → Contains (requests acts) m
   requests_still acts bare m nothing has = has
   requests_still acts bare m (kept a older rest more) has =
@@ -125,6 +135,7 @@ module _ (is_mark : Content → Bool) where
   pub premises_still : (acts bare : List Act) (x : Setting) → Leaves is_mark acts bare → Premises x acts → Premises x bare
   premises_still acts bare x left is =
       let more : (h : List Request) → Contains (histories bare) h → Contains (histories acts) h = λ h has. histories_still acts bare h left has in
+      let base : (h : List Request) → Contains (bases bare) h → Contains (bases acts) h = λ h has. bases_still acts bare h left has in
       let asked : (m : Request) → Contains (requests bare) m → Contains (requests acts) m = λ m has. requests_still acts bare m left has in
       record {
         few = is.few;
@@ -132,8 +143,8 @@ module _ (is_mark : Content → Bool) where
         apart = λ h k a b in_h in_k pa pb same. is.apart h k a b (more h in_h) (more k in_k) pa pb same;
         slots = record {
           requests = λ m n in_m in_n same. is.slots.requests m n (asked m in_m) (asked n in_n) same;
-          lengths = λ h k in_h in_k same. is.slots.lengths h k (more h in_h) (more k in_k) same;
-          digests = λ h k in_h in_k same. is.slots.digests h k (more h in_h) (more k in_k) same;
+          lengths = λ h k in_h in_k same. is.slots.lengths h k (base h in_h) (base k in_k) same;
+          digests = λ h k in_h in_k same. is.slots.digests h k (base h in_h) (base k in_k) same;
         };
       }
 

@@ -6,7 +6,7 @@ use mathlib.Core.List.{IsPrefix}
 use Rattle.ab_hist.specs.declared.request.Request.{Request}
 use Rattle.ab_svc.specs.Machines.{Reply}
 use Rattle.ab_abs.specs.declared.seen.Seen.{Seen}
-use Rattle.ab_abs.specs.declared.seen.Seen.TheVariants.{Invoked, Init, Cert, Committed}
+use Rattle.ab_abs.specs.declared.seen.Seen.TheVariants.{Invoked, Init, Cert, TrimmedInit, TrimmedCert, Committed}
 use Rattle.ab_abs.specs.Examples.{two_instances}
 use Rattle.ab_abs.specs.Observations.{IsCertHistory}
 use Rattle.ab_stable.specs.Forgotten.{IsForgotten, settled, brought}
@@ -20,6 +20,8 @@ module _ (a b c : Request) (d : List ℕ) (reply : Reply) where
   OfAll (Invoked i q m) = Unit {0}
   OfAll (Init i r h) = Unit {0}
   OfAll (Cert i p h) = h ≡ a ∷ b ∷ c ∷ []
+  OfAll (TrimmedInit i r start digest rest) = Unit {0}
+  OfAll (TrimmedCert i p start digest rest) = Unit {0}
   OfAll (Committed i q m n e other) = Unit {0}
 
   each : All OfAll seen

@@ -6,7 +6,7 @@ use Rattle.ab_hist.specs.declared.request.Request.{Request}
 use Rattle.ab_hist.specs.Digests.{NoCollision, digest_of}
 use Rattle.ab_svc.specs.Machines.{Machine}
 use Rattle.ab_msg.specs.declared.content.Content.{Content}
-use Rattle.ab_abs.specs.Acts.{State, Act, IsHonest, SlotsApart, WasMade, histories, requests, state_of}
+use Rattle.ab_abs.specs.Acts.{State, Act, IsHonest, SlotsApart, WasMade, histories, bases, requests, state_of}
 use Rattle.ab_abs.specs.SmallActs.{small, small_acts, holding, asks_for, aborts_small, begun_acts, committed_acts, votes_for}
 use Rattle.ab_abs.proofs.Witness.{witness, cert_is_made}
 use Rattle.ab_stable.specs.Stable.{HasFront}
@@ -28,7 +28,7 @@ module _ {S : Type 0} (machine : Machine S) (m : Request) where
   leaves : Leaves is_checkpoint (marked_acts machine m) (small_acts machine m)
   leaves = kept _ _ _ (kept _ _ _ (kept _ _ _ (kept _ _ _ (kept _ _ _ (kept _ _ _ (kept _ _ _ early_left))))))
 
-  honest : NoCollision (histories (small_acts machine m)) → SlotsApart (histories (small_acts machine m)) (requests (small_acts machine m)) → IsHonest small (marked_acts machine m)
+  honest : NoCollision (histories (small_acts machine m)) → SlotsApart (bases (small_acts machine m)) (requests (small_acts machine m)) → IsHonest small (marked_acts machine m)
   honest apart slots =
       let committed : IsHonest small (committed_acts machine m) = (witness machine m apart slots).premises.honest.1.1.1.1.1.1.1 in (
         λ c has _. cert_is_made machine m (marked_aborted machine m) (2, omega arith, refl) (1, omega arith, refl) (0, omega arith, refl) c has,
@@ -127,7 +127,7 @@ module _ {S : Type 0} (machine : Machine S) (m : Request) where
   all (suc (suc (suc zero))) lt = inr (made_by 3 (8, omega arith, refl))
   all (suc (suc (suc (suc r)))) lt = absurd (omega (arith, lt))
 
-  pub with_marks : NoCollision (histories (small_acts machine m)) → SlotsApart (histories (small_acts machine m)) (requests (small_acts machine m)) → AreActsWithMarks (IsSound machine small) small is_checkpoint checkpoint_of (marked_acts machine m)
+  pub with_marks : NoCollision (histories (small_acts machine m)) → SlotsApart (bases (small_acts machine m)) (requests (small_acts machine m)) → AreActsWithMarks (IsSound machine small) small is_checkpoint checkpoint_of (marked_acts machine m)
   with_marks apart slots = record {
     bare = small_acts machine m;
     left = leaves;

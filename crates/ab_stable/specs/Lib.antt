@@ -6,6 +6,7 @@ pub mod Leaving
 pub mod CertActs
 pub mod Offers
 pub mod Reading
+pub mod Owned
 pub mod MarkedActs
 pub mod Forgotten
 pub mod Wholes

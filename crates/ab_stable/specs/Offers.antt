@@ -1,6 +1,7 @@
 -- What a certificate brings to a replica if some of its ABORTs state trimmed logs, or if the replica's own log is trimmed.
 use Rattle.std.specs.Prelude.{ℕ, ◌+◌, ◌*◌, Bool, true, false, not, ◌==◌, ◌&&◌, nat_lt, if◌then◌else◌, Option, None, Some, List, [], ◌∷◌, ◌++◌, length, map, take, unwrap_or}
 use Rattle.std.specs.List.{list_all, list_any}
+use Rattle.std.specs.Option.{option_map}
 use Rattle.ab_num.specs.declared.cluster.Cluster.{Cluster}
 use Rattle.ab_num.specs.declared.plan.Kind.{Kind}
 use Rattle.ab_num.specs.declared.plan.Kind.TheVariants as kind
@@ -61,6 +62,18 @@ agreed_on f (Some votes) = if are_enough f votes then agreed_list (f + 1) (lists
 -- the list that a certificate of instance j agrees on. None if it isn't valid, or if no point has f + 1 holders
 abbrev pub list_of : Cluster → ℕ → List Signed → Option Trimmed
 list_of c j cert = if makes_checkpoints (kind_of c.plan j) then agreed_on c.f (all_stated c j cert) else None
+
+-- the list that a certificate of instance j brings: its history, if each ABORT states a whole log
+abbrev pub list_in : Cluster → ℕ → List Signed → Option Trimmed
+list_in c j cert = if are_whole cert then option_map untrimmed (history_of c j cert) else list_of c j cert
+
+abbrev pub start_of : Option Trimmed → ℕ
+start_of None = 0
+start_of (Some t) = t.start
+
+-- how many first entries that list has forgotten
+abbrev pub offered_start : Cluster → ℕ → List Signed → ℕ
+offered_start c j cert = if are_whole cert then 0 else start_of (list_of c j cert)
 
 -- ---- the same by a replica's own log
 

@@ -1,7 +1,7 @@
 //! What a certificate in received bytes agrees on if its lists may have forgotten their first entries, and what it brings to a
 //! replica whose own log is trimmed.
 
-ghost use Rattle.std.specs.Prelude.{◌≡◌, ◌+◌, ◌-◌, ◌<◌, ◌≤◌, ◌==◌, not, true, false, Some, [], ◌∷◌, ◌++◌, All, length, map, take, drop, IfOk, IfSome, IsNone};
+ghost use Rattle.std.specs.Prelude.{◌≡◌, ◌+◌, ◌*◌, ◌-◌, ◌<◌, ◌≤◌, ◌==◌, ◌&&◌, not, true, false, Some, [], ◌∷◌, ◌++◌, All, length, map, take, drop, IfOk, IfSome, IsNone};
 ghost use Rattle.std.specs.List.{list_all};
 ghost use Rattle.std.specs.Option.{option_map};
 ghost use Rattle.ab_hist.specs.Digests.{digest_of};
@@ -31,7 +31,7 @@ use arrayvec::ArrayVec;
 use std::alloc::Global;
 
 /// How many ABORTs are looked at. No certificate that agrees on a list has more.
-const MOST: usize = 5;
+pub(crate) const MOST: usize = 5;
 
 /// The list that a replica states as it aborts.
 #[derive(Clone, Copy, Debug)]
@@ -59,7 +59,7 @@ fn again<'a, P: Part<'a>>(list: &ListRef<'a, P>) -> ListRef<'a, P>
 }
 
 /// Whether it states a trimmed log.
-fn is_trimmed(content: &ContentRef<'_>) -> bool
+pub fn is_trimmed(content: &ContentRef<'_>) -> bool
     ensures { result ≡ is_trimmed (shown content.now) }
 {
     match content {
@@ -170,12 +170,20 @@ fn are_apart(by: &[u8]) -> bool
     true
 }
 
+/// Whether these are 2f + 1 different replicas.
+pub(crate) fn are_enough(f: u8, by: &[u8]) -> bool
+    requires { f ≤ 2 }
+    ensures { result ≡ ((length by.now == (2 * f + 1)) && are_apart by.now) }
+{
+    by.len() == usize::from(2 * f + 1) && are_apart(by)
+}
+
 /// Whether these are the lists of 2f + 1 different replicas. Nothing is allocated.
 fn are_valid<'a>(c: &Cluster, j: u32, cert: &ListRef<'a, SignedRef<'a>>) -> bool
     ensures { result ≡ are_valid c.now.f (all_stated c.now j (aborts cert.now)) }
 {
     match voters(c, j, cert) {
-        Some(by) => by.len() == usize::from(2 * c.f + 1) && are_apart(by.as_slice()),
+        Some(by) => are_enough(c.f, by.as_slice()),
         None => false,
     }
 }
@@ -201,7 +209,11 @@ fn lists_in<'a>(
 }
 
 /// The list on which `q` of these agree, which is over half of them.
-fn agreed_in(alloc: Global, lists: &[Trimmed], q: usize) -> Result<Option<Trimmed>, OutOfMemory>
+pub(crate) fn agreed_in(
+    alloc: Global,
+    lists: &[Trimmed],
+    q: usize,
+) -> Result<Option<Trimmed>, OutOfMemory>
     requires some { 1 ≤ q }
     requires half { length lists.now < q + q }
     ensures { IfOk result (λ o. option_map (λ t. t.list) o ≡ agreed_by q (lists_in lists.now)) }

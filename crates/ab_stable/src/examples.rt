@@ -9,7 +9,7 @@ ghost use Rattle.ab_hist.specs.Trimmed.{untrimmed};
 ghost use Rattle.ab_trim.specs.Links.{AreApart};
 ghost use Rattle.ab_trim.specs.Points.{IsAgreedList};
 ghost use Rattle.ab_abs.specs.declared.seen.Seen.TheVariants.{Committed};
-ghost use Rattle.ab_abs.specs.Acts.{histories, requests, SlotsApart};
+ghost use Rattle.ab_abs.specs.Acts.{histories, bases, requests, SlotsApart};
 ghost use Rattle.ab_abs.specs.Examples.{first_of, two_instances};
 ghost use Rattle.ab_abs.specs.Rules.{IsSound};
 ghost use Rattle.ab_abs.specs.SmallActs.{small, small_acts};
@@ -56,7 +56,7 @@ pub fn small_certificates_are_known()
 /// In the small run, each replica makes a CHECKPOINT of the one entry of its log, and replica 0 then
 /// forgets it: the entry is stable.
 pub fn small_checkpoints_are_there<S: Service>()
-    ensures acts { (m : Request) → NoCollision (histories (small_acts S.machine m)) → SlotsApart (histories (small_acts S.machine m)) (requests (small_acts S.machine m))
+    ensures acts { (m : Request) → NoCollision (histories (small_acts S.machine m)) → SlotsApart (bases (small_acts S.machine m)) (requests (small_acts S.machine m))
         → AreActsWithMarks (IsSound S.machine small) small is_checkpoint checkpoint_of (marked_acts S.machine m) }
     ensures stable { (m : Request) → IsStable small checkpoint_of (marked_acts S.machine m) (m ∷ []) }
 {}

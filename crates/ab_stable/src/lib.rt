@@ -10,6 +10,7 @@ mod certs;
 mod ensembles;
 mod examples;
 mod offers;
+mod owned;
 mod points;
 mod runs;
 mod wholes;
@@ -18,7 +19,7 @@ pub use acts::{
     checkpoints_can_be_left_out, common_beginnings_are_certified, stable_beginnings_are_certified,
     stable_beginnings_are_kept, stable_beginnings_stay, trimmed_certificates_are_valid,
 };
-pub use certificate::{are_whole, based_on, list_of, makes_checkpoints, shows};
+pub use certificate::{are_whole, based_on, is_trimmed, list_of, makes_checkpoints, shows};
 pub use certs::{
     certificates_are_whole, enough_lists_share_a_point, equal_lists_are_whole,
     stable_fronts_are_common,
@@ -32,6 +33,7 @@ pub use offers::{
     agreed_lists_end_at_their_point, bases_are_offered, offered_certificates_are_valid,
     offered_histories_are_held,
 };
+pub use owned::{are_whole_own, list_of_own};
 pub use points::{agreed_lists_are_found, whole_lists_agree_by_points};
 pub use runs::{
     common_beginnings_go_on, forgotten_beginnings_are_common, reasoned_lists_are_forgotten,

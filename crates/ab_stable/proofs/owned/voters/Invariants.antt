@@ -1,0 +1,9 @@
+use Rattle.std.proofs.Common.{◌≡◌, drop, map, option_map}
+use Rattle.ab_stable.specs.Offers.{all_stated}
+use Rattle.ab_stable.proofs.ReadingLemmas.{gone_over}
+use Rattle.ab_stable.proofs.owned.voters.Given as goal
+
+-- those that were gone over, and the rest
+abbrev pub invariant-aborts : goal.invariant-aborts
+invariant-aborts l =
+    gone_over (λ v. v.by) l.by.items (all_stated l.c l.j (drop l.abort-index l.aborts)) ≡ option_map (map (λ v. v.by)) (all_stated l.c l.j l.aborts)
