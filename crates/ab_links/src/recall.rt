@@ -1,12 +1,13 @@
-//! The links of histories, and the history that came last.
+//! The links of histories and lists, and the history that came last.
 
-ghost use Rattle.std.specs.Prelude.{◌≡◌, [], drop, IsTrue, Some, IfOk, OnOk};
-ghost use Rattle.ab_links.specs.Links.{any_collides, keep_links, links_of};
+ghost use Rattle.std.specs.Prelude.{◌≡◌, [], drop, IsTrue, Some, IfOk, OnOk, OnErr};
+ghost use Rattle.ab_links.specs.Links.{any_collides, keep_links, links_along, links_of};
 ghost use Rattle.ab_links.specs.Recalls.{Recalls};
 
 use crate::links::Links;
 use ab_hist::History;
 use ab_num::OutOfMemory;
+use ab_trim::Trimmed;
 use std::alloc::Global;
 use std::marker::Model;
 
@@ -92,5 +93,15 @@ impl Recall {
         ensures ok { OnOk result (self.new ≡ keep_links self.old (drop from (links_of history.now))) }
     {
         add(&mut self.links, &mut self.last, alloc, history, from)
+    }
+
+    /// Keeps the links along a list, and answers whether one of them shows two beginnings with one
+    /// digest.
+    pub(crate) fn add_list(&mut self, list: &Trimmed) -> Result<bool, OutOfMemory>
+        ensures answer { IfOk result (λ found. found ≡ any_collides self.old (links_along list.now.list)) }
+        ensures ok { OnOk result (self.new ≡ keep_links self.old (links_along list.now.list)) }
+        ensures err { OnErr result (self.new ≡ self.old) }
+    {
+        self.links.add_list(list)
     }
 }

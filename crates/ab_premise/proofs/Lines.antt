@@ -10,19 +10,20 @@ use Rattle.ab_num.specs.declared.party.Party.{Party}
 use Rattle.ab_num.specs.declared.party.Party.TheVariants.{Replica, Client}
 use Rattle.ab_num.proofs.Lists.{slice_get_there, Contains-head}
 use Rattle.ab_hist.specs.declared.request.Request.{Request}
+use Rattle.ab_hist.specs.Trimmed.{Trimmed}
 use Rattle.ab_text.specs.declared.line.Breach.TheVariants.{Forged, Collision as Collided}
 use Rattle.ab_text.specs.declared.line.Premise.{Premise}
 use Rattle.ab_text.specs.declared.line.Premise.TheVariants.{Broken}
 use Rattle.ab_msg.specs.Carried.{is_replica}
 use Rattle.ab_abs.specs.Messages.{Call, took, timed}
 use Rattle.ab_abs.specs.Ensembles.{Proto}
-use Rattle.ab_links.specs.Digested.{HasNoCollision}
+use Rattle.ab_links.proofs.DigestedLemmas.{HasNoCollision-fewer}
 use Rattle.ab_run.specs.Setups.{RunSetup, replicas}
 use Rattle.ab_run.specs.Runs.{Event, invoke, to_replica, to_client, replica_time, client_time, Run, run, step}
 use Rattle.ab_run.specs.Local.{Cue, cue_command, cue_message, cue_time}
 use Rattle.ab_run.specs.Premises.{IsHonestRun, checked}
 use Rattle.ab_run.specs.Inputs.{Input, Opener, event_in, events_in}
-use Rattle.ab_run.specs.Stages.{Forgery, IsForgedAt, had_in_call, call_histories, call_requests, cue_histories, cue_requests}
+use Rattle.ab_run.specs.Stages.{Forgery, IsForgedAt, had_in_call, call_histories, call_lists, call_requests, cue_histories, cue_lists, cue_requests}
 use Rattle.ab_run.proofs.Effects.{at_call, at_cue}
 use Rattle.ab_run.proofs.Shown.{grown, followed}
 use Rattle.ab_premise.specs.declared.breach.Collision.{Collision}
@@ -60,9 +61,10 @@ seam [] x rest = refl
 seam (y ∷ p) x rest = ap (λ l. y ∷ l) (seam p x rest)
 
 module _ {P : Type 0} (k : RunSetup) (proto : Proto P) where
-  -- what was had and asked stays
+  -- what was had, checked and asked stays
   record Wider (w v : Run P) : Type 0 where
     had : (h : List Request) → Contains w.had h → Contains v.had h
+    lists : (t : Trimmed) → Contains w.lists t → Contains v.lists t
     asked : (m : Request) → Contains w.asked m → Contains v.asked m
 
   call_wider : (w : Run P) (r : ℕ) (call : Call) → Wider w (at_call k proto w r call)
@@ -71,9 +73,10 @@ module _ {P : Type 0} (k : RunSetup) (proto : Proto P) where
         let g = grown k proto w r call (ltb-true r (replicas k) there) in
         record {
           had = λ h has. subst (λ l. Contains l h) (sym g.had) (Contains-append_right (had_in_call k proto r (w.reps r) call) (call_histories k (Replica r) call ++ w.had) h (Contains-append_right (call_histories k (Replica r) call) w.had h has));
+          lists = λ t has. subst (λ l. Contains l t) (sym g.lists) (Contains-append_right (call_lists k (Replica r) call) w.lists t has);
           asked = λ m has. subst (λ l. Contains l m) (sym g.asked) (Contains-append_right (call_requests k (Replica r) call) w.asked m has);
         }
-    | inr gone ↦ rw gone (record { had = λ h has. has; asked = λ m has. has })
+    | inr gone ↦ rw gone (record { had = λ h has. has; lists = λ t has. has; asked = λ m has. has })
   ]
 
   cue_wider : (w : Run P) (c : ℕ) (cue : Cue) → Wider w (at_cue k proto w c cue)
@@ -82,9 +85,10 @@ module _ {P : Type 0} (k : RunSetup) (proto : Proto P) where
         let f = followed k proto w c cue (ltb-true c k.cluster.clients there) in
         record {
           had = λ h has. subst (λ l. Contains l h) (sym f.had) (Contains-append_right (cue_histories k (Client c) cue) w.had h has);
+          lists = λ t has. subst (λ l. Contains l t) (sym f.lists) (Contains-append_right (cue_lists k (Client c) cue) w.lists t has);
           asked = λ m has. subst (λ l. Contains l m) (sym f.asked) (Contains-append_right (cue_requests k (Client c) cue) w.asked m has);
         }
-    | inr gone ↦ rw gone (record { had = λ h has. has; asked = λ m has. has })
+    | inr gone ↦ rw gone (record { had = λ h has. has; lists = λ t has. has; asked = λ m has. has })
   ]
 
   step_wider : (w : Run P) (e : Event) → Wider w (step k proto w e)
@@ -94,22 +98,13 @@ module _ {P : Type 0} (k : RunSetup) (proto : Proto P) where
   step_wider w (replica_time r) = call_wider w r timed
   step_wider w (client_time c) = cue_wider w c cue_time
 
-  less_free : (hs ks : List (List Request)) (ms ns : List Request) → ((h : List Request) → Contains hs h → Contains ks h) → ((m : Request) → Contains ms m → Contains ns m) → HasNoCollision ks ns → HasNoCollision hs ms
-  less_free hs ks ms ns histories requests free = record {
-    histories = λ h g a b at-h at-g of-h of-g is. free.histories h g a b (histories h at-h) (histories g at-g) of-h of-g is;
-    slots = record {
-      requests = λ m n at-m at-n is. free.slots.requests m n (requests m at-m) (requests n at-n) is;
-      lengths = λ h g at-h at-g is. free.slots.lengths h g (histories h at-h) (histories g at-g) is;
-      digests = λ h g at-h at-g is. free.slots.digests h g (histories h at-h) (histories g at-g) is;
-    };
-  }
-
   free_before : (es events : List Event) → IsFree k proto (es ++ events) → IsFree k proto events
   free_before [] events free = free
   free_before (e ∷ es) events free =
       let w = run k proto (es ++ events) in
       let wider = step_wider w e in
-      free_before es events (less_free w.had (step k proto w e).had w.asked (step k proto w e).asked wider.had wider.asked free)
+      let v = step k proto w e in
+      free_before es events (HasNoCollision-fewer v.had w.had v.lists w.lists v.asked w.asked wider.had wider.lists wider.asked free)
 
   honest_before : (es events : List Event) → IsHonestRun k proto (es ++ events) → IsHonestRun k proto events
   honest_before [] events honest = honest

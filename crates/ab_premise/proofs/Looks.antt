@@ -1,5 +1,5 @@
 -- What is looked at in an event is what the run then has.
-use Rattle.std.proofs.Common.{◌≡◌, ℕ, ◌+◌, ◌<◌, ◌≤◌, ◌⊎◌, true, false, Bool, Some, None, Option, List, [], ◌∷◌, ◌++◌, length, map, refl, sym, ap, ◌∙◌, subst, inl, inr, arith, append-nil, true≢false}
+use Rattle.std.proofs.Common.{◌≡◌, ℕ, ◌+◌, ◌<◌, ◌≤◌, ◌⊎◌, true, false, Bool, Some, None, Option, List, [], ◌∷◌, ◌++◌, length, refl, sym, ap, ◌∙◌, subst, inl, inr, arith, append-nil, true≢false}
 use Rattle.std.specs.Prelude.{Contains, flat_map, nat_le, nat_lt, ◌==◌, ◌&&◌, if◌then◌else◌}
 use mathlib.Core.List.{IsPrefix}
 use Rattle.std.proofs.lemmas.Bool.{cases_Bool, cases_eq, and_parts, eq-eqb, eqb-true, leb-true, ltb-true}
@@ -10,13 +10,11 @@ use Rattle.ab_num.specs.declared.plan.Kind.{Kind}
 use Rattle.ab_num.specs.declared.party.Party.TheVariants.{Replica, Client}
 use Rattle.ab_num.proofs.Lists.{Contains-cons_cases, Contains-head}
 use Rattle.ab_hist.specs.declared.request.Request.{Request}
+use Rattle.ab_hist.specs.Trimmed.{Trimmed}
 use Rattle.ab_msg.specs.declared.signed.Signed.{Signed}
 use Rattle.ab_msg.specs.declared.message.Msg.{Msg}
 use Rattle.ab_msg.specs.declared.message.Msg.TheVariants as msg
-use Rattle.ab_msg.specs.declared.value.Value.{Value}
-use Rattle.ab_msg.specs.declared.value.Value.TheVariants as value
-use Rattle.ab_msg.specs.Carried.{stated_history, stated_request, value_histories, value_requests, values_in}
-use Rattle.ab_msg.specs.Claims.{claims, instance_in, maker_of}
+use Rattle.ab_msg.specs.Claims.{instance_in, maker_of}
 use Rattle.ab_abs.specs.Faults.{is_faulty}
 use Rattle.ab_abs.specs.Acts.{State, with_first}
 use Rattle.ab_abs.specs.Messages.{Call, took, timed}
@@ -25,19 +23,20 @@ use Rattle.ab_stable.specs.Offers.{Based}
 use Rattle.ab_abs.specs.FormLaws.{KeepsForm}
 use Rattle.ab_abs.proofs.Prefixes.{prefix_is_take}
 use Rattle.ab_links.specs.Links.{Continues}
-use Rattle.ab_links.specs.Digested.{Item, history, request, item_histories, item_requests, histories_of, requests_of, BeginsIn}
+use Rattle.ab_links.specs.Digested.{Item, history, item_histories, item_lists, item_requests, histories_of, lists_of, requests_of, BeginsIn}
 use Rattle.ab_links.proofs.ListLemmas.{HasSame, Contains-tail}
 use Rattle.ab_ckpt.specs.Marks.{Mark, due_of, stable_of}
 use Rattle.ab_msg.specs.declared.content.Content.{Content}
 use Rattle.ab_run.specs.Setups.{RunSetup, replicas, last_instance}
 use Rattle.ab_run.specs.Checkpoints.{every_in, mark_in}
 use Rattle.ab_run.specs.Replicas.{Rep, RepAction, turn_enter, turn_call, turn_halt, turn_sign, turn_bring, turn_abort, turn_mark, turn_keep, turn_trim, offer_to, may_begin, state_at, pen_of, after_turn, after_turns, client_of, cert_instance, brought, aborting, aborting_with, halting, trims_with, trimming, keeping_with, keeping, late, here, taken, taken_in, due, due_by, due_with, is_spent, marking, closing, closed, turns}
-use Rattle.ab_run.specs.Runs.{Event, invoke, to_replica, to_client, replica_time, client_time, Run, step, start, had_at, histories_for, requests_for}
+use Rattle.ab_run.specs.Runs.{Event, invoke, to_replica, to_client, replica_time, client_time, Run, step, start, had_at, histories_for, lists_for, requests_for}
 use Rattle.ab_run.specs.Local.{rep_after, cue_command, cue_message, cue_time, Cue}
-use Rattle.ab_run.specs.Stages.{had_in_turns, had_in_call, call_histories, call_requests}
+use Rattle.ab_run.specs.Stages.{had_in_turns, had_in_call, call_histories, call_lists, call_requests}
 use Rattle.ab_run.proofs.Effects.{at_call, at_cue, called, reps_apart}
 use Rattle.ab_run.proofs.Shown.{grown, followed}
-use Rattle.ab_premise.specs.Collisions.{checked_items, content_items, message_items, value_items, entered_items, first_items, known_of, state_items, call_items, client_items, items_of}
+use Rattle.ab_premise.specs.Collisions.{checked_items, entered_items, first_items, known_of, state_items, call_items, client_items, items_of}
+use Rattle.ab_premise.proofs.Holds.{Holds, holds_nothing, both_hold, message_holds, first_holds}
 
 -- ---- the turns of an event
 
@@ -327,108 +326,12 @@ module _ {P : Type 0} (k : RunSetup) (proto : Proto P) where
     call_went : (r : ℕ) (s : Rep P) (call : Call) → Went s (rep_after k proto r s call) (had_in_turns k proto r s (turns k proto r s call))
     call_went r s call = calm_went r (turns k proto r s call) s (turns_calm r s call)
 
--- ---- what items hold
-
--- such items, each from its first entry on, hold these histories and requests
-pub record Holds (items : List Item) (hs : List (List Request)) (ms : List Request) : Type 0 where
-  pub histories : histories_of items ≡ hs
-  pub requests : requests_of items ≡ ms
-  pub begins : (had : List (List Request)) (item : Item) → Contains items item → BeginsIn had item
-
-abbrev plain : List (List Request) → List Request → List Item
-plain hs ms = map (λ h. history h 0) hs ++ map request ms
-
-plain_requests : (hs : List (List Request)) (ms : List Request) → requests_of (plain hs ms) ≡ ms
-plain_requests [] [] = refl
-plain_requests [] (m ∷ ms) = ap (λ l. m ∷ l) (plain_requests [] ms)
-plain_requests (h ∷ hs) ms = plain_requests hs ms
-
-plain_histories : (hs : List (List Request)) (ms : List Request) → histories_of (plain hs ms) ≡ hs
-plain_histories [] [] = refl
-plain_histories [] (m ∷ ms) = plain_histories [] ms
-plain_histories (h ∷ hs) ms = ap (λ l. h ∷ l) (plain_histories hs ms)
-
-plain_begin : (had hs : List (List Request)) (ms : List Request) (item : Item) → Contains (plain hs ms) item → BeginsIn had item
-plain_begin had [] [] item gone = absurd (omega (arith, gone.1))
-plain_begin had [] (m ∷ ms) item has = elim (Contains-cons_cases (request m) (map request ms) item has) [
-  | inl e ↦ subst (BeginsIn had) e tt
-  | inr more ↦ plain_begin had [] ms item more
-]
-plain_begin had (h ∷ hs) ms item has = elim (Contains-cons_cases (history h 0) (plain hs ms) item has) [
-  | inl e ↦ subst (BeginsIn had) e (λ some. absurd (omega (arith, some)))
-  | inr more ↦ plain_begin had hs ms item more
-]
-
--- items of several things, one after the other
-module _ {A : Type 0} (items : A → List Item) where
-  each_histories : (hs : A → List (List Request)) → ((a : A) → histories_of (items a) ≡ hs a) → (xs : List A) → histories_of (flat_map items xs) ≡ flat_map hs xs
-  each_histories hs one [] = refl
-  each_histories hs one (x ∷ xs) = flat_map-append item_histories (items x) (flat_map items xs) ∙ (λ j. one x j ++ each_histories hs one xs j)
-
-  each_requests : (ms : A → List Request) → ((a : A) → requests_of (items a) ≡ ms a) → (xs : List A) → requests_of (flat_map items xs) ≡ flat_map ms xs
-  each_requests ms one [] = refl
-  each_requests ms one (x ∷ xs) = flat_map-append item_requests (items x) (flat_map items xs) ∙ (λ j. one x j ++ each_requests ms one xs j)
-
-  each_begins : (had : List (List Request)) → ((a : A) (item : Item) → Contains (items a) item → BeginsIn had item) → (xs : List A) (item : Item) → Contains (flat_map items xs) item → BeginsIn had item
-  each_begins had one [] item gone = absurd (omega (arith, gone.1))
-  each_begins had one (x ∷ xs) item has = elim (Contains-append_cases (items x) (flat_map items xs) item has) [
-    | inl first ↦ one x item first
-    | inr more ↦ each_begins had one xs item more
-  ]
-
-value_had : (vs : List Value) → histories_of (flat_map value_items vs) ≡ value_histories vs
-value_had [] = refl
-value_had (value.Base h ∷ vs) = ap (λ l. h ∷ l) (value_had vs)
-value_had (value.Request m ∷ vs) = value_had vs
-
-value_asked : (vs : List Value) → requests_of (flat_map value_items vs) ≡ value_requests vs
-value_asked [] = refl
-value_asked (value.Base h ∷ vs) = value_asked vs
-value_asked (value.Request m ∷ vs) = ap (λ l. m ∷ l) (value_asked vs)
-
-value_begin : (had : List (List Request)) (v : Value) (item : Item) → Contains (value_items v) item → BeginsIn had item
-value_begin had (value.Base h) item has = plain_begin had (h ∷ []) [] item has
-value_begin had (value.Request m) item has = plain_begin had [] (m ∷ []) item has
-
--- what is looked at of a message is what is checked in it
-pub message_holds : (f : ℕ) (p : Party) (m : Msg)
-    → Holds (message_items f p m) (flat_map stated_history (claims f p m) ++ flat_map value_histories (values_in m)) (flat_map stated_request (claims f p m) ++ flat_map value_requests (values_in m))
-message_holds f p m =
-    let stated = flat_map content_items (claims f p m) in
-    let valued = flat_map (flat_map value_items) (values_in m) in
-    record {
-      histories =
-          flat_map-append item_histories stated valued
-          ∙ (λ j. each_histories content_items stated_history (λ c. plain_histories (stated_history c) (stated_request c)) (claims f p m) j
-          ++ each_histories (flat_map value_items) value_histories value_had (values_in m) j);
-      requests =
-          flat_map-append item_requests stated valued
-          ∙ (λ j. each_requests content_items stated_request (λ c. plain_requests (stated_history c) (stated_request c)) (claims f p m) j
-          ++ each_requests (flat_map value_items) value_requests value_asked (values_in m) j);
-      begins = λ had item has. elim (Contains-append_cases stated valued item has) [
-        | inl one ↦ each_begins content_items had (λ c. plain_begin had (stated_history c) (stated_request c)) (claims f p m) item one
-        | inr more ↦ each_begins (flat_map value_items) had (each_begins value_items had (value_begin had)) (values_in m) item more
-      ];
-    }
-
-histories_first : (o : Option (List Request)) → histories_of (first_items o) ≡ with_first o
-histories_first None = refl
-histories_first (Some h) = refl
-
-requests_first : (o : Option (List Request)) → requests_of (first_items o) ≡ []
-requests_first None = refl
-requests_first (Some h) = refl
-
-first_begin : (had : List (List Request)) (o : Option (List Request)) (item : Item) → Contains (first_items o) item → BeginsIn had item
-first_begin had None item gone = absurd (omega (arith, gone.1))
-first_begin had (Some h) item has = elim (Contains-cons_cases (history h 0) [] item has) [
-  | inl e ↦ subst (BeginsIn had) e (λ some. absurd (omega (arith, some)))
-  | inr gone ↦ absurd (omega (arith, gone.1))
-]
+-- ---- what is looked at
 
 -- what a run has after an event is what it had, and what was looked at in it
 pub record Looks {P : Type 0} (w v : Run P) (items : List Item) : Type 0 where
   pub histories : HasSame (w.had ++ histories_of items) v.had
+  pub lists : HasSame (w.lists ++ lists_of items) v.lists
   pub requests : HasSame (w.asked ++ requests_of items) v.asked
   pub begins : (item : Item) → Contains items item → BeginsIn w.had item
 
@@ -444,21 +347,22 @@ swap xs ys a = (
   ],
 )
 
--- nothing is looked at
-nothing_looks : {P : Type 0} (w v : Run P) → v.had ≡ w.had → v.asked ≡ w.asked → Looks w v []
-nothing_looks w v had asked = record {
-  histories = subst (λ l. HasSame (w.had ++ []) l) (sym had) (subst (λ l. HasSame l w.had) (sym (append-nil w.had)) (λ h. (λ at. at, λ at. at)));
-  requests = subst (λ l. HasSame (w.asked ++ []) l) (sym asked) (subst (λ l. HasSame l w.asked) (sym (append-nil w.asked)) (λ h. (λ at. at, λ at. at)));
-  begins = λ item gone. absurd (omega (arith, gone.1));
-}
+-- what comes first is what is there
+came_first : {A : Type 0} (was now came more : List A) → now ≡ more ++ was → came ≡ more → HasSame (was ++ came) now
+came_first was now came more is are = subst (λ l. HasSame (was ++ came) l) (sym is) (subst (λ l. HasSame (was ++ l) (more ++ was)) (sym are) (swap was more))
 
 -- what is checked alone
-checked_looks : {P : Type 0} (w v : Run P) (items : List Item) (hs : List (List Request)) (ms : List Request) → Holds items hs ms → v.had ≡ hs ++ w.had → v.asked ≡ ms ++ w.asked → Looks w v items
-checked_looks w v items hs ms holds had asked = record {
-  histories = subst (λ l. HasSame (w.had ++ histories_of items) l) (sym had) (subst (λ l. HasSame (w.had ++ l) (hs ++ w.had)) (sym holds.histories) (swap w.had hs));
-  requests = subst (λ l. HasSame (w.asked ++ requests_of items) l) (sym asked) (subst (λ l. HasSame (w.asked ++ l) (ms ++ w.asked)) (sym holds.requests) (swap w.asked ms));
+checked_looks : {P : Type 0} (w v : Run P) (items : List Item) (hs : List (List Request)) (ts : List Trimmed) (ms : List Request) → Holds items hs ts ms → v.had ≡ hs ++ w.had → v.lists ≡ ts ++ w.lists → v.asked ≡ ms ++ w.asked → Looks w v items
+checked_looks w v items hs ts ms holds had lists asked = record {
+  histories = came_first w.had v.had (histories_of items) hs had holds.histories;
+  lists = came_first w.lists v.lists (lists_of items) ts lists holds.lists;
+  requests = came_first w.asked v.asked (requests_of items) ms asked holds.requests;
   begins = holds.begins w.had;
 }
+
+-- nothing is looked at
+nothing_looks : {P : Type 0} (w v : Run P) → v.had ≡ w.had → v.lists ≡ w.lists → v.asked ≡ w.asked → Looks w v []
+nothing_looks w v had lists asked = checked_looks w v [] [] [] [] holds_nothing had lists asked
 
 module _ {P : Type 0} (k : RunSetup) (proto : Proto P) {serves : Kind → Bool} (form : KeepsForm proto serves) where
   -- what each correct replica has, the run has, and the empty history
@@ -469,31 +373,15 @@ module _ {P : Type 0} (k : RunSetup) (proto : Proto P) {serves : Kind → Bool} 
   abbrev entered_part : Rep P → Rep P → List (List Request)
   entered_part s now = if s.at == now.at then [] else now.entry.base ∷ []
 
-  histories_entered : (b : Bool) (base : List Request) → histories_of (if b then [] else history base 0 ∷ []) ≡ (if b then [] else base ∷ [])
-  histories_entered true base = refl
-  histories_entered false base = refl
+  entered_holds : (b : Bool) (base : List Request) → Holds (if b then [] else history base 0 ∷ []) (if b then [] else base ∷ []) [] []
+  entered_holds true base = holds_nothing
+  entered_holds false base = first_holds (Some base)
 
-  requests_entered : (b : Bool) (base : List Request) → requests_of (if b then [] else history base 0 ∷ []) ≡ []
-  requests_entered true base = refl
-  requests_entered false base = refl
-
-  entered_begin : (had : List (List Request)) (b : Bool) (base : List Request) (item : Item) → Contains (if b then [] else history base 0 ∷ []) item → BeginsIn had item
-  entered_begin had true base item gone = absurd (omega (arith, gone.1))
-  entered_begin had false base item has = elim (Contains-cons_cases (history base 0) [] item has) [
-    | inl e ↦ subst (BeginsIn had) e (λ some. absurd (omega (arith, some)))
-    | inr gone ↦ absurd (omega (arith, gone.1))
-  ]
-
-  state_histories : (s now : Rep P) → histories_of (state_items k proto s now) ≡ (state_at k proto now).log ∷ (entered_part s now ++ with_first (state_at k proto now).first)
-  state_histories s now =
-      ap (λ l. (state_at k proto now).log ∷ l)
-      (flat_map-append item_histories (entered_items k proto s now) (first_items (state_at k proto now).first)
-      ∙ (λ j. histories_entered (s.at == now.at) now.entry.base j ++ histories_first (state_at k proto now).first j))
-
-  state_requests : (s now : Rep P) → requests_of (state_items k proto s now) ≡ []
-  state_requests s now =
-      flat_map-append item_requests (entered_items k proto s now) (first_items (state_at k proto now).first)
-      ∙ (λ j. requests_entered (s.at == now.at) now.entry.base j ++ requests_first (state_at k proto now).first j)
+  -- all but the log
+  rest_holds : (s now : Rep P) → Holds (entered_items k proto s now ++ first_items (state_at k proto now).first) (entered_part s now ++ with_first (state_at k proto now).first) [] []
+  rest_holds s now =
+      both_hold (entered_items k proto s now) (first_items (state_at k proto now).first) (entered_part s now) (with_first (state_at k proto now).first) [] [] [] []
+      (entered_holds (s.at == now.at) now.entry.base) (first_holds (state_at k proto now).first)
 
   known_begins : (had : List (List Request)) (s now : Rep P) (b : Bool) → (b ≡ true → IsPrefix (state_at k proto s).log (state_at k proto now).log) → Contains had (state_at k proto s).log
       → Continues had (state_at k proto now).log (if b then length (state_at k proto s).log else 0)
@@ -505,14 +393,11 @@ module _ {P : Type 0} (k : RunSetup) (proto : Proto P) {serves : Kind → Bool} 
       → (item : Item) → Contains (state_items k proto s now) item → BeginsIn had item
   state_begins had s now grows has item at = elim (Contains-cons_cases (history (state_at k proto now).log (known_of k proto s now)) (entered_items k proto s now ++ first_items (state_at k proto now).first) item at) [
     | inl e ↦ subst (BeginsIn had) e (known_begins had s now (s.at == now.at) grows has)
-    | inr more ↦ elim (Contains-append_cases (entered_items k proto s now) (first_items (state_at k proto now).first) item more) [
-      | inl base ↦ entered_begin had (s.at == now.at) now.entry.base item base
-      | inr first ↦ first_begin had (state_at k proto now).first item first
-    ]
+    | inr more ↦ (rest_holds s now).begins had item more
   ]
 
-  module _ (w v : Run P) (s now : Rep P) (checked : List Item) (hs more : List (List Request)) (ms : List Request) (holds : Holds checked hs ms) (went : Went k proto s now more) (empty : Contains w.had []) (own : (h : List Request) → Contains (had_at (state_at k proto s)) h → Contains w.had h)
-      (had : v.had ≡ more ++ (hs ++ w.had)) (asked : v.asked ≡ ms ++ w.asked) where
+  module _ (w v : Run P) (s now : Rep P) (checked : List Item) (hs more : List (List Request)) (ts : List Trimmed) (ms : List Request) (holds : Holds checked hs ts ms) (went : Went k proto s now more) (empty : Contains w.had []) (own : (h : List Request) → Contains (had_at (state_at k proto s)) h → Contains w.had h)
+      (had : v.had ≡ more ++ (hs ++ w.had)) (lists : v.lists ≡ ts ++ w.lists) (asked : v.asked ≡ ms ++ w.asked) where
     abbrev items : List Item
     items = checked ++ state_items k proto s now
 
@@ -522,12 +407,18 @@ module _ {P : Type 0} (k : RunSetup) (proto : Proto P) {serves : Kind → Bool} 
     histories_are : histories_of items ≡ hs ++ New
     histories_are =
         flat_map-append item_histories checked (state_items k proto s now)
-        ∙ (λ j. holds.histories j ++ state_histories s now j)
+        ∙ (λ j. holds.histories j ++ ((state_at k proto now).log ∷ (rest_holds s now).histories j))
+
+    lists_are : lists_of items ≡ ts
+    lists_are =
+        flat_map-append item_lists checked (state_items k proto s now)
+        ∙ (λ j. holds.lists j ++ (rest_holds s now).lists j)
+        ∙ append-nil ts
 
     requests_are : requests_of items ≡ ms
     requests_are =
         flat_map-append item_requests checked (state_items k proto s now)
-        ∙ (λ j. holds.requests j ++ state_requests s now j)
+        ∙ (λ j. holds.requests j ++ (rest_holds s now).requests j)
         ∙ append-nil ms
 
     now_entered : Contains (had_at (state_at k proto now)) (state_at k proto now).entered
@@ -605,7 +496,8 @@ module _ {P : Type 0} (k : RunSetup) (proto : Proto P) {serves : Kind → Bool} 
     went_looks : Looks w v items
     went_looks = record {
       histories = subst (λ l. HasSame (w.had ++ histories_of items) l) (sym had) (subst (λ l. HasSame (w.had ++ l) (more ++ (hs ++ w.had))) (sym histories_are) (λ h. (there h, back h)));
-      requests = subst (λ l. HasSame (w.asked ++ requests_of items) l) (sym asked) (subst (λ l. HasSame (w.asked ++ l) (ms ++ w.asked)) (sym requests_are) (swap w.asked ms));
+      lists = came_first w.lists v.lists (lists_of items) ts lists lists_are;
+      requests = came_first w.asked v.asked (requests_of items) ms asked requests_are;
       begins = λ item at. elim (Contains-append_cases checked (state_items k proto s now) item at) [
         | inl one ↦ holds.begins w.had item one
         | inr new ↦
@@ -622,15 +514,15 @@ module _ {P : Type 0} (k : RunSetup) (proto : Proto P) {serves : Kind → Bool} 
 
   -- ---- one event
 
-  of_bad : (p : Party) (call : Call) → is_faulty k.faulty p ≡ true → (call_histories k p call ≡ []) × (call_requests k p call ≡ [])
-  of_bad p (took m) bad = (rw bad refl, rw bad refl)
-  of_bad p timed bad = (refl, refl)
+  of_bad : (p : Party) (call : Call) → is_faulty k.faulty p ≡ true → (call_histories k p call ≡ []) × (call_lists k p call ≡ []) × (call_requests k p call ≡ [])
+  of_bad p (took m) bad = (rw bad refl, rw bad refl, rw bad refl)
+  of_bad p timed bad = (refl, refl, refl)
 
   -- what a correct replica takes is looked at for what it then has checked
   call_holds : (r : ℕ) (call : Call) → is_faulty k.faulty (Replica r) ≡ false
-      → Holds (checked_items k.cluster.f (Replica r) call) (call_histories k (Replica r) call) (call_requests k (Replica r) call)
+      → Holds (checked_items k.cluster.f (Replica r) call) (call_histories k (Replica r) call) (call_lists k (Replica r) call) (call_requests k (Replica r) call)
   call_holds r (took m) good = rw good (message_holds k.cluster.f (Replica r) m)
-  call_holds r timed good = record { histories = refl; requests = refl; begins = λ had item gone. absurd (omega (arith, gone.1)) }
+  call_holds r timed good = holds_nothing
 
   pub record Seen (w v : Run P) (items : List Item) : Type 0 where
     pub looks : Looks w v items
@@ -656,6 +548,7 @@ module _ {P : Type 0} (k : RunSetup) (proto : Proto P) {serves : Kind → Bool} 
         let s = w.reps r in
         let now = rep_after k proto r s call in
         let hs = call_histories k (Replica r) call in
+        let ts = call_lists k (Replica r) call in
         let ms = call_requests k (Replica r) call in
         let more = had_in_turns k proto r s (turns k proto r s call) in
         let checked = checked_items k.cluster.f (Replica r) call in
@@ -668,9 +561,10 @@ module _ {P : Type 0} (k : RunSetup) (proto : Proto P) {serves : Kind → Bool} 
               let none = of_bad (Replica r) call bad in
               let nothing : all ≡ [] = ap (λ (b : Bool). if b then [] else checked ++ state_items k proto s now) bad in
               let had : v.had ≡ w.had = g.had ∙ (λ j. (if bad j then [] else more) ++ (none.0 j ++ w.had)) in
-              let asked : v.asked ≡ w.asked = g.asked ∙ ap (λ l. l ++ w.asked) none.1 in
+              let lists : v.lists ≡ w.lists = g.lists ∙ ap (λ l. l ++ w.lists) none.1 in
+              let asked : v.asked ≡ w.asked = g.asked ∙ ap (λ l. l ++ w.asked) none.2 in
               record {
-                looks = subst (Looks w v) (sym (taken ∙ nothing)) (nothing_looks w v had asked);
+                looks = subst (Looks w v) (sym (taken ∙ nothing)) (nothing_looks w v had lists asked);
                 owns = others_own w v r own c.others wider (λ good. absurd (true≢false (sym bad ∙ good)));
               }
           | inr good ↦
@@ -679,12 +573,12 @@ module _ {P : Type 0} (k : RunSetup) (proto : Proto P) {serves : Kind → Bool} 
               let holds = call_holds r call good in
               let had : v.had ≡ more ++ (hs ++ w.had) = g.had ∙ ap (λ (b : Bool). (if b then [] else more) ++ (hs ++ w.had)) good in
               record {
-                looks = subst (Looks w v) (sym (taken ∙ something)) (went_looks w v s now checked hs more ms holds went own.empty (own.each r lt good) had g.asked);
+                looks = subst (Looks w v) (sym (taken ∙ something)) (went_looks w v s now checked hs more ts ms holds went own.empty (own.each r lt good) had g.lists g.asked);
                 owns = others_own w v r own c.others wider
-                    (λ _ h has. own_again w v s now checked hs more ms holds went own.empty (own.each r lt good) had g.asked h (subst (λ z. Contains (had_at (state_at k proto z)) h) c.own has));
+                    (λ _ h has. own_again w v s now checked hs more ts ms holds went own.empty (own.each r lt good) had g.lists g.asked h (subst (λ z. Contains (had_at (state_at k proto z)) h) c.own has));
               }
         ]
-    | inr gone ↦ rw gone (record { looks = nothing_looks w w refl refl; owns = own })
+    | inr gone ↦ rw gone (record { looks = nothing_looks w w refl refl refl; owns = own })
   ]
 
   clients_own : (w v : Run P) → HasOwn w → ((q : ℕ) → v.reps q ≡ w.reps q) → ((h : List Request) → Contains w.had h → Contains v.had h) → HasOwn v
@@ -693,8 +587,8 @@ module _ {P : Type 0} (k : RunSetup) (proto : Proto P) {serves : Kind → Bool} 
     empty = more [] own.empty;
   }
 
-  client_holds : (c : ℕ) (m : Msg) (b : Bool) → is_faulty k.faulty (Client c) ≡ b → Holds (client_items k proto c m) (histories_for k (Client c) m) (requests_for k (Client c) m)
-  client_holds c m true bad = rw bad (record { histories = refl; requests = refl; begins = λ had item gone. absurd (omega (arith, gone.1)) })
+  client_holds : (c : ℕ) (m : Msg) (b : Bool) → is_faulty k.faulty (Client c) ≡ b → Holds (client_items k proto c m) (histories_for k (Client c) m) (lists_for k (Client c) m) (requests_for k (Client c) m)
+  client_holds c m true bad = rw bad holds_nothing
   client_holds c m false good = rw good (message_holds k.cluster.f (Client c) m)
 
   message_seen : (w : Run P) (c : ℕ) (m : Msg) → HasOwn w → Seen w (at_cue k proto w c (cue_message m)) (if nat_lt c k.cluster.clients then client_items k proto c m else [])
@@ -706,29 +600,29 @@ module _ {P : Type 0} (k : RunSetup) (proto : Proto P) {serves : Kind → Bool} 
         let all = client_items k proto c m in
         let taken : (if nat_lt c k.cluster.clients then all else []) ≡ all = ap (λ (b : Bool). if b then all else []) there in
         record {
-          looks = subst (Looks w v) (sym taken) (checked_looks w v all (histories_for k (Client c) m) (requests_for k (Client c) m) (client_holds c m (is_faulty k.faulty (Client c)) refl) f.had f.asked);
+          looks = subst (Looks w v) (sym taken) (checked_looks w v all (histories_for k (Client c) m) (lists_for k (Client c) m) (requests_for k (Client c) m) (client_holds c m (is_faulty k.faulty (Client c)) refl) f.had f.lists f.asked);
           owns = clients_own w v own (reps_apart k proto w c (cue_message m)) (λ h has. subst (λ l. Contains l h) (sym f.had) (Contains-append_right (histories_for k (Client c) m) w.had h has));
         }
-    | inr gone ↦ rw gone (record { looks = nothing_looks w w refl refl; owns = own })
+    | inr gone ↦ rw gone (record { looks = nothing_looks w w refl refl refl; owns = own })
   ]
 
-  silent_seen : (w : Run P) (c : ℕ) (cue : Cue) → (c < k.cluster.clients → ((at_cue k proto w c cue).had ≡ w.had) × ((at_cue k proto w c cue).asked ≡ w.asked)) → HasOwn w → Seen w (at_cue k proto w c cue) []
+  silent_seen : (w : Run P) (c : ℕ) (cue : Cue) → (c < k.cluster.clients → ((at_cue k proto w c cue).had ≡ w.had) × ((at_cue k proto w c cue).lists ≡ w.lists) × ((at_cue k proto w c cue).asked ≡ w.asked)) → HasOwn w → Seen w (at_cue k proto w c cue) []
   silent_seen w c cue same own = elim (cases_Bool (nat_lt c k.cluster.clients)) [
     | inl there ↦
-        let (had, asked) = same (ltb-true c k.cluster.clients there) in
+        let (had, lists, asked) = same (ltb-true c k.cluster.clients there) in
         record {
-          looks = nothing_looks w (at_cue k proto w c cue) had asked;
+          looks = nothing_looks w (at_cue k proto w c cue) had lists asked;
           owns = clients_own w (at_cue k proto w c cue) own (reps_apart k proto w c cue) (λ h has. subst (λ l. Contains l h) (sym had) has);
         }
-    | inr gone ↦ rw gone (record { looks = nothing_looks w w refl refl; owns = own })
+    | inr gone ↦ rw gone (record { looks = nothing_looks w w refl refl refl; owns = own })
   ]
 
   pub event_seen : (w : Run P) (e : Event) → HasOwn w → Seen w (step k proto w e) (items_of k proto w e)
-  event_seen w (invoke c command) own = silent_seen w c (cue_command command) (λ lt. let f = followed k proto w c (cue_command command) lt in (f.had, f.asked)) own
+  event_seen w (invoke c command) own = silent_seen w c (cue_command command) (λ lt. let f = followed k proto w c (cue_command command) lt in (f.had, f.lists, f.asked)) own
   event_seen w (to_replica r m) own = call_seen w r (took m) own
   event_seen w (to_client c m) own = message_seen w c m own
   event_seen w (replica_time r) own = call_seen w r timed own
-  event_seen w (client_time c) own = silent_seen w c cue_time (λ lt. let f = followed k proto w c cue_time lt in (f.had, f.asked)) own
+  event_seen w (client_time c) own = silent_seen w c cue_time (λ lt. let f = followed k proto w c cue_time lt in (f.had, f.lists, f.asked)) own
 
   -- before the first event a replica has nothing
   pub start_own : HasOwn (start k proto)

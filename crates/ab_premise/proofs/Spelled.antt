@@ -13,6 +13,7 @@ use Rattle.ab_num.specs.declared.plan.Kind.TheVariants as kind
 use Rattle.ab_num.specs.Parties.{party_eq}
 use Rattle.ab_num.proofs.Lists.{flat_map_cases, Contains-filter_cases, Contains-cons_cases}
 use Rattle.ab_hist.specs.declared.request.Request.{Request}
+use Rattle.ab_hist.specs.Trimmed.{Trimmed}
 use Rattle.ab_hist.proofs.DigestLemmas.{length-digest_of}
 use Rattle.ab_svc.specs.Machines.{Reply}
 use Rattle.ab_msg.specs.declared.content.Content.{Content}
@@ -31,9 +32,9 @@ use Rattle.ab_abs.specs.Faults.{is_faulty}
 use Rattle.ab_abs.specs.Kinds.{rule_in}
 use Rattle.ab_abs.specs.Votes.{has_voted, is_full_by}
 use Rattle.ab_abs.specs.Messages.{Call, took, timed, IsFormed}
-use Rattle.ab_abs.specs.Certificates.{history_of}
 use Rattle.ab_abs.specs.Ensembles.{Proto}
 use Rattle.ab_abs.specs.FormLaws.{KeepsForm}
+use Rattle.ab_stable.specs.Offers.{list_in}
 use Rattle.ab_run.specs.Forms.{IsWrittenRep, IsWrittenSetup}
 use Rattle.ab_run.proofs.Written.{IsGood, AllGood, turns_good, first_written, placed, abort_written, turn_keeps, turn_drafts}
 use Rattle.ab_abs.proofs.Drafts.{few_replicas}
@@ -114,7 +115,7 @@ IsFine c n (move_ask m) = IsOwned c m × (m.stamp ≤ n)
 IsFine c n (move_vote b) = Unit {0}
 IsFine c n (move_commit m d e reply claims) = Unit {0}
 IsFine c n (move_keep v) = Unit {0}
-IsFine c n (move_take j cert h m) = (j < last_instance) × IsOwned c m
+IsFine c n (move_take j cert t m) = (j < last_instance) × IsOwned c m
 IsFine c n move_panic = Unit {0}
 IsFine c n (move_again m) = Unit {0}
 IsFine c n (move_spec b sig) = Unit {0}
@@ -146,7 +147,7 @@ move_does c n (move_ask m) s le fine sits = record {
 move_does c n (move_vote b) s le fine sits = record { each = no_content; sits = record { at = sits.at; stamp = sits.stamp; last = sits.last } }
 move_does c n (move_commit m d e reply claims) s le fine sits = record { each = no_content; sits = record { at = sits.at; stamp = sits.stamp; last = sits.last } }
 move_does c n (move_keep v) s le fine sits = record { each = no_content; sits = record { at = sits.at; stamp = sits.stamp; last = sits.last } }
-move_does c n (move_take j cert h m) s le fine sits = record {
+move_does c n (move_take j cert t m) s le fine sits = record {
   each = λ q has. one_of (content.Req (Client c) (j + 1) m) q (sym (ap Client fine.1.1), ((omega arith, omega (arith, fine.0)), fine.1.0)) has;
   sits = record { at = (omega arith, omega (arith, fine.0)); stamp = sits.stamp; last = sits.last };
 }
@@ -227,21 +228,21 @@ module _ (k : RunSetup) (c n : ℕ) where
   telling_fine s m q None = tt
   telling_fine s m q (Some z) = teller_fine s m z (teller k.cluster.f s.at c z q)
 
-  taking_fine : (s : Cli) (m : Request) (j : ℕ) (cert : List Signed) (o : Option (List Request)) → IsOwned c m → AllFine c n (taking_with k s m j cert o)
+  taking_fine : (s : Cli) (m : Request) (j : ℕ) (cert : List Signed) (o : Option Trimmed) → IsOwned c m → AllFine c n (taking_with k s m j cert o)
   taking_fine s m j cert None owned = tt
-  taking_fine s m j cert (Some h) owned =
+  taking_fine s m j cert (Some t) owned =
       let may = nat_le s.at j && nat_lt j last_instance in
       elim (cases_Bool may) [
         | inl goes ↦
-            subst (AllFine c n) (sym (ap (λ (b : Bool). if b then move_take j cert h m ∷ [] else []) goes))
+            subst (AllFine c n) (sym (ap (λ (b : Bool). if b then move_take j cert t m ∷ [] else []) goes))
             ((ltb-true j last_instance (and_parts (nat_le s.at j) (nat_lt j last_instance) goes).1, owned), tt)
-        | inr rests ↦ subst (AllFine c n) (sym (ap (λ (b : Bool). if b then move_take j cert h m ∷ [] else []) rests)) tt
+        | inr rests ↦ subst (AllFine c n) (sym (ap (λ (b : Bool). if b then move_take j cert t m ∷ [] else []) rests)) tt
       ]
 
   keeping_fine : (s : Cli) (m : Request) (v : Signed) → IsOwned c m → AllFine c n (keeping k s m v)
   keeping_fine s m v owned =
-      let cert = own_cert (kind_at k s) v s.kept in
-      fine_if c n (list_any (λ w. w.maker == v.maker) s.kept) [] (move_keep v ∷ taking k s m s.at cert) tt (tt, taking_fine s m s.at cert (history_of k.cluster s.at cert) owned)
+      let cert = own_cert k.cluster s.at v s.kept in
+      fine_if c n (list_any (λ w. w.maker == v.maker) s.kept) [] (move_keep v ∷ taking k s m s.at cert) tt (tt, taking_fine s m s.at cert (list_in k.cluster s.at cert) owned)
 
   hears_fine : (s : Cli) (waits : Bool) (q : Request) (m : Msg) → IsOwned c q → AllFine c n (hears k c s waits q m)
   hears_fine s waits q (msg.Resp t tag) owned = response_fine s waits q t
@@ -249,7 +250,7 @@ module _ (k : RunSetup) (c n : ℕ) where
       fine_if c n ((waits && counts_chains (kind_at k s)) && ((i == s.at) && ((r.client == c) && (r.stamp == s.stamp)))) (hears_tail q x d reply (tail_claims k.cluster.f i r x d reply)) []
       (tail_fine c n q x d reply (tail_claims k.cluster.f i r x d reply)) tt
   hears_fine s waits q (msg.Abort abort) owned = fine_if c n (is_abort_of (kind_at k s) k.cluster.f s.at abort.content) (keeping k s q abort) [] (keeping_fine s q abort owned) tt
-  hears_fine s waits q (msg.Init cert) owned = taking_fine s q (cert_instance cert) cert (history_of k.cluster (cert_instance cert) cert) owned
+  hears_fine s waits q (msg.Init cert) owned = taking_fine s q (cert_instance cert) cert (list_in k.cluster (cert_instance cert) cert) owned
   hears_fine s waits q (msg.Spec spec) owned = spec_fine s waits q spec.content spec.sig
   hears_fine s waits q (msg.LocalCommit t tag) owned = fine_if c n waits (telling k c s q t s.sent) [] (telling_fine s q t s.sent) tt
   hears_fine s waits q _ owned = tt

@@ -7,8 +7,8 @@ use Rattle.ab_num.specs.declared.plan.Kind.{Kind}
 use Rattle.ab_msg.specs.declared.message.Msg.{Msg}
 use Rattle.ab_abs.specs.Ensembles.{Proto}
 use Rattle.ab_abs.specs.FormLaws.{KeepsForm}
-use Rattle.ab_links.specs.Digested.{HasNoCollision, Item, history, keep_items, any_found, nothing, histories_of, requests_of, IsDigested}
-use Rattle.ab_links.proofs.DigestedLemmas.{all_free, none_found, all_kept, fewer, found_step, kept_step, nothing_is, nothing_free, HasNoCollision-same, IsDigested-same}
+use Rattle.ab_links.specs.Digested.{HasNoCollision, Item, history, keep_items, any_found, nothing, histories_of, lists_of, requests_of, IsDigested}
+use Rattle.ab_links.proofs.DigestedLemmas.{all_free, none_found, all_kept, fewer, found_step, kept_step, nothing_is, nothing_free, HasNoCollision-same, IsDigested-same, turned}
 use Rattle.ab_run.specs.Setups.{RunSetup}
 use Rattle.ab_run.specs.Runs.{Event, invoke, to_replica, to_client, replica_time, client_time, Run, run, step}
 use Rattle.ab_run.specs.Inputs.{Input, told, came, rang, elsewhere, Opener, opened, event_in, events_in}
@@ -47,7 +47,7 @@ module _ {P : Type 0} (k : RunSetup) (proto : Proto P) {serves : Kind → Bool} 
   -- what is kept tells of the run over what came, the newest first
   record Tells (x : Watch) (inputs : List Input) : Type 0 where
     free : x.collided ≡ None → Free inputs
-    kept : x.collided ≡ None → IsDigested x.kept (at inputs).had (at inputs).asked
+    kept : x.collided ≡ None → IsDigested x.kept (at inputs).had (at inputs).lists (at inputs).asked
     found : (c : Collision) → x.collided ≡ Some c → IsCollidedAt k proto opens inputs c.event c.party
     nothing_found : Free inputs → x.collided ≡ None
     only : (c : Collision) → IsCollidedAt k proto opens inputs c.event c.party → x.collided ≡ Some c
@@ -92,7 +92,7 @@ module _ {P : Type 0} (k : RunSetup) (proto : Proto P) {serves : Kind → Bool} 
       let from : Free (g ∷ inputs) → Free inputs = subst (IsFree k proto) same in
       record {
         free = λ e. to (was.free e);
-        kept = λ e. subst (λ es. IsDigested x.kept (run k proto es).had (run k proto es).asked) (sym same) (was.kept e);
+        kept = λ e. subst (λ es. IsDigested x.kept (run k proto es).had (run k proto es).lists (run k proto es).asked) (sym same) (was.kept e);
         found = λ c e. longer g inputs c.event c.party (was.found c e);
         nothing_found = λ f. was.nothing_found (from f);
         only = λ c is. elim (split g inputs c.event c.party is) [
@@ -116,17 +116,22 @@ module _ {P : Type 0} (k : RunSetup) (proto : Proto P) {serves : Kind → Bool} 
     same_events : events_in opens (g ∷ inputs) ≡ e ∷ events_in opens inputs
     same_events = ap (λ es. es ++ events_in opens inputs) is
 
-    to : HasNoCollision (step k proto w e).had (step k proto w e).asked → Free (g ∷ inputs)
+    abbrev v : Run P
+    v = step k proto w e
+
+    to : HasNoCollision v.had v.lists v.asked → Free (g ∷ inputs)
     to = subst (IsFree k proto) (sym same_events)
 
-    from : Free (g ∷ inputs) → HasNoCollision (step k proto w e).had (step k proto w e).asked
+    from : Free (g ∷ inputs) → HasNoCollision v.had v.lists v.asked
     from = subst (IsFree k proto) same_events
 
-    back : HasNoCollision (step k proto w e).had (step k proto w e).asked → HasNoCollision (w.had ++ histories_of items) (w.asked ++ requests_of items)
-    back = HasNoCollision-same (step k proto w e).had (w.had ++ histories_of items) (step k proto w e).asked (w.asked ++ requests_of items) (λ h. ((seen.histories h).1, (seen.histories h).0)) (λ m. ((seen.requests m).1, (seen.requests m).0))
+    back : HasNoCollision v.had v.lists v.asked → HasNoCollision (w.had ++ histories_of items) (w.lists ++ lists_of items) (w.asked ++ requests_of items)
+    back =
+        HasNoCollision-same v.had (w.had ++ histories_of items) v.lists (w.lists ++ lists_of items) v.asked (w.asked ++ requests_of items)
+        (turned (w.had ++ histories_of items) v.had seen.histories) (turned (w.lists ++ lists_of items) v.lists seen.lists) (turned (w.asked ++ requests_of items) v.asked seen.requests)
 
     earlier_free : Free (g ∷ inputs) → Free inputs
-    earlier_free f = fewer w.had (histories_of items) w.asked (requests_of items) (back (from f))
+    earlier_free f = fewer w.had (histories_of items) w.lists (lists_of items) w.asked (requests_of items) (back (from f))
 
     same_taker : (q : Party) → taker_of g ≡ Some q → p ≡ q
     same_taker q e' = let both : Some p ≡ Some q = sym taker ∙ e' in cc (both)
@@ -148,14 +153,14 @@ module _ {P : Type 0} (k : RunSetup) (proto : Proto P) {serves : Kind → Bool} 
         let now : (looked x n p items).collided ≡ None = (λ j. first_collision (before j) n p (test j)) in
         let are = was.kept before in
         let free = was.free before in
-        let all = all_free x.kept w.had w.asked items are free seen.begins test in
-        let after = HasNoCollision-same (w.had ++ histories_of items) (step k proto w e).had (w.asked ++ requests_of items) (step k proto w e).asked seen.histories seen.requests all in
+        let all = all_free x.kept w.had w.lists w.asked items are free seen.begins test in
+        let after = HasNoCollision-same (w.had ++ histories_of items) v.had (w.lists ++ lists_of items) v.lists (w.asked ++ requests_of items) v.asked seen.histories seen.lists seen.requests all in
         record {
           free = λ no. to after;
           kept = λ no.
-              subst (λ es. IsDigested (keep_items x.kept items) (run k proto es).had (run k proto es).asked) (sym same_events)
-              (IsDigested-same (w.had ++ histories_of items) (step k proto w e).had (w.asked ++ requests_of items) (step k proto w e).asked seen.histories seen.requests (keep_items x.kept items)
-              (all_kept x.kept w.had w.asked items are free seen.begins all));
+              subst (λ es. IsDigested (keep_items x.kept items) (run k proto es).had (run k proto es).lists (run k proto es).asked) (sym same_events)
+              (IsDigested-same (w.had ++ histories_of items) v.had (w.lists ++ lists_of items) v.lists (w.asked ++ requests_of items) v.asked seen.histories seen.lists seen.requests (keep_items x.kept items)
+              (all_kept x.kept w.had w.lists w.asked items are free seen.begins all));
           found = λ c one. let both : None ≡ Some c = sym now ∙ one in absurd (cc (both));
           nothing_found = λ f. now;
           only = λ c at. elim (split g inputs c.event c.party at) [
@@ -167,7 +172,7 @@ module _ {P : Type 0} (k : RunSetup) (proto : Proto P) {serves : Kind → Bool} 
         let now : (looked x n p items).collided ≡ Some (record { event = n; party = p }) = (λ j. first_collision (before j) n p (test j)) in
         let are = was.kept before in
         let free = was.free before in
-        let not_free : Free (g ∷ inputs) → ⊥ = λ f. true≢false (sym test ∙ none_found x.kept w.had w.asked items are free seen.begins (back (from f))) in
+        let not_free : Free (g ∷ inputs) → ⊥ = λ f. true≢false (sym test ∙ none_found x.kept w.had w.lists w.asked items are free seen.begins (back (from f))) in
         record {
           free = λ no. let both : Some (record { event = n; party = p }) ≡ None = sym now ∙ no in absurd (cc (both));
           kept = λ no. let both : Some (record { event = n; party = p }) ≡ None = sym now ∙ no in absurd (cc (both));
@@ -189,12 +194,12 @@ module _ {P : Type 0} (k : RunSetup) (proto : Proto P) {serves : Kind → Bool} 
   -- ---- all of them
 
   first_free : Free []
-  first_free = (found_step nothing [] [] nothing_is nothing_free (history [] 0) (λ some. absurd (omega (arith, some)))).0 refl
+  first_free = (found_step nothing [] [] [] nothing_is nothing_free (history [] 0) (λ some. absurd (omega (arith, some)))).0 refl
 
   tells_first : Tells first_watch []
   tells_first = record {
     free = λ e. first_free;
-    kept = λ e. kept_step nothing [] [] nothing_is nothing_free (history [] 0) (λ some. absurd (omega (arith, some))) first_free;
+    kept = λ e. kept_step nothing [] [] [] nothing_is nothing_free (history [] 0) (λ some. absurd (omega (arith, some))) first_free;
     found = λ c e. absurd (cc (e));
     nothing_found = λ f. refl;
     only = λ c is. absurd (nowhere is.later is.input is.earlier is.place);

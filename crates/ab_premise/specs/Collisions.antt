@@ -12,10 +12,10 @@ use Rattle.ab_msg.specs.Claims.{claims}
 use Rattle.ab_abs.specs.Faults.{is_faulty}
 use Rattle.ab_abs.specs.Messages.{Call, took, timed}
 use Rattle.ab_abs.specs.Ensembles.{Proto}
-use Rattle.ab_links.specs.Digested.{HasNoCollision, Digested, Item, history, request, keep_item, keep_items, any_found, nothing}
+use Rattle.ab_links.specs.Digested.{HasNoCollision, Digested, Item, history, list, request, keep_item, keep_items, any_found, nothing}
 use Rattle.ab_run.specs.Setups.{RunSetup, replicas}
 use Rattle.ab_run.specs.Replicas.{Rep, state_at}
-use Rattle.ab_run.specs.Runs.{Event, invoke, to_replica, to_client, replica_time, client_time, Run, run}
+use Rattle.ab_run.specs.Runs.{Event, invoke, to_replica, to_client, replica_time, client_time, Run, stated_list, run}
 use Rattle.ab_run.specs.Local.{rep_after}
 use Rattle.ab_run.specs.Inputs.{Input, told, came, rang, elsewhere, Opener, event_in, events_in}
 use Rattle.ab_premise.specs.declared.breach.Collision.{Collision}
@@ -30,9 +30,9 @@ taker_of (rang p) = Some p
 taker_of elsewhere = None
 
 module _ {P : Type 0} (k : RunSetup) (proto : Proto P) where
-  -- among what correct parties had or checked in the run no two different histories or requests have one digest
+  -- of the histories, lists and requests that correct parties had or checked in the run no digests collide
   abbrev pub IsFree : List Event → Type 0
-  IsFree events = HasNoCollision (run k proto events).had (run k proto events).asked
+  IsFree events = HasNoCollision (run k proto events).had (run k proto events).lists (run k proto events).asked
 
   module _ (opens : Opener) where
     -- of what came, the newest first, number n is the earliest after which the run has a collision, and party p took it
@@ -69,9 +69,9 @@ looked x n p items = record { kept = keep_items x.kept items; collided = first_c
 abbrev pub looked_on : Watch → ℕ → Party → Bool → List Item → Watch
 looked_on x n p found items = record { kept = keep_items x.kept items; collided = first_collision x.collided n p (found || any_found x.kept items) }
 
--- what is looked at of a content: the history or the request that it states
+-- what is looked at of a content: the history, the list or the request that it states
 abbrev pub content_items : Content → List Item
-content_items c = map (λ h. history h 0) (stated_history c) ++ map request (stated_request c)
+content_items c = map (λ h. history h 0) (stated_history c) ++ (map list (stated_list c) ++ map request (stated_request c))
 
 abbrev pub value_items : Value → List Item
 value_items (value.Base h) = history h 0 ∷ []

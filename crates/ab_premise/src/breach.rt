@@ -10,8 +10,8 @@ pub struct Forgery {
     pub maker: Party,
 }
 
-/// The first event after which two different histories or requests that correct parties had or
-/// checked have one digest, and the party that took it.
+/// The first event after which digests collide of the histories, lists and requests that correct
+/// parties had or checked, and the party that took it.
 #[derive(Clone, Copy, Debug, PartialEq, Eq)]
 pub struct Collision {
     pub event: u32,

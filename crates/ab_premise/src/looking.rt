@@ -3,23 +3,24 @@
 ghost use Rattle.std.specs.Prelude.{◌≡◌, ◌∷◌, [], IfOk, OnOk, map, flat_map};
 ghost use Rattle.std.specs.Option.{option_map};
 ghost use Rattle.ab_form.specs.Readers.{listed};
-ghost use Rattle.ab_links.specs.Digested.{any_found, history as history_item, keep_items, request as request_item};
+ghost use Rattle.ab_links.specs.Digested.{any_found, history as history_item, keep_items, list as list_item, request as request_item};
 ghost use Rattle.ab_msg.specs.Carried.{values_in};
 ghost use Rattle.ab_msg.specs.Certs.{AreSlotValues};
 ghost use Rattle.ab_msg.specs.Contents.{IsContent};
-ghost use Rattle.ab_msg.specs.Fields.{IsWritten};
+ghost use Rattle.ab_msg.specs.Fields.{IsSpellable, IsWritten};
 ghost use Rattle.ab_content.specs.Parts.{any_request_at};
-ghost use Rattle.ab_content.specs.Views.{content as shown, history as entries};
+ghost use Rattle.ab_content.specs.Views.{content as shown, history as entries, trimmed};
 ghost use Rattle.ab_wire.specs.Views.{IsReceived, message, proofs, values};
 ghost use Rattle.ab_check.specs.Listing.{IsClaim, claimed};
 ghost use Rattle.ab_premise.specs.Collisions.{content_items, first_items, value_items};
 
 use ab_check::{Checks, ClaimRef, copy_of};
-use ab_content::{ContentRef, HistoryRef, RequestRef};
+use ab_content::{ContentRef, HistoryRef, RequestRef, TrimmedRef};
 use ab_form::ListRef;
 use ab_hist::History;
 use ab_links::Digests;
 use ab_num::OutOfMemory;
+use ab_trim::own_trimmed;
 use ab_wire::{MsgRef, ProofRef, ValuesRef};
 use std::alloc::Global;
 
@@ -41,7 +42,21 @@ fn look_at_received(
     Ok(found)
 }
 
-/// Looks at the history or the request that a content states.
+/// Looks along a list that may have forgotten its first entries.
+fn look_at_list(
+    alloc: Global,
+    digests: &mut Digests,
+    list: &TrimmedRef<'_>,
+) -> Result<bool, OutOfMemory>
+    requires { IsSpellable (trimmed list.now) }
+    ensures found { IfOk result (λ found. found ≡ any_found digests.old (list_item (trimmed list.now) ∷ [])) }
+    ensures ok { OnOk result (digests.new ≡ keep_items digests.old (list_item (trimmed list.now) ∷ [])) }
+{
+    let own = own_trimmed(alloc, list)?;
+    digests.add_list(&own)
+}
+
+/// Looks at the history, the list or the request that a content states.
 fn look_at_content(
     alloc: Global,
     digests: &mut Digests,
@@ -55,13 +70,26 @@ fn look_at_content(
     match content {
         ContentRef::Abort { history, .. } => look_at_received(alloc, digests, last, history),
         ContentRef::AbortZ { history, .. } => look_at_received(alloc, digests, last, history),
+        ContentRef::TrimmedAbort {
+            start,
+            digest,
+            rest,
+            ..
+        } => {
+            let list = TrimmedRef {
+                start: *start,
+                digest: *digest,
+                rest: *rest,
+            };
+            look_at_list(alloc, digests, &list)
+        }
         ContentRef::Req { request, .. } => digests.add_request(&request.own()),
         ContentRef::Order { request, .. } => digests.add_request(&request.own()),
         _ => Ok(false),
     }
 }
 
-/// Looks at the history or the request that a claim states.
+/// Looks at the history, the list or the request that a claim states.
 #[tactic(auto, using(crate::proofs::LookLemmas::said_items))]
 fn look_at_claim(
     alloc: Global,
@@ -82,7 +110,7 @@ fn look_at_claim(
     }
 }
 
-/// Looks at the histories and requests that are checked.
+/// Looks at the histories, lists and requests that are checked.
 #[tactic(auto, using(crate::proofs::LookLemmas::keeps_step, crate::proofs::LookLemmas::finds_step))]
 pub(crate) fn look_at_claims(
     alloc: Global,

@@ -83,8 +83,8 @@ impl Watch {
         forged_in(k, faulty, &self.made, m)
     }
 
-    /// Looks at the histories and requests that the party which opened a message checks in it, and at
-    /// those among its values. It is answered whether two different ones have one digest. After an `Err`
+    /// Looks at the histories, lists and requests that the party which opened a message checks in it, and
+    /// at those among its values. It is answered whether digests collide. After an `Err`
     /// some of it may be kept.
     pub fn look_at_checked(
         &mut self,
