@@ -457,15 +457,15 @@ module _ {P : Type 0} (k : RunSetup) (proto : Proto P) (serves : Kind → Bool) 
   reps_else q ne [] w = refl
   reps_else q ne (t ∷ ts) w = reps_else q ne ts (take_turn k proto q w t) ∙ put_other w.reps q r (after_turn k proto q (w.reps q) t) ne
 
-  moves_else : (c : ℕ) (ts : List CliAction) (w : Run P) → StaysIn w → StaysIn (take_moves c w ts)
+  moves_else : (c : ℕ) (ts : List CliAction) (w : Run P) → StaysIn w → StaysIn (take_moves k c w ts)
   moves_else c [] w was = was
   moves_else c (t ∷ ts) w was =
       let more = made_in_move c (w.clis c) t in
-      moves_else c ts (take_move c w t)
+      moves_else c ts (take_move k c w t)
       (others_make (w.reps r).at (w.reps r).value more w.made (λ q has mine. let its = made_by_client c (w.clis c) t q has in cc (its, mine)) was)
 
   reps_stay : (c : ℕ) (ts : List CliAction) (w : Run P) → StaysIn w → StaysIn (at_client k proto c w ts)
-  reps_stay c ts w was = if_each StaysIn (is_faulty k.faulty (Client c)) (record w { clis = (take_moves c w ts).clis }) (take_moves c w ts) (λ _. was) (λ _. moves_else c ts w was)
+  reps_stay c ts w was = if_each StaysIn (is_faulty k.faulty (Client c)) (record w { clis = (take_moves k c w ts).clis }) (take_moves k c w ts) (λ _. was) (λ _. moves_else c ts w was)
 
   own_stays : (ts : List RepAction) (w : Run P) → MayTurns (w.reps r) ts → StaysIn w → StaysIn (at_replica k proto r w ts)
   own_stays ts w may was =

@@ -12,7 +12,7 @@ use Rattle.ab_msg.specs.Pens.{Pen}
 use Rattle.ab_abs.specs.declared.seen.Seen.{Seen}
 use Rattle.ab_abs.specs.declared.entry.Entry.{Entry}
 use Rattle.ab_abs.specs.Faults.{is_faulty}
-use Rattle.ab_abs.specs.Acts.{Act, Setting, MayStart, Premises, abort_content, histories, histories_of_act, requests, requests_of_act}
+use Rattle.ab_abs.specs.Acts.{Act, Setting, MayStart, Premises, abort_content, histories, histories_of_act, bases, bases_of_act, requests, requests_of_act}
 use Rattle.ab_abs.specs.Kinds.{kind_in, rule_in}
 use Rattle.ab_abs.proofs.Following.{abort_outer}
 use Rattle.ab_abs.specs.Messages.{Call}
@@ -25,6 +25,7 @@ use Rattle.ab_promises.specs.OwnCalls.{AreOwnCalls, none_yet, begins, takes, sto
 pub premises_before : (x : Setting) (a : Act) (acts : List Act) → Premises x (a ∷ acts) → Premises x acts
 premises_before x a acts p =
     let more : (h : List Request) → Contains (histories acts) h → Contains (histories (a ∷ acts)) h = λ h has. Contains-append_right (histories_of_act a) (histories acts) h has in
+    let base : (h : List Request) → Contains (bases acts) h → Contains (bases (a ∷ acts)) h = λ h has. Contains-append_right (bases_of_act a) (bases acts) h has in
     let asked : (m : Request) → Contains (requests acts) m → Contains (requests (a ∷ acts)) m = λ m has. Contains-append_right (requests_of_act a) (requests acts) m has in
     record {
       few = p.few;
@@ -32,8 +33,8 @@ premises_before x a acts p =
       apart = λ h k b d in_h in_k. p.apart h k b d (more h in_h) (more k in_k);
       slots = record {
         requests = λ m n in_m in_n. p.slots.requests m n (asked m in_m) (asked n in_n);
-        lengths = λ h k in_h in_k. p.slots.lengths h k (more h in_h) (more k in_k);
-        digests = λ h k in_h in_k. p.slots.digests h k (more h in_h) (more k in_k);
+        lengths = λ h k in_h in_k. p.slots.lengths h k (base h in_h) (base k in_k);
+        digests = λ h k in_h in_k. p.slots.digests h k (base h in_h) (base k in_k);
       };
     }
 

@@ -25,7 +25,7 @@ use Rattle.ab_msg.specs.Messages.{IsMessage}
 use Rattle.ab_msg.specs.Slots.{base_digest}
 use Rattle.ab_abs.specs.Backing.{IsCorrect}
 use Rattle.ab_abs.specs.Faults.{is_faulty}
-use Rattle.ab_abs.specs.Acts.{Act, WasMade, histories, histories_of_act, unmarked, Premises}
+use Rattle.ab_abs.specs.Acts.{Act, WasMade, histories, bases, histories_of_act, unmarked, Premises}
 use Rattle.ab_abs.specs.Messages.{took}
 use Rattle.ab_abs.specs.Ensembles.{makes, entry_of, MayTake}
 use Rattle.ab_abs.proofs.Facts.{party_eq-Decides}
@@ -37,6 +37,7 @@ use Rattle.ab_order.specs.Backups.{Backing, first_answers, later_answers}
 use Rattle.ab_order.specs.Protos.{OrderProto, Obeys, told, viewed, answer_out}
 use Rattle.ab_pbft_rules.specs.Locks.{ArePrepared}
 use Rattle.ab_pbft_rules.specs.Rules.{Pbft, pbft}
+use Rattle.ab_abs.proofs.Bases.{bases_are_histories}
 use Rattle.ab_promises.specs.OwnCalls.{AreOwnCalls, none_yet, begins, takes}
 use Rattle.ab_msg.specs.Pens.{no_pen}
 use Rattle.ab_promises.specs.SmallStarts.{four}
@@ -261,7 +262,7 @@ module _ {S P : Type 0} (machine : Machine S) (orders : OrderProto P Pbft) (obey
         ),
       );
       apart = empty_apart (histories (backup_acts machine orders sig)) all_empty;
-      slots = empty_slots (histories (backup_acts machine orders sig)) all_empty;
+      slots = empty_slots (bases (backup_acts machine orders sig)) (λ h has. all_empty h (bases_are_histories (backup_acts machine orders sig) h has));
     }
 
     pub both_prepare : ArePrepared backup_of_four (backup_acts machine orders sig) 0 0 empty_base

@@ -22,7 +22,7 @@ use Rattle.ab_msg.specs.Pens.{no_pen}
 use Rattle.ab_abs.specs.declared.seen.Seen.{Seen}
 use Rattle.ab_abs.specs.declared.seen.Seen.TheVariants.{Invoked, Init, Cert, Committed}
 use Rattle.ab_abs.specs.Faults.{is_faulty}
-use Rattle.ab_abs.specs.Acts.{Act, Premises, SlotsApart, WasMade, unmarked, observations, histories, requests, state_of}
+use Rattle.ab_abs.specs.Acts.{Act, Premises, SlotsApart, WasMade, unmarked, observations, histories, bases, requests, state_of}
 use Rattle.ab_abs.specs.Kinds.{rule_in}
 use Rattle.ab_abs.specs.Rules.{IsFull, IsOther, by_client, request}
 use Rattle.ab_abs.specs.Ensembles.{Proto, entry_of, put, MayTake}
@@ -32,6 +32,7 @@ use Rattle.ab_chain.specs.Rules.{ChainState, chain}
 use Rattle.ab_promises.specs.OwnCalls.{AreOwnCalls, none_yet, begins, takes, others}
 use Rattle.ab_promises.specs.SmallCommits.{last_faulty, one, only, asks, req, order, link, reply, vote, commits, begun, begun_by, taken_by, three_begin, three_take, all_votes, zlight_acts, last_votes, chain_acts}
 use Rattle.ab_promises.proofs.EmptyLogs.{rises}
+use Rattle.ab_abs.specs.Observations.{is_whole_seen}
 
 -- ---- messages
 
@@ -76,6 +77,7 @@ module _ {P : Type 0} (proto : Proto P) (p : Plan) where
     commits = λ j k q n d y has. let f = Contains-one (Invoked 1 0 one) (Committed j k q n d y) has in absurd (cc f);
     takes = λ j q h has. let f = Contains-one (Invoked 1 0 one) (Cert j q h) has in absurd (cc f);
     enters = λ j r h has. let f = Contains-one (Invoked 1 0 one) (Init j r h) has in absurd (cc f);
+    whole = λ s has. ap is_whole_seen (sym (Contains-one (Invoked 1 0 one) s has));
   })
 
   module _ {S : Type 0} (machine : Machine S) (acts : List Act) (votes : List Content) (asked : Contains (observations acts) (Invoked 1 0 one)) (full : IsFull (rule_in (last_faulty p)) (last_faulty p) votes 0 1 1 only (reply machine)) where
@@ -91,6 +93,7 @@ module _ {P : Type 0} (proto : Proto P) (p : Plan) where
       commits = λ j k q n d y has. subst (λ (s : Seen). IsRight s) (Contains-one (Committed 1 0 one 1 only (reply machine)) (Committed j k q n d y) has) (refl, refl, asked, full);
       takes = λ j q h has. let f = Contains-one (Committed 1 0 one 1 only (reply machine)) (Cert j q h) has in absurd (cc f);
       enters = λ j r h has. let f = Contains-one (Committed 1 0 one 1 only (reply machine)) (Init j r h) has in absurd (cc f);
+      whole = λ s has. ap is_whole_seen (sym (Contains-one (Committed 1 0 one 1 only (reply machine)) s has));
     })
 
   begins_one : (acts : List Act) (left : ℕ → Option P) (r : ℕ) → r < 4 → is_faulty (Replica 3 ∷ []) (Replica r) ≡ false → state_of acts r ≡ None → Own acts left → Own (begun_by proto p r ∷ acts) (put left r (Some (begun proto p r)))
@@ -162,7 +165,7 @@ module _ {S : Type 0} (machine : Machine S) where
   abbrev zlight_asked : List Act
   zlight_asked = asks ∷ three_begin (zlight machine) plan.ZLight
 
-  pub zlight_met : NoCollision (histories (zlight_acts machine)) → SlotsApart (histories (zlight_acts machine)) (requests (zlight_acts machine)) → Premises (last_faulty plan.ZLight) (zlight_acts machine)
+  pub zlight_met : NoCollision (histories (zlight_acts machine)) → SlotsApart (bases (zlight_acts machine)) (requests (zlight_acts machine)) → Premises (last_faulty plan.ZLight) (zlight_acts machine)
   zlight_met apart slots =
       let all = three_take (zlight machine) plan.ZLight order in
       let first = zlight_taken 0 req ∷ zlight_asked in
@@ -225,7 +228,7 @@ module _ {S : Type 0} (machine : Machine S) where
   third_voted : Contains (chain_taken 2 link).made (vote machine 2)
   third_voted = subst (λ (l : List Content). Contains l (vote machine 2)) (sym third_says) (1, omega arith, refl)
 
-  pub chain_met : NoCollision (histories (chain_acts machine)) → SlotsApart (histories (chain_acts machine)) (requests (chain_acts machine)) → Premises (last_faulty plan.Chain) (chain_acts machine)
+  pub chain_met : NoCollision (histories (chain_acts machine)) → SlotsApart (bases (chain_acts machine)) (requests (chain_acts machine)) → Premises (last_faulty plan.Chain) (chain_acts machine)
   chain_met apart slots =
       let all = three_take (chain machine) plan.Chain link in
       let first = chain_taken 0 req ∷ chain_asked in

@@ -3,9 +3,10 @@ use Rattle.std.proofs.Common.{◌≡◌, ℕ, ◌<◌, Bool, Option, Some, None,
 use Rattle.ab_num.specs.declared.plan.Kind.{Kind}
 use Rattle.ab_num.specs.declared.plan.Plan.{Plan}
 use Rattle.ab_num.proofs.Lists.{Contains-none}
-use Rattle.ab_abs.specs.Acts.{Act, Premises, histories, histories_of_act, state_of}
+use Rattle.ab_abs.specs.Acts.{Act, Premises, histories, bases, histories_of_act, state_of}
 use Rattle.ab_abs.specs.Ensembles.{Proto, entry_of, put}
 use Rattle.ab_abs.specs.FormLaws.{KeepsForm}
+use Rattle.ab_abs.proofs.Bases.{bases_are_histories}
 use Rattle.ab_promises.specs.OwnCalls.{AreOwnCalls, none_yet, begins}
 use Rattle.ab_promises.specs.SmallStarts.{four, all_correct, begun_by, starts}
 use Rattle.ab_promises.proofs.EmptyLogs.{AllEmpty, IsIdle, state_empty, more_empty, empty_apart, empty_slots, rises}
@@ -32,7 +33,7 @@ module _ {P : Type 0} (proto : Proto P) (serves : Kind → Bool) (form : KeepsFo
     few = omega arith;
     honest = (λ c has _. absurd (Contains-none c has), (λ c has _. absurd (Contains-none c has), (λ c has _. absurd (Contains-none c has), (λ c has _. absurd (Contains-none c has), tt))));
     apart = empty_apart (histories (starts proto p)) all_empty;
-    slots = empty_slots (histories (starts proto p)) all_empty;
+    slots = empty_slots (bases (starts proto p)) (λ h has. all_empty h (bases_are_histories (starts proto p) h has));
   }
 
   starts_one : (acts : List Act) (left : ℕ → Option P) (r : ℕ) → r < 4 → state_of acts r ≡ None → AreOwnCalls proto (all_correct p) acts left

@@ -6,7 +6,7 @@ ghost use Rattle.ab_num.specs.declared.plan.Plan.TheVariants as plan;
 ghost use Rattle.ab_hist.specs.declared.request.Request.{Request};
 ghost use Rattle.ab_hist.specs.Digests.{NoCollision, digest_of};
 ghost use Rattle.ab_msg.specs.Fields.{IsRequest, IsSig};
-ghost use Rattle.ab_abs.specs.Acts.{Premises, SlotsApart, histories, requests, observations};
+ghost use Rattle.ab_abs.specs.Acts.{Premises, SlotsApart, histories, bases, requests, observations};
 ghost use Rattle.ab_abs.specs.Members.{Member};
 ghost use Rattle.ab_abs.specs.SmallActs.{small, small_acts, reply_to};
 ghost use Rattle.ab_abs.specs.declared.seen.Seen.TheVariants.{Committed};
@@ -42,7 +42,7 @@ pub fn four_replicas_begin<S: Service, P: Protocol<S>>()
 /// digests of their histories differ.
 pub fn four_replicas_answer<S: Service>()
     ensures own { (m : Request) → IsRequest 0 15 m → (left : ℕ → Option Member) × AreOwnCalls (quorum S.machine) small (small_acts S.machine m) left }
-    ensures premises { (m : Request) → NoCollision (histories (small_acts S.machine m)) → SlotsApart (histories (small_acts S.machine m)) (requests (small_acts S.machine m)) → Premises small (small_acts S.machine m) }
+    ensures premises { (m : Request) → NoCollision (histories (small_acts S.machine m)) → SlotsApart (bases (small_acts S.machine m)) (requests (small_acts S.machine m)) → Premises small (small_acts S.machine m) }
     ensures commits { (m : Request) → Contains (observations (small_acts S.machine m)) (Committed 1 m.client m 1 (digest_of (m ∷ [])) (reply_to S.machine m)) }
 {}
 
@@ -51,9 +51,9 @@ pub fn four_replicas_answer<S: Service>()
 /// if the digests of their histories differ.
 pub fn three_replicas_commit<S: Service>()
     ensures zlight { (left : ℕ → Option Light) × AreOwnCalls (zlight S.machine) (last_faulty plan.ZLight) (zlight_acts S.machine) left }
-    ensures zlight_premises { NoCollision (histories (zlight_acts S.machine)) → SlotsApart (histories (zlight_acts S.machine)) (requests (zlight_acts S.machine)) → Premises (last_faulty plan.ZLight) (zlight_acts S.machine) }
+    ensures zlight_premises { NoCollision (histories (zlight_acts S.machine)) → SlotsApart (bases (zlight_acts S.machine)) (requests (zlight_acts S.machine)) → Premises (last_faulty plan.ZLight) (zlight_acts S.machine) }
     ensures chain { (left : ℕ → Option ChainState) × AreOwnCalls (chain S.machine) (last_faulty plan.Chain) (chain_acts S.machine) left }
-    ensures chain_premises { NoCollision (histories (chain_acts S.machine)) → SlotsApart (histories (chain_acts S.machine)) (requests (chain_acts S.machine)) → Premises (last_faulty plan.Chain) (chain_acts S.machine) }
+    ensures chain_premises { NoCollision (histories (chain_acts S.machine)) → SlotsApart (bases (chain_acts S.machine)) (requests (chain_acts S.machine)) → Premises (last_faulty plan.Chain) (chain_acts S.machine) }
 {}
 
 /// Two of four replicas prepare a value in slot 0, with the PREPARE of a third, which is faulty. These

@@ -108,7 +108,7 @@ move_marks_nothing c s (move_ask m) q j n d has = let e = Contains-one (Req (Cli
 move_marks_nothing c s (move_vote b) q j n d has = Contains-none (Checkpoint (Replica q) j n d) has
 move_marks_nothing c s (move_commit m p x reply claims) q j n d has = Contains-none (Checkpoint (Replica q) j n d) has
 move_marks_nothing c s (move_keep v) q j n d has = Contains-none (Checkpoint (Replica q) j n d) has
-move_marks_nothing c s (move_take i cert h m) q j n d has = let e = Contains-one (Req (Client c) (i + 1) m) (Checkpoint (Replica q) j n d) has in cc (e)
+move_marks_nothing c s (move_take i cert list m) q j n d has = let e = Contains-one (Req (Client c) (i + 1) m) (Checkpoint (Replica q) j n d) has in cc (e)
 move_marks_nothing c s move_panic q j n d has = let e = Contains-one (Panic (Client c) s.at) (Checkpoint (Replica q) j n d) has in cc (e)
 move_marks_nothing c s (move_again m) q j n d has = Contains-none (Checkpoint (Replica q) j n d) has
 move_marks_nothing c s (move_spec b sig) q j n d has = Contains-none (Checkpoint (Replica q) j n d) has
@@ -120,7 +120,7 @@ move_aborts_nothing c s (move_ask m) q j n d rest has = let e = Contains-one (Re
 move_aborts_nothing c s (move_vote b) q j n d rest has = Contains-none (TrimmedAbort (Replica q) j n d rest) has
 move_aborts_nothing c s (move_commit m p x reply claims) q j n d rest has = Contains-none (TrimmedAbort (Replica q) j n d rest) has
 move_aborts_nothing c s (move_keep v) q j n d rest has = Contains-none (TrimmedAbort (Replica q) j n d rest) has
-move_aborts_nothing c s (move_take i cert h m) q j n d rest has = let e = Contains-one (Req (Client c) (i + 1) m) (TrimmedAbort (Replica q) j n d rest) has in cc (e)
+move_aborts_nothing c s (move_take i cert list m) q j n d rest has = let e = Contains-one (Req (Client c) (i + 1) m) (TrimmedAbort (Replica q) j n d rest) has in cc (e)
 move_aborts_nothing c s move_panic q j n d rest has = let e = Contains-one (Panic (Client c) s.at) (TrimmedAbort (Replica q) j n d rest) has in cc (e)
 move_aborts_nothing c s (move_again m) q j n d rest has = Contains-none (TrimmedAbort (Replica q) j n d rest) has
 move_aborts_nothing c s (move_spec b sig) q j n d rest has = Contains-none (TrimmedAbort (Replica q) j n d rest) has
@@ -583,9 +583,9 @@ module _ {P : Type 0} (k : RunSetup) (proto : Proto P) (serves : Kind → Bool) 
         ];
       }
 
-  moves_vouch : (c : ℕ) (ts : List CliAction) (w : Run P) → IsVouched w → IsVouched (take_moves c w ts)
+  moves_vouch : (c : ℕ) (ts : List CliAction) (w : Run P) → IsVouched w → IsVouched (take_moves k c w ts)
   moves_vouch c [] w was = was
-  moves_vouch c (t ∷ ts) w was = moves_vouch c ts (take_move c w t) (more_made w.made (made_in_move c (w.clis c) t) w.log w.had w.reps (move_marks_nothing c (w.clis c) t) (move_aborts_nothing c (w.clis c) t) was)
+  moves_vouch c (t ∷ ts) w was = moves_vouch c ts (take_move k c w t) (more_made w.made (made_in_move c (w.clis c) t) w.log w.had w.reps (move_marks_nothing c (w.clis c) t) (move_aborts_nothing c (w.clis c) t) was)
 
   -- a faulty replica may be anywhere
   other_reps : (w : Run P) (reps : ℕ → Rep P) → ((q : ℕ) → is_faulty k.faulty (Replica q) ≡ false → reps q ≡ w.reps q) → IsVouched w → IsVouched (record w { reps = reps })
@@ -609,7 +609,7 @@ module _ {P : Type 0} (k : RunSetup) (proto : Proto P) (serves : Kind → Bool) 
 
   client_vouches : (c : ℕ) (w : Run P) (ts : List CliAction) → IsVouched w → IsVouched (at_client k proto c w ts)
   client_vouches c w ts was =
-      if_vouched (is_faulty k.faulty (Client c)) (record w { clis = (take_moves c w ts).clis }) (take_moves c w ts)
+      if_vouched (is_faulty k.faulty (Client c)) (record w { clis = (take_moves k c w ts).clis }) (take_moves k c w ts)
       (λ bad. record { made_of = was.made_of; kept_of = was.kept_of; trimmed_of = was.trimmed_of; had_of = was.had_of; stated_of = was.stated_of }) (λ good. moves_vouch c ts w was)
 
   step_vouches : (w : Run P) (deeds : List InstanceAct) (e : Event) → IsFormedEvent k e → AreMade k w.made (checked k e) → EventRight k proto serves law w deeds e → Kept k proto serves law w deeds → IsVouched w → IsVouched (step k proto w e)

@@ -52,12 +52,12 @@ vote_is c j (TrimmedAbort (Client q) i n d rest) v is = absurd (cc (is))
 vote_is c j _ v is = absurd (cc (is))
 
 -- each vote stands in the certificate
-record IsFound (c : Cluster) (j : ℕ) (cert : List Signed) (v : Stated) : Type 0 where
+pub record IsFound (c : Cluster) (j : ℕ) (cert : List Signed) (v : Stated) : Type 0 where
   pub signed : Signed
   pub there : Contains cert signed
   pub vote : IsVote c j signed.content v
 
-votes_found : (c : Cluster) (j : ℕ) (cert : List Signed) (votes : List Stated) → all_stated c j cert ≡ Some votes → (v : Stated) → Contains votes v → IsFound c j cert v
+pub votes_found : (c : Cluster) (j : ℕ) (cert : List Signed) (votes : List Stated) → all_stated c j cert ≡ Some votes → (v : Stated) → Contains votes v → IsFound c j cert v
 votes_found c j [] votes is v has = let e : [] ≡ votes = cc (is) in absurd (Contains-none v (subst (λ (vs : List Stated). Contains vs v) (sym e) has))
 votes_found c j (s ∷ cert) votes is v has = by_parts (λ us more u has'. votes_found c j cert us more u has') (list_stated c j s.content) (all_stated c j cert) refl refl is
   where

@@ -2,10 +2,11 @@
 use Rattle.std.proofs.Common.{◌≡◌, ℕ, zero, suc, ◌+◌, ◌<◌, ◌≤◌, Bool, true, Some, List, [], ◌∷◌, ◌⊎◌, length, take, drop, refl, sym, ap, ◌∙◌, subst, inl, inr, arith}
 use Rattle.std.specs.Prelude.{Contains, ◌==◌, if◌then◌else◌}
 use Rattle.std.proofs.lemmas.Bool.{cases_Bool, cases_lt}
-use Rattle.std.proofs.lemmas.List.{take-append-drop}
+use Rattle.std.proofs.lemmas.List.{take-append-drop, length-take, take-append-le, take_all}
 use Rattle.std.proofs.lemmas.List.Elements.{Contains-append_cases, Contains-append_left, Contains-append_right}
 use mathlib.Core.List.{IsPrefix}
 use base.Growing.{prefix_trans}
+use Rattle.ab_abs.proofs.Prefixes.{prefix_length}
 use Rattle.ab_num.specs.declared.plan.Kind.{Kind}
 use Rattle.ab_num.specs.declared.party.Party.TheVariants.{Replica}
 use Rattle.ab_hist.specs.declared.request.Request.{Request}
@@ -41,6 +42,14 @@ same_fronts had (suc n) h g apart in_h in_g same le_h le_g =
         | inr has_g ↦ apart h g (take (suc n) h) (take (suc n) g) has_h has_g (drop (suc n) h, take-append-drop (suc n) h) (drop (suc n) g, take-append-drop (suc n) g) same
       ]
     ]
+
+-- a log that begins with the first n entries of a history has them
+pub front_of_log : (n : ℕ) (h g : List Request) → n ≤ length h → IsPrefix (take n h) g → (n ≤ length g) × (take n g ≡ take n h)
+front_of_log n h g fits begins =
+    let long : length (take n h) ≡ n = omega (arith, length-take n h, fits) in (
+      omega (arith, long, prefix_length (take n h) g begins),
+      ap (take n) (sym begins.1) ∙ take-append-le n (take n h) begins.0 (omega (arith, long)) ∙ take_all n (take n h) (omega (arith, long)),
+    )
 
 -- an observation of an instance is one of the run
 observed_run : (i : ℕ) (run : List InstanceAct) (s : Seen) → Contains (observations (acts_in i run)) s → Contains (seen_in run) s

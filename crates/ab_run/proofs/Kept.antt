@@ -10,6 +10,7 @@ use Rattle.ab_msg.specs.declared.signed.Signed.{Signed}
 use Rattle.ab_msg.specs.declared.zcert.Zcert.{Zcert}
 use Rattle.ab_msg.specs.Claims.{maker_of, kept_claims, specs_of}
 use Rattle.ab_msg.specs.Carried.{stated_history, stated_request}
+use Rattle.ab_abs.specs.declared.seen.Seen.{Seen}
 use Rattle.ab_abs.specs.declared.seen.Seen.TheVariants.{Invoked}
 use Rattle.ab_abs.specs.declared.ballot.Ballot.{Ballot}
 use Rattle.ab_abs.specs.Faults.{is_faulty}
@@ -29,7 +30,7 @@ use Rattle.ab_run.specs.declared.phase.Phase.TheVariants.{Idle, Waiting, Panicki
 use Rattle.ab_run.specs.Runs.{Run}
 use Rattle.ab_run.proofs.Counted.{vote_says}
 use Rattle.ab_run.proofs.AskingLemmas.{none_telling}
-use Rattle.ab_run.proofs.Did.{MadeInActs, HistoriesAreHad, RequestsAreAsked, AllHonest}
+use Rattle.ab_run.proofs.Did.{MadeInActs, AreHad, RequestsAreAsked, AllHonest}
 
 -- what an ABORT states: its log, and the answers in the certificate that it holds
 abbrev pub states_of : Signed → List Content
@@ -100,8 +101,28 @@ module _ {P : Type 0} (k : RunSetup) (proto : Proto P) (serves : Kind → Bool) 
     pub left : (r : ℕ) → r < replicas k → is_faulty k.faulty (Replica r) ≡ false → state_of (acts_in (w.reps r).at v.run) r ≡ Some (state_at k proto (w.reps r))
     pub made : MadeInActs k w.made v.run
     pub seen : w.seen ≡ seen_in v.run
-    pub had : HistoriesAreHad w.had v.run
+    pub had : AreHad w.had v.run
     pub asked : RequestsAreAsked w.asked v.run
     pub log : (i r : ℕ) → r < replicas k → is_faulty k.faulty (Replica r) ≡ false → w.log i r ≡ log_of (acts_in i v.run) r
     pub honest : AllHonest k v.run
     pub clients : (c : ℕ) → is_faulty k.faulty (Client c) ≡ false → ClientKeeps k w.made w.had w.asked v.run c (w.clis c)
+
+  -- whatever the parties show
+  pub shows_more : (w : Run P) (v : Ensemble P) (shown : List Seen) → Keeps w v → Keeps (record w { shown = shown }) v
+  shows_more w v shown was = record {
+    reached = was.reached;
+    where_at = was.where_at;
+    with_value = was.with_value;
+    with_base = was.with_base;
+    belongs = was.belongs;
+    begun = was.begun;
+    from_nothing = was.from_nothing;
+    left = was.left;
+    made = was.made;
+    seen = was.seen;
+    had = was.had;
+    asked = was.asked;
+    log = was.log;
+    honest = was.honest;
+    clients = was.clients;
+  }
