@@ -1,10 +1,10 @@
 -- Kept ABORTs, and the certificates that they make.
-use Rattle.std.proofs.Common.{◌≡◌, ℕ, ◌+◌, ◌*◌, ◌≤◌, Bool, true, false, Option, Some, None, List, [], ◌∷◌, length, arith, refl, sym, ◌∙◌, subst, inl, inr}
-use Rattle.std.specs.Prelude.{◌==◌, ◌&&◌, nat_lt, nat_le, if◌then◌else◌, All, ◌↔◌, Result, Err, IsErrOf}
+use Rattle.std.proofs.Common.{◌≡◌, ℕ, ◌+◌, ◌*◌, ◌≤◌, Bool, true, false, Option, Some, None, List, [], ◌∷◌, length, arith, refl, sym, ap, ◌∙◌, subst, inl, inr}
+use Rattle.std.specs.Prelude.{◌==◌, ◌&&◌, ◌||◌, not, nat_lt, nat_le, if◌then◌else◌, All, ◌↔◌, Result, Err, IsErrOf}
 use Rattle.std.specs.List.{list_all}
 use Rattle.std.proofs.lemmas.Bool.{cases_Bool}
-use Rattle.std.proofs.lemmas.List.Elements.{All-cons, All-head, All-tail, All-filter}
-use Rattle.std.proofs.Math.Bool.{and-false, and-true}
+use Rattle.std.proofs.lemmas.List.Elements.{All-cons, All-head, All-tail}
+use Rattle.std.proofs.Math.Bool.{and-false, and-true, or-false}
 use Rattle.ab_num.specs.declared.cluster.Cluster.{Cluster}
 use Rattle.ab_num.specs.declared.plan.Kind.{Kind}
 use Rattle.ab_num.specs.declared.plan.Kind.TheVariants as kind
@@ -17,28 +17,43 @@ use Rattle.ab_msg.specs.Claims.{instance_of}
 use Rattle.ab_msg.specs.Contents.{IsStopContent}
 use Rattle.ab_msg.specs.Certs.{IsSigned, AreAborts}
 use Rattle.ab_abs.specs.Kinds.{is_zcert, need_of}
-use Rattle.ab_abs.specs.Certificates.{history_of}
+use Rattle.ab_abs.specs.Certificates.{history_of, is_beside}
+use Rattle.ab_stable.specs.Offers.{is_trimmed, makes_checkpoints}
 use Rattle.ab_extract.specs.declared.cert.CertFault.{CertFault}
 use Rattle.ab_extract.specs.declared.cert.CertFault.TheVariants as fault
 use Rattle.ab_extract.specs.Certs.{IsFull, IsApart, IsSound, IsFitting, first_repeat, first_foreign, first_bad, is_fit}
 use Rattle.ab_extract.proofs.MemberLemmas.{aborts_are, foreign_signer}
 use Rattle.ab_extract.proofs.CertLemmas.{history_sound}
-use Rattle.ab_run.specs.Clients.{keep, own_cert, same_list, is_plain_abort, is_kept_abort, is_abort_of}
+use Rattle.ab_run.specs.Clients.{keep, is_plain_abort, is_list_abort, is_kept_abort, is_abort_of}
+use Rattle.ab_client.specs.Choices.{is_fit_of}
 
 -- ---- ABORTs that were read
 
-abort_by : (b : Bool) (f j : ℕ) (s : Content) → IsStopContent s → (if b then is_kept_abort f j s else is_plain_abort j s) ≡ ((instance_of s == j) && is_fit b f s)
-abort_by true f j (content.Abort maker i h) is = sym (and-false (i == j))
-abort_by false f j (content.Abort maker i h) is = sym (and-true (i == j))
-abort_by true f j (content.AbortZ maker i h zcert) is = refl
-abort_by false f j (content.AbortZ maker i h zcert) is = sym (and-false (i == j))
-abort_by true f j (content.TrimmedAbort maker i start d rest) is = sym (and-false (i == j))
-abort_by false f j (content.TrimmedAbort maker i start d rest) is = sym (and-false (i == j))
-abort_by b f j _ is = absurd is
+abort_by : (z m : Bool) (f j : ℕ) (s : Content) → IsStopContent s
+    → (if z then is_kept_abort f j s else if m then is_list_abort j s else is_plain_abort j s) ≡ ((instance_of s == j) && (is_fit z f s || ((not z && m) && is_trimmed s)))
+abort_by true m f j (content.Abort maker i h) is = sym (and-false (i == j))
+abort_by false true f j (content.Abort maker i h) is = sym (and-true (i == j))
+abort_by false false f j (content.Abort maker i h) is = sym (and-true (i == j))
+abort_by true m f j (content.AbortZ maker i h zcert) is = ap (λ b. (i == j) && b) (sym (or-false (is_beside f h zcert)))
+abort_by false true f j (content.AbortZ maker i h zcert) is = sym (and-false (i == j))
+abort_by false false f j (content.AbortZ maker i h zcert) is = sym (and-false (i == j))
+abort_by true m f j (content.TrimmedAbort maker i start d rest) is = sym (and-false (i == j))
+abort_by false true f j (content.TrimmedAbort maker i start d rest) is = sym (and-true (i == j))
+abort_by false false f j (content.TrimmedAbort maker i start d rest) is = sym (and-false (i == j))
+abort_by z m f j _ is = absurd is
 
--- an ABORT is one of the instance that it names, where it is as the instances of its kind have it
-pub is_abort_of-fits : (k : Kind) (f j : ℕ) (s : Content) → IsStopContent s → is_abort_of k f j s ≡ ((instance_of s == j) && is_fit (is_zcert k) f s)
-is_abort_of-fits k f j s is = abort_by (is_zcert k) f j s is
+-- no kind has both certificates of answers and CHECKPOINTs
+trims_without : (k : Kind) → (not (is_zcert k) && makes_checkpoints k) ≡ makes_checkpoints k
+trims_without kind.Quorum = refl
+trims_without kind.ZLight = refl
+trims_without kind.Chain = refl
+trims_without kind.Backup = refl
+trims_without kind.ZCert = refl
+
+-- an ABORT is one of the instance that it names, if it is as the instances of its kind have it
+pub is_abort_of-fits : (k : Kind) (f j : ℕ) (s : Content) → IsStopContent s → is_abort_of k f j s ≡ ((instance_of s == j) && is_fit_of k f s)
+is_abort_of-fits k f j s is =
+    abort_by (is_zcert k) (makes_checkpoints k) f j s is ∙ ap (λ b. (instance_of s == j) && (is_fit (is_zcert k) f s || (b && is_trimmed s))) (trims_without k)
 
 -- ---- how many there are
 
@@ -106,10 +121,3 @@ module _ (P : Signed → Type 0) (v : Signed) (here : P v) where
       kept_by : (b : Bool) (xs ys : List Signed) → All P xs → All P ys → All P (if b then xs else ys)
       kept_by true xs ys p q = p
       kept_by false xs ys p q = q
-
-  pub All-own_cert : (k : Kind) (kept : List Signed) → All P kept → All P (own_cert k v kept)
-  All-own_cert kind.Quorum kept all = All-keep kept all
-  All-own_cert kind.ZLight kept all = All-keep kept all
-  All-own_cert kind.Chain kept all = All-keep kept all
-  All-own_cert kind.Backup kept all = All-filter (λ w. same_list v.content w.content) P (keep v kept) (All-keep kept all)
-  All-own_cert kind.ZCert kept all = All-keep kept all

@@ -16,6 +16,7 @@ use Rattle.ab_num.specs.Places.{kind_of}
 use Rattle.ab_form.specs.Formats.{IsWithin}
 use Rattle.ab_form.specs.Lists.{FitsInside}
 use Rattle.ab_hist.specs.declared.request.Request.{Request}
+use Rattle.ab_hist.specs.Trimmed.{Trimmed}
 use Rattle.ab_msg.specs.declared.signed.Signed.{Signed}
 use Rattle.ab_msg.specs.declared.message.Msg.TheVariants as msg
 use Rattle.ab_msg.specs.declared.message.Out.{Out}
@@ -27,10 +28,10 @@ use Rattle.ab_msg.specs.Contents.{IsStopContent, IsZcert}
 use Rattle.ab_msg.specs.Certs.{IsSigned, AreAborts}
 use Rattle.ab_abs.specs.declared.ballot.Ballot.{Ballot}
 use Rattle.ab_abs.specs.declared.seen.Seen.{Seen}
-use Rattle.ab_abs.specs.declared.seen.Seen.TheVariants.{Invoked, Cert}
-use Rattle.ab_abs.specs.Kinds.{is_zcert}
-use Rattle.ab_abs.specs.Certificates.{are_apart, history_of}
-use Rattle.ab_extract.specs.Certs.{is_fit}
+use Rattle.ab_abs.specs.declared.seen.Seen.TheVariants.{Invoked}
+use Rattle.ab_abs.specs.Certificates.{are_apart}
+use Rattle.ab_abs.specs.Observations.{cert_seen}
+use Rattle.ab_stable.specs.Offers.{list_in}
 use Rattle.ab_run.specs.declared.phase.Phase.{Phase}
 use Rattle.ab_run.specs.declared.phase.Phase.TheVariants.{Idle, Waiting, Panicking}
 use Rattle.ab_run.specs.Replicas.{cert_instance}
@@ -38,6 +39,7 @@ use Rattle.ab_run.specs.Clients.{Cli, CliAction, move_again, move_cert, move_kee
 use Rattle.ab_run.specs.Asking.{IsSent, AreVoters}
 use Rattle.ab_run.specs.Local.{cue_message}
 use Rattle.ab_run.proofs.AskingLemmas.{timeout_sends}
+use Rattle.ab_client.specs.Choices.{is_fit_of}
 use Rattle.ab_client.specs.Clients.{Seat, alone, is_waiting, marks, moves_on, request_msg, panic_msg, sends}
 use Rattle.ab_run.specs.Forms.{IsDraftOf}
 use Rattle.ab_client.specs.Moved.{IsBallot, IsMoved, IsPlaced, IsRequestOf, open_request}
@@ -90,14 +92,14 @@ module _ (s : Seat) (placed : IsPlaced s.me s.cli) (m : Request) (last : s.cli.l
 
   -- ---- entries
 
-  module _ (j : ℕ) (cert : List Signed) (h : List Request) (aborts : AreAborts 1 7 cert) (below : j < 4294967295) (now : Seat) (sent : List Out) (shown : List Seen)
-      (is : now ≡ record s { cli = after_move s.cli (move_take j cert h m) })
+  module _ (j : ℕ) (cert : List Signed) (t : Trimmed) (aborts : AreAborts 1 7 cert) (below : j < 4294967295) (now : Seat) (sent : List Out) (shown : List Seen)
+      (is : now ≡ record s { cli = after_move s.cli (move_take j cert t m) })
       (sends : sent ≡ cert_out (alone s.cluster) (Some cert) ++ request_out (alone s.cluster) (j + 1) m.client m)
-      (shows : shown ≡ Cert j (Client s.me) h ∷ Invoked (j + 1) s.me m ∷ []) where
+      (shows : shown ≡ cert_seen j (Client s.me) t ∷ Invoked (j + 1) s.me m ∷ []) where
     sent_is : sent ≡ cert_out (alone s.cluster) (Some cert) ++ request_out (alone s.cluster) (j + 1) s.me m
     sent_is = sends ∙ ap (λ c. cert_out (alone s.cluster) (Some cert) ++ request_out (alone s.cluster) (j + 1) c m) open_fits.0
 
-    pub moved_take : IsMoved s (move_take j cert h m ∷ []) now sent shown
+    pub moved_take : IsMoved s (move_take j cert t m ∷ []) now sent shown
     moved_take = record {
       client = is;
       stamp = ap (λ (t : Seat). t.cli.stamp) is;
@@ -184,9 +186,9 @@ module _ (s : Seat) (placed : IsPlaced s.me s.cli) (m : Request) (last : s.cli.l
 -- ---- kept ABORTs
 
 -- an ABORT that is kept just before an entry is gone after it
-pub moved_keep_take : (s : Seat) (v : Signed) (j : ℕ) (cert : List Signed) (h : List Request) (m : Request) (now : Seat) (sent : List Out) (shown : List Seen)
-    → IsMoved s (move_take j cert h m ∷ []) now sent shown → IsMoved s (move_keep v ∷ move_take j cert h m ∷ []) now sent shown
-moved_keep_take s v j cert h m now sent shown is = record { client = is.client; stamp = is.stamp; outs = is.outs; marks = is.marks; drafts = is.drafts }
+pub moved_keep_take : (s : Seat) (v : Signed) (j : ℕ) (cert : List Signed) (t : Trimmed) (m : Request) (now : Seat) (sent : List Out) (shown : List Seen)
+    → IsMoved s (move_take j cert t m ∷ []) now sent shown → IsMoved s (move_keep v ∷ move_take j cert t m ∷ []) now sent shown
+moved_keep_take s v j cert t m now sent shown is = record { client = is.client; stamp = is.stamp; outs = is.outs; marks = is.marks; drafts = is.drafts }
 
 pub moved_keep : (s now : Seat) (v : Signed) → now ≡ record s { cli = after_move s.cli (move_keep v) } → IsMoved s (move_keep v ∷ []) now [] []
 moved_keep s now v is = record { client = is; stamp = ap (λ (t : Seat). t.cli.stamp) is; outs = refl; marks = refl; drafts = λ few. All-nil (IsDraftOf s.cluster.f (Client s.me)) }
@@ -194,28 +196,28 @@ moved_keep s now v is = record { client = is; stamp = ap (λ (t : Seat). t.cli.s
 -- ---- certificates
 
 module _ (c : Cluster) (s : Cli) (m : Request) (j : ℕ) (cert : List Signed) where
-  pub taking-some : (h : List Request) → history_of c j cert ≡ Some h → s.at ≤ j → j < 4294967295 → taking (alone c) s m j cert ≡ move_take j cert h m ∷ []
-  taking-some h is late below =
-      ap (taking_with (alone c) s m j cert) is ∙ ap (λ b. if b then move_take j cert h m ∷ [] else []) (both s.at late below)
+  pub taking-some : (t : Trimmed) → list_in c j cert ≡ Some t → s.at ≤ j → j < 4294967295 → taking (alone c) s m j cert ≡ move_take j cert t m ∷ []
+  taking-some t is late below =
+      ap (taking_with (alone c) s m j cert) is ∙ ap (λ b. if b then move_take j cert t m ∷ [] else []) (both s.at late below)
     where
       both : (a : ℕ) → a ≤ j → j < 4294967295 → (nat_le a j && nat_lt j 4294967295) ≡ true
       both a le lt = grind (arith, nat_tests)
 
-  pub taking-none : history_of c j cert ≡ None → taking (alone c) s m j cert ≡ []
+  pub taking-none : list_in c j cert ≡ None → taking (alone c) s m j cert ≡ []
   taking-none is = ap (taking_with (alone c) s m j cert) is
 
-  out_of_time : (o : Option (List Request)) → (nat_le s.at j && nat_lt j 4294967295) ≡ false → taking_with (alone c) s m j cert o ≡ []
+  out_of_time : (o : Option Trimmed) → (nat_le s.at j && nat_lt j 4294967295) ≡ false → taking_with (alone c) s m j cert o ≡ []
   out_of_time None out = refl
-  out_of_time (Some h) out = ap (λ b. if b then move_take j cert h m ∷ [] else []) out
+  out_of_time (Some t) out = ap (λ b. if b then move_take j cert t m ∷ [] else []) out
 
   pub taking-early : j < s.at → taking (alone c) s m j cert ≡ []
-  taking-early lt = out_of_time (history_of c j cert) (out s.at lt)
+  taking-early lt = out_of_time (list_in c j cert) (out s.at lt)
     where
       out : (a : ℕ) → j < a → (nat_le a j && nat_lt j 4294967295) ≡ false
       out a lt = grind (arith, nat_tests)
 
   pub taking-last : 4294967295 ≤ j → taking (alone c) s m j cert ≡ []
-  taking-last le = out_of_time (history_of c j cert) (out s.at le)
+  taking-last le = out_of_time (list_in c j cert) (out s.at le)
     where
       out : (a : ℕ) → 4294967295 ≤ j → (nat_le a j && nat_lt j 4294967295) ≡ false
       out a le = grind (arith, nat_tests)
@@ -229,7 +231,7 @@ module _ (s : Seat) (v : Signed) (is : IsSigned IsStopContent v) where
   abbrev is_known : Bool
   is_known = list_any (λ w. w.maker == v.maker) s.cli.kept
 
-  may_if : may_keep ≡ ((instance_of v.content == s.cli.at) && is_fit (is_zcert (kind_of s.cluster.plan s.cli.at)) s.cluster.f v.content)
+  may_if : may_keep ≡ ((instance_of v.content == s.cli.at) && is_fit_of (kind_of s.cluster.plan s.cli.at) s.cluster.f v.content)
   may_if = is_abort_of-fits (kind_of s.cluster.plan s.cli.at) s.cluster.f s.cli.at v.content is.1.0
 
   again : (a b : Bool) (moves : List CliAction) → b ≡ true → (if a then (if b then [] else moves) else []) ≡ []
@@ -248,21 +250,21 @@ module _ (s : Seat) (v : Signed) (is : IsSigned IsStopContent v) where
   -- one of another instance
   pub abort_elsewhere : (instance_of v.content ≡ s.cli.at → ⊥) → moves_on s (cue_message (msg.Abort v)) ≡ []
   abort_elsewhere other =
-      refused (may_if ∙ ap (λ b. b && is_fit (is_zcert (kind_of s.cluster.plan s.cli.at)) s.cluster.f v.content) (differs (instance_of v.content) s.cli.at other))
+      refused (may_if ∙ ap (λ b. b && is_fit_of (kind_of s.cluster.plan s.cli.at) s.cluster.f v.content) (differs (instance_of v.content) s.cli.at other))
     where
       differs : (a b : ℕ) → (a ≡ b → ⊥) → (a == b) ≡ false
       differs a b e = grind (arith, nat_tests)
 
   -- one that no certificate of the instance may hold
-  pub abort_unfit : is_fit (is_zcert (kind_of s.cluster.plan s.cli.at)) s.cluster.f v.content ≡ false → moves_on s (cue_message (msg.Abort v)) ≡ []
+  pub abort_unfit : is_fit_of (kind_of s.cluster.plan s.cli.at) s.cluster.f v.content ≡ false → moves_on s (cue_message (msg.Abort v)) ≡ []
   abort_unfit out = refused (may_if ∙ ap (λ b. (instance_of v.content == s.cli.at) && b) out ∙ and-false (instance_of v.content == s.cli.at))
 
   first : (a b : Bool) (moves : List CliAction) → a ≡ true → b ≡ false → (if a then (if b then [] else moves) else []) ≡ moves
   first a b moves e f = ap (λ t. if t then (if b then [] else moves) else []) e ∙ ap (λ t. if t then [] else moves) f
 
   pub abort_first : (m : Request) → open_request s.cli.phase s.cli.last ≡ Some m → instance_of v.content ≡ s.cli.at → list_any (λ w. w.maker == v.maker) s.cli.kept ≡ false
-      → is_fit (is_zcert (kind_of s.cluster.plan s.cli.at)) s.cluster.f v.content ≡ true
-      → moves_on s (cue_message (msg.Abort v)) ≡ move_keep v ∷ taking (alone s.cluster) s.cli m s.cli.at (own_cert (kind_of s.cluster.plan s.cli.at) v s.cli.kept)
+      → is_fit_of (kind_of s.cluster.plan s.cli.at) s.cluster.f v.content ≡ true
+      → moves_on s (cue_message (msg.Abort v)) ≡ move_keep v ∷ taking (alone s.cluster) s.cli m s.cli.at (own_cert s.cluster s.cli.at v s.cli.kept)
   abort_first m asked here new fits =
       if_open-some s.cli.phase s.cli.last _ m asked
       ∙ first may_keep is_known _ (may_if ∙ (λ j. same (instance_of v.content) s.cli.at here j && fits j)) new
@@ -282,14 +284,14 @@ moved_ok s moves other now (Err e) same is = is
 -- ---- an ABORT that completes a certificate, and one that does not
 
 module _ (s : Seat) (v : Signed) (m : Request) (own : List Signed) where
-  pub abort_taken : (j : ℕ) (cert : List Signed) (h : List Request) (now : Seat) (sent : List Out) (shown : List Seen) → j ≡ s.cli.at → cert ≡ own → history_of s.cluster s.cli.at own ≡ Some h → s.cli.at < 4294967295
-      → IsMoved s (move_take j cert h m ∷ []) now sent shown → IsMoved s (move_keep v ∷ taking (alone s.cluster) s.cli m s.cli.at own) now sent shown
-  abort_taken j cert h now sent shown here same history below is =
-      moved_so s (move_keep v ∷ taking (alone s.cluster) s.cli m s.cli.at own) (move_keep v ∷ move_take j cert h m ∷ []) now sent shown
-      (ap (λ l. move_keep v ∷ l) (taking-some s.cluster s.cli m s.cli.at own h history (omega arith) below ∙ (λ i. move_take (sym here i) (sym same i) h m ∷ [])))
-      (moved_keep_take s v j cert h m now sent shown is)
+  pub abort_taken : (j : ℕ) (cert : List Signed) (t : Trimmed) (now : Seat) (sent : List Out) (shown : List Seen) → j ≡ s.cli.at → cert ≡ own → list_in s.cluster s.cli.at own ≡ Some t → s.cli.at < 4294967295
+      → IsMoved s (move_take j cert t m ∷ []) now sent shown → IsMoved s (move_keep v ∷ taking (alone s.cluster) s.cli m s.cli.at own) now sent shown
+  abort_taken j cert t now sent shown here same brings below is =
+      moved_so s (move_keep v ∷ taking (alone s.cluster) s.cli m s.cli.at own) (move_keep v ∷ move_take j cert t m ∷ []) now sent shown
+      (ap (λ l. move_keep v ∷ l) (taking-some s.cluster s.cli m s.cli.at own t brings (omega arith) below ∙ (λ i. move_take (sym here i) (sym same i) t m ∷ [])))
+      (moved_keep_take s v j cert t m now sent shown is)
 
-  pub abort_kept : (now : Seat) (sent : List Out) (shown : List Seen) → (history_of s.cluster s.cli.at own ≡ None) ⊎ (4294967295 ≤ s.cli.at) → now ≡ record s { cli = after_move s.cli (move_keep v) } → sent ≡ [] → shown ≡ []
+  pub abort_kept : (now : Seat) (sent : List Out) (shown : List Seen) → (list_in s.cluster s.cli.at own ≡ None) ⊎ (4294967295 ≤ s.cli.at) → now ≡ record s { cli = after_move s.cli (move_keep v) } → sent ≡ [] → shown ≡ []
       → IsMoved s (move_keep v ∷ taking (alone s.cluster) s.cli m s.cli.at own) now sent shown
   abort_kept now sent shown not_yet is none unseen =
       subst (λ (o : List Out). IsMoved s (move_keep v ∷ taking (alone s.cluster) s.cli m s.cli.at own) now o shown) (sym none)
@@ -297,7 +299,7 @@ module _ (s : Seat) (v : Signed) (m : Request) (own : List Signed) where
       (moved_so s (move_keep v ∷ taking (alone s.cluster) s.cli m s.cli.at own) (move_keep v ∷ []) now [] []
       (ap (λ l. move_keep v ∷ l) (nothing_taken not_yet)) (moved_keep s now v is)))
     where
-      nothing_taken : (history_of s.cluster s.cli.at own ≡ None) ⊎ (4294967295 ≤ s.cli.at) → taking (alone s.cluster) s.cli m s.cli.at own ≡ []
+      nothing_taken : (list_in s.cluster s.cli.at own ≡ None) ⊎ (4294967295 ≤ s.cli.at) → taking (alone s.cluster) s.cli m s.cli.at own ≡ []
       nothing_taken (inl none) = taking-none s.cluster s.cli m s.cli.at own none
       nothing_taken (inr last) = taking-last s.cluster s.cli m s.cli.at own last
 

@@ -5,6 +5,7 @@ use Rattle.std.specs.List.{list_any}
 use Rattle.std.proofs.lemmas.Bool.{and_parts}
 use Rattle.arrayvec.specs.ArrayVec.{ArrayVec}
 use Rattle.ab_hist.specs.declared.request.Request.{Request}
+use Rattle.ab_hist.specs.Trimmed.{Trimmed}
 use Rattle.ab_num.specs.declared.plan.Kind.{Kind}
 use Rattle.ab_num.specs.declared.plan.Kind.TheVariants as kind
 use Rattle.ab_num.specs.declared.party.Party.TheVariants.{Replica}
@@ -18,7 +19,7 @@ use Rattle.ab_msg.specs.Claims.{tail_claims}
 use Rattle.ab_abs.specs.declared.ballot.Ballot.{Ballot}
 use Rattle.ab_abs.specs.Votes.{has_voted, is_full_by}
 use Rattle.ab_abs.specs.Kinds.{rule_in, counts_responses, is_zcert}
-use Rattle.ab_abs.specs.Certificates.{history_of}
+use Rattle.ab_stable.specs.Offers.{list_in}
 use Rattle.ab_run.specs.declared.phase.Phase.{Phase}
 use Rattle.ab_run.specs.declared.phase.Phase.TheVariants.{Idle, Waiting, Panicking}
 use Rattle.ab_run.specs.Setups.{RunSetup, within, replicas, last_instance}
@@ -31,7 +32,7 @@ use Rattle.ab_client.specs.Timers.{number_of, invocations, entries, passed_over,
 -- an invocation has the next stamp, and an entry leads on
 abbrev IsNext : Cli → CliAction → Type 0
 IsNext s (move_ask m) = m.stamp ≡ s.stamp + 1
-IsNext s (move_take j cert h m) = s.at ≤ j
+IsNext s (move_take j cert t m) = s.at ≤ j
 IsNext s _ = Unit {0}
 
 abbrev AreNext : Cli → List CliAction → Type 0
@@ -44,7 +45,7 @@ counted s (move_ask m ∷ moves) next = let rest = counted (after_move s (move_a
 counted s (move_vote b ∷ moves) next = let rest = counted (after_move s (move_vote b)) moves next.1 in omega (arith, rest)
 counted s (move_commit m n d reply claims ∷ moves) next = let rest = counted (after_move s (move_commit m n d reply claims)) moves next.1 in omega (arith, rest)
 counted s (move_keep v ∷ moves) next = let rest = counted (after_move s (move_keep v)) moves next.1 in omega (arith, rest)
-counted s (move_take j cert h m ∷ moves) next = let rest = counted (after_move s (move_take j cert h m)) moves next.1 in omega (arith, rest, next.0)
+counted s (move_take j cert t m ∷ moves) next = let rest = counted (after_move s (move_take j cert t m)) moves next.1 in omega (arith, rest, next.0)
 counted s (move_panic ∷ moves) next = let rest = counted (after_move s move_panic) moves next.1 in omega (arith, rest)
 counted s (move_again m ∷ moves) next = let rest = counted (after_move s (move_again m)) moves next.1 in omega (arith, rest)
 counted s (move_spec b sig ∷ moves) next = let rest = counted (after_move s (move_spec b sig)) moves next.1 in omega (arith, rest)
@@ -53,7 +54,7 @@ counted s (move_told r ∷ moves) next = let rest = counted (after_move s (move_
 
 pub still_counted : (s : Cli) (moves : List CliAction) → entries moves ≡ 0 → passed_over s moves ≡ 0
 still_counted s [] none = refl
-still_counted s (move_take j cert h m ∷ moves) none = absurd (cc (none))
+still_counted s (move_take j cert t m ∷ moves) none = absurd (cc (none))
 still_counted s (move_ask m ∷ moves) none = let rest = still_counted (after_move s (move_ask m)) moves none in omega (arith, rest)
 still_counted s (move_vote b ∷ moves) none = let rest = still_counted (after_move s (move_vote b)) moves none in omega (arith, rest)
 still_counted s (move_commit m n d reply claims ∷ moves) none = let rest = still_counted (after_move s (move_commit m n d reply claims)) moves none in omega (arith, rest)
@@ -80,10 +81,10 @@ module _ (k : RunSetup) (c : ℕ) where
   next_asking s Waiting command = tt
   next_asking s Panicking command = tt
 
-  next_taking_with : (s : Cli) (m : Request) (j : ℕ) (cert : List Signed) (h : Option (List Request)) → AreNext s (taking_with k s m j cert h)
+  next_taking_with : (s : Cli) (m : Request) (j : ℕ) (cert : List Signed) (t : Option Trimmed) → AreNext s (taking_with k s m j cert t)
   next_taking_with s m j cert None = tt
-  next_taking_with s m j cert (Some h) =
-      next_if s (nat_le s.at j && nat_lt j last_instance) (move_take j cert h m ∷ [])
+  next_taking_with s m j cert (Some t) =
+      next_if s (nat_le s.at j && nat_lt j last_instance) (move_take j cert t m ∷ [])
       (λ is. (let both = and_parts (nat_le s.at j) (nat_lt j last_instance) is in grind (arith, both.0), tt))
 
   next_tail : (s : Cli) (m : Request) (n : ℕ) (d : List ℕ) (reply : Option (ArrayVec ℕ)) (claims : List Content) → AreNext s (hears_tail m n d reply claims)
@@ -107,12 +108,12 @@ module _ (k : RunSetup) (c : ℕ) where
   -- what is kept changes nothing of where it is
   next_keeping : (s : Cli) (m : Request) (v : Signed) → AreNext s (keeping k s m v)
   next_keeping s m v =
-      next_unless s (list_any (λ w. w.maker == v.maker) s.kept) (move_keep v ∷ taking k s m s.at (own_cert (kind_at k s) v s.kept))
-      (tt, after_keeping (history_of k.cluster s.at (own_cert (kind_at k s) v s.kept)))
+      next_unless s (list_any (λ w. w.maker == v.maker) s.kept) (move_keep v ∷ taking k s m s.at (own_cert k.cluster s.at v s.kept))
+      (tt, after_keeping (list_in k.cluster s.at (own_cert k.cluster s.at v s.kept)))
     where
-      after_keeping : (h : Option (List Request)) → AreNext (after_move s (move_keep v)) (taking_with k s m s.at (own_cert (kind_at k s) v s.kept) h)
+      after_keeping : (t : Option Trimmed) → AreNext (after_move s (move_keep v)) (taking_with k s m s.at (own_cert k.cluster s.at v s.kept) t)
       after_keeping None = tt
-      after_keeping (Some h) = next_if (after_move s (move_keep v)) (nat_le s.at s.at && nat_lt s.at last_instance) (move_take s.at (own_cert (kind_at k s) v s.kept) h m ∷ []) (λ _. (omega arith, tt))
+      after_keeping (Some t) = next_if (after_move s (move_keep v)) (nat_le s.at s.at && nat_lt s.at last_instance) (move_take s.at (own_cert k.cluster s.at v s.kept) t m ∷ []) (λ _. (omega arith, tt))
 
   next_response : (s : Cli) (waits : Bool) (m : Request) (content : Content) → AreNext s (hears_response k c s waits m content)
   next_response s waits m (Resp (Replica r) i d' stamp n d reply) =
@@ -143,7 +144,7 @@ module _ (k : RunSetup) (c : ℕ) where
       next_if s ((waits && counts_chains (kind_at k s)) && ((i == s.at) && ((q.client == c) && (q.stamp == s.stamp)))) (hears_tail m n d reply (tail_claims k.cluster.f i q n d reply))
       (λ _. next_tail s m n d reply (tail_claims k.cluster.f i q n d reply))
   next_hears s waits m (msg.Abort abort) = next_if s (is_abort_of (kind_at k s) k.cluster.f s.at abort.content) (keeping k s m abort) (λ _. next_keeping s m abort)
-  next_hears s waits m (msg.Init cert) = next_taking_with s m (cert_instance cert) cert (history_of k.cluster (cert_instance cert) cert)
+  next_hears s waits m (msg.Init cert) = next_taking_with s m (cert_instance cert) cert (list_in k.cluster (cert_instance cert) cert)
   next_hears s waits m (msg.Spec spec) = next_spec s waits m spec.content spec.sig
   next_hears s waits m (msg.LocalCommit content tag) = next_if s waits (telling k c s m content s.sent) (λ _. next_telling s m content s.sent)
   next_hears s waits m _ = tt

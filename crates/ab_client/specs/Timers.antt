@@ -17,12 +17,12 @@ invocations (_ ∷ moves) = invocations moves
 -- how many instances are entered
 abbrev pub entries : List CliAction → ℕ
 entries [] = 0
-entries (move_take j cert h m ∷ moves) = suc (entries moves)
+entries (move_take j cert t m ∷ moves) = suc (entries moves)
 entries (_ ∷ moves) = entries moves
 
 -- and how many are passed over by these entries, as a client goes on from s
 abbrev pub passed_by : Cli → CliAction → ℕ
-passed_by s (move_take j cert h m) = j - s.at
+passed_by s (move_take j cert t m) = j - s.at
 passed_by s _ = 0
 
 abbrev pub passed_over : Cli → List CliAction → ℕ

@@ -1,24 +1,26 @@
 //! Certificates, as a client keeps and finds them.
 
 ghost use Rattle.std.specs.Prelude.{◌≡◌, ◌<◌, ◌≤◌, All, length, nat_lt, ◌==◌, ◌↔◌, ◌⊎◌, IsTrue, IsNone, IfSome, IfOk, OnOk, OnErr, slice_get};
-ghost use Rattle.std.specs.List.{filter, insert, list_all, list_any};
+ghost use Rattle.std.specs.List.{insert, list_all, list_any};
 ghost use Rattle.std.specs.Option.{option_map};
 ghost use Rattle.ab_form.specs.Readers.{listed};
 ghost use Rattle.ab_msg.specs.declared.signed.Signed.{Signed as SignedContent};
 ghost use Rattle.ab_msg.specs.Contents.{IsStopContent};
 ghost use Rattle.ab_msg.specs.Certs.{IsSigned};
 ghost use Rattle.ab_abs.specs.Certificates.{history_of};
+ghost use Rattle.ab_content.specs.Views.{content as shown};
 ghost use Rattle.ab_wire.specs.Views.{aborts};
 ghost use Rattle.ab_run.specs.Replicas.{cert_instance};
-ghost use Rattle.ab_run.specs.Clients.{keep, own_cert, same_list};
+ghost use Rattle.ab_run.specs.Clients.{keep};
+ghost use Rattle.ab_client.specs.Choices.{is_fit_of};
 
-use ab_abs::needs_equal;
-use ab_extract::{CertFault, certificates_with_histories_are_sound, check, is_same};
+use ab_extract::{CertFault, certificates_with_histories_are_sound, check, is_fit_view};
 use ab_form::{ListRef, Part};
 use ab_hist::History;
-use ab_msg::{AbortCert, Content, Copied, Signed};
+use ab_msg::{AbortCert, Content, Signed};
 use ab_num::{Cluster, Kind, OutOfMemory};
-use ab_wire::SignedRef;
+use ab_stable::{is_trimmed, makes_checkpoints};
+use ab_wire::{ContentRef, SignedRef};
 use std::alloc::Global;
 
 /// The first part of a list.
@@ -52,11 +54,20 @@ pub(crate) fn timely<'a>(at: u32, cert: &ListRef<'a, SignedRef<'a>>) -> Option<u
     Some(j)
 }
 
-/// The log that the last of these ABORTs states.
+/// Whether instances of the kind have such ABORTs. Nothing is allocated.
+pub(crate) fn is_fit(content: &ContentRef<'_>, kind: Kind, f: u8) -> bool
+    requires { f ≤ 2 }
+    ensures { result ≡ is_fit_of kind f (shown content.now) }
+{
+    is_fit_view(content, kind, f) || (makes_checkpoints(kind) && is_trimmed(content))
+}
+
+/// The log that the last of these ABORTs states; of a trimmed one what is not trimmed.
 fn last_log(aborts: &[Signed]) -> Option<&History> {
     match &aborts.last()?.content {
         Content::Abort { history, .. } => Some(history),
         Content::AbortZ { history, .. } => Some(history),
+        Content::TrimmedAbort { rest, .. } => Some(rest),
         _ => None,
     }
 }
@@ -128,7 +139,7 @@ pub(crate) fn history_of(
 }
 
 /// The place of the ABORT of replica `maker` among the kept ones.
-fn place_for(kept: &[Signed], maker: u8) -> usize
+pub(crate) fn place_for(kept: &[Signed], maker: u8) -> usize
     ensures within { result ≤ length kept.now }
     ensures place { (v : SignedContent) → v.maker ≡ maker → keep v kept.now ≡ insert kept.now result v }
 {
@@ -138,64 +149,6 @@ fn place_for(kept: &[Signed], maker: u8) -> usize
         }
     }
     kept.len()
-}
-
-/// Whether the two ABORTs have one list.
-fn is_alike(a: &Content, b: &Content) -> bool
-    ensures { result ≡ same_list a.now b.now }
-{
-    match a {
-        Content::Abort { history: h, .. } => match b {
-            Content::Abort { history: g, .. } => is_same(g, h),
-            _ => false,
-        },
-        _ => false,
-    }
-}
-
-/// The kept ABORTs and one more.
-fn with_kept(alloc: Global, v: &Signed, kept: &[Signed]) -> Result<Vec<Signed>, OutOfMemory>
-    ensures { IfOk result (λ all. all.items ≡ keep v.now kept.now) }
-{
-    let mut all = Vec::with_capacity(alloc, 8)?;
-    for w in kept {
-        let w = w.copy(alloc)?;
-        all.push(w)?;
-    }
-    let v = v.copy(alloc)?;
-    all.insert(place_for(kept, v.maker), v)?;
-    Ok(all)
-}
-
-/// Those that have the list of `v`.
-fn alike(alloc: Global, v: &Signed, all: &[Signed]) -> Result<Vec<Signed>, OutOfMemory>
-    ensures { IfOk result (λ some. some.items ≡ filter (λ w. same_list v.now.content w.content) all.now) }
-{
-    let mut some = Vec::new(alloc);
-    for w in all {
-        if is_alike(&v.content, &w.content) {
-            let w = w.copy(alloc)?;
-            some.push(w)?;
-        }
-    }
-    Ok(some)
-}
-
-/// The certificate that the kept ABORTs may make with `v` in an instance of this kind.
-pub(crate) fn own_cert(
-    alloc: Global,
-    kind: Kind,
-    v: &Signed,
-    kept: &[Signed],
-) -> Result<AbortCert, OutOfMemory>
-    ensures { IfOk result (λ cert. cert ≡ own_cert kind v.now kept.now) }
-{
-    let all = with_kept(alloc, v, kept)?;
-    if needs_equal(kind) {
-        let some = alike(alloc, v, &all)?;
-        return Ok(AbortCert::of(some));
-    }
-    Ok(AbortCert::of(all))
 }
 
 /// Keeps an ABORT among those of other replicas.

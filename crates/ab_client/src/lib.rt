@@ -2,8 +2,10 @@
 #![tactic(auto)]
 
 mod certs;
+mod choices;
 mod client;
 mod laws;
+mod lists;
 mod sending;
 mod zcerts;
 

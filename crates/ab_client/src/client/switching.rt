@@ -1,12 +1,13 @@
 //! How a client stops its instance, and how it enters another.
 
-ghost use Rattle.std.specs.Prelude.{◌≡◌, ◌+◌, ◌<◌, ◌≤◌, ◌∷◌, [], if◌then◌else◌, List, None, Some, IfOk, IfSome, IsNone, IsSome, OnOk, OnErr, ◌⊎◌};
-ghost use Rattle.ab_num.specs.Places.{kind_of};
+ghost use Rattle.std.specs.Prelude.{◌≡◌, ◌+◌, ◌<◌, ◌≤◌, ◌∷◌, [], if◌then◌else◌, None, Some, IfOk, IfSome, IsNone, IsSome, OnOk, OnErr, ◌⊎◌};
 ghost use Rattle.ab_hist.specs.declared.request.Request.{Request as TheRequest};
+ghost use Rattle.ab_hist.specs.Trimmed.{Trimmed as TrimmedList};
 ghost use Rattle.ab_msg.specs.declared.message.Msg.TheVariants as sent;
 ghost use Rattle.ab_msg.specs.Contents.{IsStopContent};
 ghost use Rattle.ab_msg.specs.Certs.{AreAborts, IsSigned};
-ghost use Rattle.ab_abs.specs.Certificates.{history_of};
+ghost use Rattle.ab_abs.specs.Observations.{cert_seen};
+ghost use Rattle.ab_stable.specs.Offers.{list_in};
 ghost use Rattle.ab_wire.specs.Views.{aborts, signed};
 ghost use Rattle.ab_run.specs.Clients.{after_move, move_again, move_keep, move_panic, move_take, own_cert, taking};
 ghost use Rattle.ab_run.specs.Local.{cue_message, cue_time};
@@ -14,12 +15,14 @@ ghost use Rattle.ab_client.specs.Clients.{alone, is_waiting, moves_on};
 ghost use Rattle.ab_client.specs.Moved.{IsMoved};
 
 use super::{Client, nothing};
-use crate::certs::{history_of, is_kept, keep, known_log, own_cert, timely};
+use crate::certs::{is_fit, is_kept, keep, known_log, timely};
+use crate::choices::own_cert;
+use crate::lists::{CertList, take_list};
 use crate::sending::{asking_again, entering, panicking};
 use ab_abs::{Marks, Seen, Votes, reply_rule};
-use ab_extract::{is_fit_view, own_abort, take_view};
+use ab_extract::own_abort;
 use ab_form::ListRef;
-use ab_hist::{History, Request};
+use ab_hist::Request;
 use ab_msg::{AbortCert, Outs, Signed};
 use ab_num::{Kind, OutOfMemory, Party};
 use ab_run::Phase;
@@ -31,7 +34,7 @@ impl Client {
     fn go_behind(&mut self, j: u32, cert: AbortCert)
         requires last { j < 4294967295 }
         requires cert { AreAborts 1 7 cert }
-        ensures { (h : List TheRequest) (m : TheRequest) → self.new ≡ record self.old { cli = after_move self.old.cli (move_take j cert h m) } }
+        ensures { (t : TrimmedList) (m : TheRequest) → self.new ≡ record self.old { cli = after_move self.old.cli (move_take j cert t m) } }
     {
         self.instance = j + 1;
         self.cert = Some(cert);
@@ -52,43 +55,38 @@ impl Client {
         alloc: Global,
         j: u32,
         cert: AbortCert,
-        h: History,
+        list: CertList,
         request: &Request,
     ) -> Result<(Outs, Marks), OutOfMemory>
         requires last { j < 4294967295 }
         requires cert { AreAborts 1 7 cert }
         requires request { self.old.cli.last ≡ Some request.now }
-        ensures ok { IfOk result (λ r. IsMoved self.old (move_take j cert h request.now ∷ []) self.new r.0 r.1.items) }
+        ensures ok { IfOk result (λ r. IsMoved self.old (move_take j cert list request.now ∷ []) self.new r.0 r.1.items) }
         ensures err { OnErr result (self.new ≡ self.old) }
     {
         let outs = entering(alloc, &self.cluster, j + 1, &cert, request)?;
-        let marks = entry_marks(alloc, j, self.me, h, request);
+        let marks = entry_marks(alloc, j, self.me, list, request);
         self.go_behind(j, cert);
         Ok((outs, marks))
     }
 
-    /// The certificate that the kept ABORTs make with `v`, and its history. None exactly where they make
-    /// none, or where there is no further instance.
+    /// The certificate that the kept ABORTs make with `v`, and the list that it brings. None exactly if they
+    /// make none, or if there is no further instance.
     fn complete(
         &self,
         alloc: Global,
         v: &Signed,
-    ) -> Result<Option<(AbortCert, History)>, OutOfMemory>
+    ) -> Result<Option<(AbortCert, CertList)>, OutOfMemory>
         requires { IsSigned IsStopContent v.now }
-        ensures cert { IfOk result (λ o. IfSome o (λ x. (x.0 ≡ (own_cert (kind_of self.now.cluster.plan self.now.cli.at) v.now self.now.cli.kept)) × AreAborts 1 7 x.0)) }
-        ensures history { IfOk result (λ o. IfSome o (λ x. history_of self.now.cluster self.now.cli.at (own_cert (kind_of self.now.cluster.plan self.now.cli.at) v.now self.now.cli.kept) ≡ Some x.1)) }
+        ensures cert { IfOk result (λ o. IfSome o (λ x. (x.0 ≡ own_cert self.now.cluster self.now.cli.at v.now self.now.cli.kept) × AreAborts 1 7 x.0)) }
+        ensures list { IfOk result (λ o. IfSome o (λ x. list_in self.now.cluster self.now.cli.at (own_cert self.now.cluster self.now.cli.at v.now self.now.cli.kept) ≡ Some x.1)) }
         ensures below { IfOk result (λ o. IsSome o → self.now.cli.at < 4294967295) }
-        ensures none { IfOk result (λ o. IsNone o → (history_of self.now.cluster self.now.cli.at (own_cert (kind_of self.now.cluster.plan self.now.cli.at) v.now self.now.cli.kept) ≡ None) ⊎ (4294967295 ≤ self.now.cli.at)) }
+        ensures none { IfOk result (λ o. IsNone o → (list_in self.now.cluster self.now.cli.at (own_cert self.now.cluster self.now.cli.at v.now self.now.cli.kept) ≡ None) ⊎ (4294967295 ≤ self.now.cli.at)) }
     {
         if self.instance == u32::MAX {
             return Ok(None);
         }
-        let kind = self.cluster.kind(self.instance);
-        let cert = own_cert(alloc, kind, v, &self.kept)?;
-        match history_of(alloc, &self.cluster, self.instance, &cert)? {
-            Some(h) => Ok(Some((cert, h))),
-            None => Ok(None),
-        }
+        own_cert(alloc, &self.cluster, self.instance, v, &self.kept)
     }
 
     /// Keeps the ABORT of another replica.
@@ -110,11 +108,11 @@ impl Client {
     ) -> Result<(Outs, Marks), OutOfMemory>
         requires abort { IsSigned IsStopContent v }
         requires request { self.old.cli.last ≡ Some request.now }
-        ensures ok { IfOk result (λ r. IsMoved self.old (move_keep v ∷ taking (alone self.old.cluster) self.old.cli request.now self.old.cli.at (own_cert (kind_of self.old.cluster.plan self.old.cli.at) v self.old.cli.kept)) self.new r.0 r.1.items) }
+        ensures ok { IfOk result (λ r. IsMoved self.old (move_keep v ∷ taking (alone self.old.cluster) self.old.cli request.now self.old.cli.at (own_cert self.old.cluster self.old.cli.at v self.old.cli.kept)) self.new r.0 r.1.items) }
         ensures err { OnErr result (self.new ≡ self.old) }
     {
         match self.complete(alloc, &v)? {
-            Some((cert, h)) => self.enter(alloc, self.instance, cert, h, request),
+            Some((cert, list)) => self.enter(alloc, self.instance, cert, list, request),
             None => {
                 self.keep(v)?;
                 Ok(nothing(alloc))
@@ -141,7 +139,7 @@ impl Client {
         if is_kept(&self.kept, abort.maker) {
             return Ok(nothing(alloc));
         }
-        if !is_fit_view(
+        if !is_fit(
             &abort.content,
             self.cluster.kind(self.instance),
             self.cluster.f,
@@ -168,8 +166,8 @@ impl Client {
         ensures err { OnErr result (self.new ≡ self.old) }
     {
         let known = known_log(&self.kept, self.cert.as_ref());
-        match take_view(alloc, &self.cluster, j, cert, known)? {
-            Some((h, own)) => self.enter(alloc, j, own, h, request),
+        match take_list(alloc, &self.cluster, j, cert, known)? {
+            Some((list, own)) => self.enter(alloc, j, own, list, request),
             None => Ok(nothing(alloc)),
         }
     }
@@ -241,18 +239,14 @@ impl Client {
     }
 }
 
-/// What is observed where client `me` enters the instance after `j` by a certificate of `j`, whose
-/// history is `h`, with its request open.
-fn entry_marks(alloc: Global, j: u32, me: u16, h: History, request: &Request) -> Marks
+/// What is observed where client `me` enters the instance after `j` by a certificate of `j` that brings
+/// this list, with its request open.
+fn entry_marks(alloc: Global, j: u32, me: u16, list: CertList, request: &Request) -> Marks
     requires { j < 4294967295 }
-    ensures { result.items ≡ Seen.Cert j (Party.Client me) h ∷ Seen.Invoked (j + 1) me request.now ∷ [] }
+    ensures { result.items ≡ cert_seen j (Party.Client me) list ∷ Seen.Invoked (j + 1) me request.now ∷ [] }
 {
     let mut marks = Marks::new_in(alloc);
-    marks.push(Seen::Cert {
-        i: j,
-        p: Party::Client(me),
-        h,
-    });
+    marks.push(list.seen(j, Party::Client(me)));
     marks.push(Seen::Invoked {
         i: j + 1,
         c: me,

@@ -1,10 +1,10 @@
 use Rattle.std.proofs.Common.{◌≡◌, ◌∷◌, [], List, Option, Some, ap, subst}
 use Rattle.std.specs.Prelude.{◌<◌, IfSome, is_some}
-use Rattle.ab_num.specs.Places.{kind_of}
 use Rattle.ab_hist.specs.declared.request.Request.{Request}
+use Rattle.ab_hist.specs.Trimmed.{Trimmed}
 use Rattle.ab_msg.specs.declared.signed.Signed.{Signed}
 use Rattle.ab_msg.specs.Certs.{AreAborts}
-use Rattle.ab_abs.specs.Certificates.{history_of}
+use Rattle.ab_stable.specs.Offers.{list_in}
 use Rattle.ab_run.specs.Clients.{CliAction, move_keep, move_take, own_cert, taking}
 use Rattle.ab_client.specs.Clients.{Seat, alone}
 use Rattle.ab_client.proofs.MovedLemmas.{moved_ok, abort_taken, abort_kept}
@@ -18,20 +18,20 @@ returns-in-Some-clause-ok c =
     let s : Seat = c.args.self.now in
     let v : Signed = c.args.v in
     let m : Request = c.args.request.now in
-    let own : List Signed = own_cert (kind_of s.cluster.plan s.cli.at) v s.cli.kept in
+    let own : List Signed = own_cert s.cluster s.cli.at v s.cli.kept in
     let cert : List Signed = c.in-Some.cert in
-    let h : List Request = c.in-Some.h in
-    let made = at_some (λ x. (x.0 ≡ own) × AreAborts 1 7 x.0) c.in_ok-cert.field-0 (cert, h) c.in-Some.is c.in_ok-cert.ensures.cert in
-    let history : history_of s.cluster s.cli.at own ≡ Some h = at_some (λ x. history_of s.cluster s.cli.at own ≡ Some x.1) c.in_ok-cert.field-0 (cert, h) c.in-Some.is c.in_ok-cert.ensures.history in
+    let t : Trimmed = c.in-Some.list in
+    let made = at_some (λ x. (x.0 ≡ own) × AreAborts 1 7 x.0) c.in_ok-cert.field-0 (cert, t) c.in-Some.is c.in_ok-cert.ensures.cert in
+    let brings : list_in s.cluster s.cli.at own ≡ Some t = at_some (λ x. list_in s.cluster s.cli.at own ≡ Some x.1) c.in_ok-cert.field-0 (cert, t) c.in-Some.is c.in_ok-cert.ensures.list in
     let below : s.cli.at < 4294967295 = c.in_ok-cert.ensures.below (ap is_some c.in-Some.is) in
-    let entered : List CliAction = move_take c.enter.inside.instance cert h m ∷ [] in
+    let entered : List CliAction = move_take c.enter.inside.instance cert t m ∷ [] in
     let kept : List CliAction = move_keep v ∷ taking (alone s.cluster) s.cli m s.cli.at own in
     moved_ok s entered kept c.enter-in-Some.new.self c.enter-in-Some.result
-    (λ sent shown is. abort_taken s v m own c.enter.inside.instance cert h c.enter-in-Some.new.self sent shown (ap (λ (t : Seat). t.cli.at) c.enter.view_is) made.0 history below is)
+    (λ sent shown is. abort_taken s v m own c.enter.inside.instance cert t c.enter-in-Some.new.self sent shown (ap (λ (q : Seat). q.cli.at) c.enter.view_is) made.0 brings below is)
     c.enter-in-Some.ensures.ok
 
 pub returns-in_ok-keep-in-None-clause-ok : goal.returns-in_ok-keep-in-None-clause-ok
 returns-in_ok-keep-in-None-clause-ok c =
     let s : Seat = c.args.self.now in
-    abort_kept s c.args.v c.args.request.now (own_cert (kind_of s.cluster.plan s.cli.at) c.args.v s.cli.kept) c.keep.new.self c.nothing.result.0 c.nothing.result.1.items
+    abort_kept s c.args.v c.args.request.now (own_cert s.cluster s.cli.at c.args.v s.cli.kept) c.keep.new.self c.nothing.result.0 c.nothing.result.1.items
     (c.in_ok-cert.ensures.none (ap is_some c.in-None.is)) c.in_ok-keep-in-None.ensures.ok c.nothing.ensures.outs c.nothing.ensures.marks
