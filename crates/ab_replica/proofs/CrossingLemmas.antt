@@ -12,7 +12,7 @@ use Rattle.ab_msg.specs.declared.message.Msg.{Msg}
 use Rattle.ab_abs.specs.Certificates.{history_of}
 use Rattle.ab_abs.specs.Ensembles.{Proto, trimmed_entry}
 use Rattle.ab_abs.specs.Messages.{took}
-use Rattle.ab_stable.specs.Offers.{Based, are_whole, based_on_list, based_on_whole, list_of, makes_checkpoints, offered_by}
+use Rattle.ab_stable.specs.Offers.{Based, are_whole, based_on_list, based_on_whole, list_of, makes_checkpoints, offered_by, offered_start, start_of}
 use Rattle.ab_stable.proofs.Offered.{base_from_list, base_from_whole}
 use Rattle.ab_run.specs.Setups.{RunSetup, last_instance}
 use Rattle.ab_run.specs.Replicas.{Rep, RepAction, brought, cert_instance, due, due_by, due_with, logged_or, offer_to, own_list, taken}
@@ -22,18 +22,18 @@ use Rattle.ab_replica.specs.Sites.{Site}
 use Rattle.ab_replica.specs.Doings.{entering}
 
 -- to the instance after j, with this
-abbrev leads_to : ℕ → List Signed → Based → Crossing
-leads_to j cert b = record { instance = j + 1; entry = trimmed_entry b.base b.trimmed cert }
+abbrev leads_to : Cluster → ℕ → List Signed → Based → Crossing
+leads_to c j cert b = record { instance = j + 1; entry = trimmed_entry b.base b.trimmed cert; start = offered_start c j cert }
 
 module _ {P : Type 0} (k : RunSetup) (proto : Proto P) (r : ℕ) (s : Rep P) (m : Msg) where
   -- what is due where the message leads over or doesn't
   abbrev pub IsDue : Option Crossing → List RepAction → Type 0
   IsDue None ts = ts ≡ taken k proto r s m
   IsDue (Some x) ts =
-      (j : ℕ) × (cert : List Signed) × (n : ℕ) × (h : List Request) × (x ≡ record { instance = j + 1; entry = trimmed_entry h n cert }) × (ts ≡ entering k proto r s m j cert n h)
+      (j : ℕ) × (cert : List Signed) × (n : ℕ) × (h : List Request) × (x ≡ record { instance = j + 1; entry = trimmed_entry h n cert; start = offered_start k.cluster j cert }) × (ts ≡ entering k proto r s m j cert n h)
 
   due_if : (j : ℕ) (cert : List Signed) (b : Based) (low high begins : Bool)
-      → IsDue (if low && high then (if begins then Some (leads_to j cert b) else None) else None)
+      → IsDue (if low && high then (if begins then Some (leads_to k.cluster j cert b) else None) else None)
       (if low && (high && begins) then entering k proto r s m j cert b.trimmed b.base else taken k proto r s m)
   due_if j cert b true true true = (j, cert, b.trimmed, b.base, refl, refl)
   due_if j cert b true true false = refl
@@ -57,34 +57,34 @@ module _ {P : Type 0} (k : RunSetup) (proto : Proto P) (r : ℕ) (s : Rep P) (m 
 
 -- ---- what a certificate brings
 
--- it has what is trimmed of it, and no less than that of the own log
-abbrev HasTrimmed : ℕ → Option Based → Type 0
-HasTrimmed k None = ⊤
-HasTrimmed k (Some b) = (k ≤ b.trimmed) × (b.trimmed ≤ length b.base)
+-- it has what is trimmed of it, no less than that of the own log, and the n entries that the list has forgotten
+abbrev HasTrimmed : ℕ → ℕ → Option Based → Type 0
+HasTrimmed k n None = ⊤
+HasTrimmed k n (Some b) = (k ≤ b.trimmed) × (b.trimmed ≤ length b.base) × (n ≤ length b.base)
 
 module _ (k : ℕ) (own : List Request) (le : k ≤ length own) where
-  of_list : (t : Option Trimmed) → HasTrimmed k (based_on_list k own t)
+  of_list : (t : Option Trimmed) → HasTrimmed k (start_of t) (based_on_list k own t)
   of_list None = tt
   of_list (Some t) = by_base (based_on_list k own (Some t)) refl
     where
-      by_base : (o : Option Based) → based_on_list k own (Some t) ≡ o → HasTrimmed k o
+      by_base : (o : Option Based) → based_on_list k own (Some t) ≡ o → HasTrimmed k t.start o
       by_base None is = tt
-      by_base (Some b) is = let base = base_from_list k own t le b is in (base.2, base.3)
+      by_base (Some b) is = let base = base_from_list k own t le b is in (base.2, base.3, omega (arith, base.0))
 
-  of_whole : (h : Option (List Request)) → HasTrimmed k (based_on_whole k own h)
+  of_whole : (h : Option (List Request)) → HasTrimmed k 0 (based_on_whole k own h)
   of_whole None = tt
   of_whole (Some h) = by_base (based_on_whole k own (Some h)) refl
     where
-      by_base : (o : Option Based) → based_on_whole k own (Some h) ≡ o → HasTrimmed k o
+      by_base : (o : Option Based) → based_on_whole k own (Some h) ≡ o → HasTrimmed k 0 o
       by_base None is = tt
       by_base (Some b) is =
           let base = base_from_whole k own h b is in
-          (omega (arith, base.1), omega (arith, base.1, base.2, ap length base.0))
+          (omega (arith, base.1), omega (arith, base.1, base.2, ap length base.0), omega arith)
 
-  of_cert : (c : Cluster) (j : ℕ) (cert : List Signed) → HasTrimmed k (offered_by c k own j cert)
+  of_cert : (c : Cluster) (j : ℕ) (cert : List Signed) → HasTrimmed k (offered_start c j cert) (offered_by c k own j cert)
   of_cert c j cert = by_test (are_whole cert)
     where
-      by_test : (b : Bool) → HasTrimmed k (if b then based_on_whole k own (history_of c j cert) else based_on_list k own (list_of c j cert))
+      by_test : (b : Bool) → HasTrimmed k (if b then 0 else start_of (list_of c j cert)) (if b then based_on_whole k own (history_of c j cert) else based_on_list k own (list_of c j cert))
       by_test true = of_whole (history_of c j cert)
       by_test false = of_list (list_of c j cert)
 
@@ -97,12 +97,12 @@ no_more c i k n le lacks =
     or_from (n == 0) (makes_checkpoints (kind_of c.plan i)) (ne_eqb n 0 (λ none. eqb-false k 0 both.0 (omega (arith, le, none)))) both.1
 
 -- so a certificate leads nowhere if what the own log has trimmed may not begin there
-led_nowhere : (c : Cluster) (j k : ℕ) (cert : List Signed) (o : Option Based) → HasTrimmed k o → may_begin c (j + 1) k ≡ false → led_by c j cert o ≡ None
-led_nowhere c j k cert None has lacks = refl
-led_nowhere c j k cert (Some b) has lacks = ap (λ (goes : Bool). if goes then Some (leads_to j cert b) else None) (no_more c (j + 1) k b.trimmed has.0 lacks)
+led_nowhere : (c : Cluster) (j k n : ℕ) (cert : List Signed) (o : Option Based) → HasTrimmed k n o → may_begin c (j + 1) k ≡ false → led_by c j cert o ≡ None
+led_nowhere c j k n cert None has lacks = refl
+led_nowhere c j k n cert (Some b) has lacks = ap (λ (goes : Bool). if goes then Some (leads_to c j cert b) else None) (no_more c (j + 1) k b.trimmed has.0 lacks)
 
 pub offers_nowhere : (c : Cluster) (j k : ℕ) (own : List Request) (cert : List Signed) → k ≤ length own → may_begin c (j + 1) k ≡ false → led_by c j cert (offered_by c k own j cert) ≡ None
-offers_nowhere c j k own cert le = led_nowhere c j k cert (offered_by c k own j cert) (of_cert k own le c j cert)
+offers_nowhere c j k own cert le = led_nowhere c j k (offered_start c j cert) cert (offered_by c k own j cert) (of_cert k own le c j cert)
 
 -- where it leads from instance at
 from_here : (c : Cluster) (at j : ℕ) (cert : List Signed) (o : Option Based) → at ≤ j → j < last_instance → crossing_with c at j cert o ≡ led_by c j cert o
@@ -139,27 +139,28 @@ pub record MayEnter (c : Cluster) (at : ℕ) (x : Crossing) : Type 0 where
   pub higher : at < x.instance
   pub within : x.entry.trimmed ≤ length x.entry.base
   pub begins : may_begin c x.instance x.entry.trimmed ≡ true
+  pub shown : x.start ≤ length x.entry.base
 
 abbrev pub MayLead : Cluster → ℕ → Option Crossing → Type 0
 MayLead c at None = ⊤
 MayLead c at (Some x) = MayEnter c at x
 
-leads_begun : (c : Cluster) (at j : ℕ) (cert : List Signed) (b : Based) (begins : Bool) → at ≤ j → b.trimmed ≤ length b.base → may_begin c (j + 1) b.trimmed ≡ begins
-    → MayLead c at (if begins then Some (leads_to j cert b) else None)
-leads_begun c at j cert b true low within begins = record { higher = omega (arith, low); within = within; begins = begins }
-leads_begun c at j cert b false low within begins = tt
+leads_begun : (c : Cluster) (at j : ℕ) (cert : List Signed) (b : Based) (begins : Bool) → at ≤ j → b.trimmed ≤ length b.base → offered_start c j cert ≤ length b.base → may_begin c (j + 1) b.trimmed ≡ begins
+    → MayLead c at (if begins then Some (leads_to c j cert b) else None)
+leads_begun c at j cert b true low within shown begins = record { higher = omega (arith, low); within = within; begins = begins; shown = shown }
+leads_begun c at j cert b false low within shown begins = tt
 
-leads_by : (c : Cluster) (at k j : ℕ) (cert : List Signed) (o : Option Based) → HasTrimmed k o → at ≤ j → MayLead c at (led_by c j cert o)
+leads_by : (c : Cluster) (at k j : ℕ) (cert : List Signed) (o : Option Based) → HasTrimmed k (offered_start c j cert) o → at ≤ j → MayLead c at (led_by c j cert o)
 leads_by c at k j cert None has low = tt
-leads_by c at k j cert (Some b) has low = leads_begun c at j cert b (may_begin c (j + 1) b.trimmed) low has.1 refl
+leads_by c at k j cert (Some b) has low = leads_begun c at j cert b (may_begin c (j + 1) b.trimmed) low has.1 has.2 refl
 
-leads_if : (c : Cluster) (at k j : ℕ) (cert : List Signed) (o : Option Based) (low high : Bool) → (low ≡ true → at ≤ j) → HasTrimmed k o
+leads_if : (c : Cluster) (at k j : ℕ) (cert : List Signed) (o : Option Based) (low high : Bool) → (low ≡ true → at ≤ j) → HasTrimmed k (offered_start c j cert) o
     → MayLead c at (if low && high then led_by c j cert o else None)
 leads_if c at k j cert o true true is has = leads_by c at k j cert o has (is refl)
 leads_if c at k j cert o true false is has = tt
 leads_if c at k j cert o false high is has = tt
 
-leads_with : (c : Cluster) (at k j : ℕ) (cert : List Signed) (o : Option Based) → HasTrimmed k o → MayLead c at (crossing_with c at j cert o)
+leads_with : (c : Cluster) (at k j : ℕ) (cert : List Signed) (o : Option Based) → HasTrimmed k (offered_start c j cert) o → MayLead c at (crossing_with c at j cert o)
 leads_with c at k j cert o has = leads_if c at k j cert o (nat_le at j) (nat_lt j last_instance) (leb-true at j) has
 
 pub leads : (c : Cluster) (at k : ℕ) (own : List Request) → k ≤ length own → (o : Option (List Signed)) → MayLead c at (crossing_in c at k own o)

@@ -6,7 +6,7 @@ use Rattle.ab_abs.specs.declared.seen.Seen.{Seen}
 use Rattle.ab_abs.specs.Ensembles.{Proto}
 use Rattle.ab_abs.specs.Messages.{Call}
 use Rattle.ab_run.specs.Setups.{RunSetup}
-use Rattle.ab_run.specs.Replicas.{Rep, RepAction, turn_mark, after_turn, after_turns, seen_in_turn, sent_in_turn, closed, due, marking, trims_with}
+use Rattle.ab_run.specs.Replicas.{Rep, RepAction, turn_mark, after_turn, after_turns, shown_in_turn, sent_in_turn, closed, due, marking, trims_with}
 use Rattle.ab_run.specs.Local.{sent_in_turns, marks_in_turns}
 use Rattle.ab_replica.specs.declared.done.Done.{Done}
 use Rattle.ab_replica.specs.declared.effects.Effects.{Effects}
@@ -33,8 +33,8 @@ module _ {P : Type 0} (k : RunSetup) (proto : Proto P) (r : ℕ) where
   shown_append s [] us = refl
   shown_append s (t ∷ ts) us =
       let next = after_turn k proto r s t in
-      ap (λ l. reverse (seen_in_turn k proto r s t) ++ l) (shown_append next ts us)
-      ∙ sym (append_assoc (reverse (seen_in_turn k proto r s t)) (marks_in_turns k proto r next ts) (marks_in_turns k proto r (after_turns k proto r next ts) us))
+      ap (λ l. reverse (shown_in_turn k proto r s t) ++ l) (shown_append next ts us)
+      ∙ sym (append_assoc (reverse (shown_in_turn k proto r s t)) (marks_in_turns k proto r next ts) (marks_in_turns k proto r (after_turns k proto r next ts) us))
 
 entries_append : (ts us : List RepAction) → entries_in (ts ++ us) ≡ entries_in ts + entries_in us
 entries_append [] us = omega arith

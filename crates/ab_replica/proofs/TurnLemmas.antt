@@ -4,15 +4,17 @@ use Rattle.std.specs.Prelude.{IfOk}
 use Rattle.std.proofs.lemmas.Bool.{ltb-true, le-ltb, ltb-false, lt-ltb}
 use Rattle.ab_num.specs.declared.party.Party.TheVariants.{Replica}
 use Rattle.ab_hist.specs.declared.request.Request.{Request}
+use Rattle.ab_hist.specs.Trimmed.{Trimmed, trim}
 use Rattle.ab_ckpt.specs.Marks.{no_marks}
 use Rattle.ab_msg.specs.declared.signed.Signed.{Signed}
 use Rattle.ab_msg.specs.declared.message.Msg.{Msg}
 use Rattle.ab_msg.specs.declared.message.Out.{Out}
 use Rattle.ab_msg.specs.Pens.{Pen}
 use Rattle.ab_abs.specs.declared.seen.Seen.{Seen}
-use Rattle.ab_abs.specs.declared.seen.Seen.TheVariants.{Init, Cert}
+use Rattle.ab_abs.specs.Observations.{cert_seen, init_seen}
 use Rattle.ab_abs.specs.Ensembles.{Proto, trimmed_entry}
 use Rattle.ab_abs.specs.Messages.{Call, offered}
+use Rattle.ab_stable.specs.Offers.{offered_start}
 use Rattle.ab_run.specs.Replicas.{RepAction, turn_enter, turn_call, accepted, accepted_marks, if_offered, new_first, after_turn, after_turns, pen_of, wanted, taken}
 use Rattle.ab_run.specs.Local.{sent_in_turns, marks_in_turns}
 use Rattle.ab_replica.specs.Sites.{Site, setup_of}
@@ -132,22 +134,26 @@ module _ {P : Type 0} (proto : Proto P) (pen : Pen) (s : Site P) where
 
 module _ {P : Type 0} (proto : Proto P) (pen : Pen) (s : Site P) where
   -- a replica that has just entered arrives where it takes turns and its entry is seen too
-  pub arrives_if : {E : Type 0} (ts : List RepAction) (now : Site P) (e : Done) (i me : ℕ) (h : List Request) (r : Result Done E)
-      → Does proto pen s ts now e.outs e.marks.items e.spent → with_entry i me h e.marks.items e.spent ≡ with_entry s.rep.at s.me s.rep.entry.base e.marks.items e.spent
-      → IfOk r (λ x. x.outs ≡ e.outs) → IfOk r (λ x. x.marks.items ≡ with_entry i me h e.marks.items e.spent) → IfOk r (λ x. x.spent ≡ e.spent)
-      → IfOk r (λ x. Arrives proto pen s ts now x.outs x.marks.items x.spent)
-  arrives_if ts now e i me h (Ok x) does entry outs marks spent = record {
+  pub arrives_if : {E : Type 0} (n : ℕ) (ts : List RepAction) (now : Site P) (e : Done) (i me : ℕ) (list : Trimmed) (r : Result Done E)
+      → Does proto pen s ts now e.outs e.marks.items e.spent → with_entry i me list e.marks.items e.spent ≡ with_entry s.rep.at s.me (trim n s.rep.entry.base) e.marks.items e.spent
+      → IfOk r (λ x. x.outs ≡ e.outs) → IfOk r (λ x. x.marks.items ≡ with_entry i me list e.marks.items e.spent) → IfOk r (λ x. x.spent ≡ e.spent)
+      → IfOk r (λ x. Arrives proto pen s n ts now x.outs x.marks.items x.spent)
+  arrives_if n ts now e i me list (Ok x) does entry outs marks spent = record {
     marks = e.marks.items;
     does = subst (λ (b : Bool). Does proto pen s ts now x.outs e.marks.items b) (sym spent)
         (subst (λ (l : List Out). Does proto pen s ts now l e.marks.items e.spent) (sym outs) does);
-    shows = marks ∙ entry ∙ ap (with_entry s.rep.at s.me s.rep.entry.base e.marks.items) (sym spent);
+    shows = marks ∙ entry ∙ ap (with_entry s.rep.at s.me (trim n s.rep.entry.base) e.marks.items) (sym spent);
   }
-  arrives_if ts now e i me h (Err x) does entry outs marks spent = tt
+  arrives_if n ts now e i me list (Err x) does entry outs marks spent = tt
 
 module _ {P : Type 0} (proto : Proto P) (pen : Pen) (s : Site P) (j : ℕ) (cert : List Signed) (n : ℕ) (h : List Request) where
   -- the replica as it has entered
   abbrev pub there : Site P
   there = record s { rep = after_turn (setup_of s pen) proto s.me s.rep (turn_enter j cert n h); entries = s.entries + 1 }
+
+  -- the entries that it shows of the history
+  abbrev list : Trimmed
+  list = trim (offered_start s.cluster j cert) h
 
   pub enters_spent : (ts : List RepAction) (now : Site P) (outs : List Out) (marks : List Seen) → Does proto pen there ts now outs marks true → Does proto pen s (turn_enter j cert n h ∷ ts) s outs marks true
   enters_spent ts now outs marks does =
@@ -156,41 +162,54 @@ module _ {P : Type 0} (proto : Proto P) (pen : Pen) (s : Site P) (j : ℕ) (cert
       (does_none proto pen s (turn_enter j cert n h ∷ ts) (omega (arith, was.over)))
 
   pub enters_taken : (ts : List RepAction) (now : Site P) (outs : List Out) (marks : List Seen) → Does proto pen there ts now outs marks false
-      → Does proto pen s (turn_enter j cert n h ∷ ts) now outs (Cert j (Replica s.me) h ∷ Init (j + 1) s.me h ∷ marks) false
+      → Does proto pen s (turn_enter j cert n h ∷ ts) now outs (cert_seen j (Replica s.me) list ∷ init_seen (j + 1) s.me list ∷ marks) false
   enters_taken ts now outs marks does =
       let was = was_taken proto pen there ts now outs marks does in
       let k = setup_of s pen in
       let more : s.entries + 1 + entries_in ts ≡ s.entries + (1 + entries_in ts) = omega arith in
-      does_all proto pen s (turn_enter j cert n h ∷ ts) now outs (Cert j (Replica s.me) h ∷ Init (j + 1) s.me h ∷ marks) (omega (arith, was.fits))
+      does_all proto pen s (turn_enter j cert n h ∷ ts) now outs (cert_seen j (Replica s.me) list ∷ init_seen (j + 1) s.me list ∷ marks) (omega (arith, was.fits))
       (was.after ∙ ap (λ n. let t : Site P = record s { rep = after_turns k proto s.me there.rep ts; entries = n } in t) more)
       was.sends
-      (ap (λ l. Cert j (Replica s.me) h ∷ Init (j + 1) s.me h ∷ l) was.shows)
+      (ap (λ l. cert_seen j (Replica s.me) list ∷ init_seen (j + 1) s.me list ∷ l) was.shows)
 
   -- the same of one that entered by a crossing
   abbrev pub entered_by : Crossing → Site P
   entered_by x = record s { rep = record { at = x.instance; value = proto.begin s.cluster x.instance s.me x.entry; entry = x.entry; abort = None; used = s.rep.used; kept = no_marks }; entries = s.entries + 1 }
 
-  crossing_there : (x : Crossing) (t : Site P) → x ≡ record { instance = j + 1; entry = trimmed_entry h n cert } → t ≡ entered_by x → t ≡ there
+  abbrev pub IsLed : Crossing → Type 0
+  IsLed x = x ≡ record { instance = j + 1; entry = trimmed_entry h n cert; start = offered_start s.cluster j cert }
+
+  crossing_there : (x : Crossing) (t : Site P) → IsLed x → t ≡ entered_by x → t ≡ there
   crossing_there x t leads is = is ∙ ap entered_by leads
 
-  pub crosses_spent : (m : Msg) (x : Crossing) (t now : Site P) (outs : List Out) (shown : List Seen) (spent : Bool) → x ≡ record { instance = j + 1; entry = trimmed_entry h n cert } → t ≡ entered_by x → spent ≡ true
-      → Arrives proto pen t (taken (setup_of t pen) proto t.me t.rep m) now outs shown spent → Does proto pen s (entering (setup_of s pen) proto s.me s.rep m j cert n h) s outs shown spent
+  pub crosses_spent : (m : Msg) (x : Crossing) (t now : Site P) (outs : List Out) (shown : List Seen) (spent : Bool) → IsLed x → t ≡ entered_by x → spent ≡ true
+      → Arrives proto pen t x.start (taken (setup_of t pen) proto t.me t.rep m) now outs shown spent → Does proto pen s (entering (setup_of s pen) proto s.me s.rep m j cert n h) s outs shown spent
   crosses_spent m x t now outs shown spent leads is over arrives =
       subst (λ (b : Bool). Does proto pen s (entering (setup_of s pen) proto s.me s.rep m j cert n h) s outs shown b) (sym over)
       (subst (λ (l : List Seen). Does proto pen s (entering (setup_of s pen) proto s.me s.rep m j cert n h) s outs l true)
-      (sym (arrives.shows ∙ ap (with_entry t.rep.at t.me t.rep.entry.base arrives.marks) over))
+      (sym (arrives.shows ∙ ap (with_entry t.rep.at t.me (trim x.start t.rep.entry.base) arrives.marks) over))
       (enters_spent (taken (setup_of s pen) proto s.me there.rep m) now outs arrives.marks
       (subst (λ (b : Bool). Does proto pen there (taken (setup_of s pen) proto s.me there.rep m) now outs arrives.marks b) over
       (subst (λ (u : Site P). Does proto pen u (taken (setup_of u pen) proto u.me u.rep m) now outs arrives.marks spent) (crossing_there x t leads is) arrives.does))))
 
-  pub crosses_taken : (m : Msg) (x : Crossing) (t now last : Site P) (outs : List Out) (shown : List Seen) (spent : Bool) → x ≡ record { instance = j + 1; entry = trimmed_entry h n cert } → t ≡ entered_by x → spent ≡ false → last ≡ now
-      → Arrives proto pen t (taken (setup_of t pen) proto t.me t.rep m) now outs shown spent → Does proto pen s (entering (setup_of s pen) proto s.me s.rep m j cert n h) last outs shown spent
-  crosses_taken m x t now last outs shown spent leads is under same arrives =
+  -- what is then seen
+  entry_seen : (x : Crossing) (t : Site P) (shown marks : List Seen) (spent : Bool) → IsLed x → t ≡ entered_by x → spent ≡ false → shown ≡ with_entry t.rep.at t.me (trim x.start t.rep.entry.base) marks spent
+      → shown ≡ cert_seen j (Replica s.me) list ∷ init_seen (j + 1) s.me list ∷ marks
+  entry_seen x t shown marks spent leads is under shows =
       let back : j + 1 - 1 ≡ j = omega arith in
+      shows
+      ∙ ap (λ (u : Site P). with_entry u.rep.at u.me (trim x.start u.rep.entry.base) marks spent) (crossing_there x t leads is)
+      ∙ ap (λ (y : Crossing). with_entry (j + 1) s.me (trim y.start h) marks spent) leads
+      ∙ ap (with_entry (j + 1) s.me list marks) under
+      ∙ ap (λ i. cert_seen i (Replica s.me) list ∷ init_seen (j + 1) s.me list ∷ marks) back
+
+  pub crosses_taken : (m : Msg) (x : Crossing) (t now last : Site P) (outs : List Out) (shown : List Seen) (spent : Bool) → IsLed x → t ≡ entered_by x → spent ≡ false → last ≡ now
+      → Arrives proto pen t x.start (taken (setup_of t pen) proto t.me t.rep m) now outs shown spent → Does proto pen s (entering (setup_of s pen) proto s.me s.rep m j cert n h) last outs shown spent
+  crosses_taken m x t now last outs shown spent leads is under same arrives =
       subst (λ (b : Bool). Does proto pen s (entering (setup_of s pen) proto s.me s.rep m j cert n h) last outs shown b) (sym under)
       (subst (λ (u : Site P). Does proto pen s (entering (setup_of s pen) proto s.me s.rep m j cert n h) u outs shown false) (sym same)
       (subst (λ (l : List Seen). Does proto pen s (entering (setup_of s pen) proto s.me s.rep m j cert n h) now outs l false)
-      (sym (arrives.shows ∙ ap (λ (u : Site P). with_entry u.rep.at u.me u.rep.entry.base arrives.marks spent) (crossing_there x t leads is) ∙ ap (with_entry (j + 1) s.me h arrives.marks) under ∙ ap (λ i. Cert i (Replica s.me) h ∷ Init (j + 1) s.me h ∷ arrives.marks) back))
+      (sym (entry_seen x t shown arrives.marks spent leads is under arrives.shows))
       (enters_taken (taken (setup_of s pen) proto s.me there.rep m) now outs arrives.marks
       (subst (λ (b : Bool). Does proto pen there (taken (setup_of s pen) proto s.me there.rep m) now outs arrives.marks b) under
       (subst (λ (u : Site P). Does proto pen u (taken (setup_of u pen) proto u.me u.rep m) now outs arrives.marks spent) (crossing_there x t leads is) arrives.does)))))

@@ -5,7 +5,7 @@ use Rattle.ab_num.specs.Places.{kind_of}
 use Rattle.ab_hist.specs.declared.request.Request.{Request}
 use Rattle.ab_msg.specs.declared.signed.Signed.{Signed}
 use Rattle.ab_abs.specs.Ensembles.{trimmed_entry}
-use Rattle.ab_stable.specs.Offers.{Based, makes_checkpoints, offered_by}
+use Rattle.ab_stable.specs.Offers.{Based, makes_checkpoints, offered_by, offered_start}
 use Rattle.ab_run.specs.Setups.{last_instance}
 use Rattle.ab_run.specs.Replicas.{cert_instance}
 use Rattle.ab_replica.specs.declared.crossing.Crossing.{Crossing}
@@ -18,7 +18,7 @@ may_begin c i n = (n == 0) || makes_checkpoints (kind_of c.plan i)
 abbrev pub led_by : Cluster → ℕ → List Signed → Option Based → Option Crossing
 led_by c j cert None = None
 led_by c j cert (Some b) =
-    if may_begin c (j + 1) b.trimmed then Some (record { instance = j + 1; entry = trimmed_entry b.base b.trimmed cert }) else None
+    if may_begin c (j + 1) b.trimmed then Some (record { instance = j + 1; entry = trimmed_entry b.base b.trimmed cert; start = offered_start c j cert }) else None
 
 -- the same from instance at
 abbrev pub crossing_with : Cluster → ℕ → ℕ → List Signed → Option Based → Option Crossing

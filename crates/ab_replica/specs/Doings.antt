@@ -1,6 +1,7 @@
 -- What a replica does in an event.
 use Rattle.std.specs.Prelude.{◌≡◌, ℕ, ◌+◌, nat_lt, if◌then◌else◌, Bool, List, [], ◌∷◌}
 use Rattle.ab_hist.specs.declared.request.Request.{Request}
+use Rattle.ab_hist.specs.Trimmed.{trim}
 use Rattle.ab_msg.specs.declared.signed.Signed.{Signed}
 use Rattle.ab_msg.specs.declared.message.Msg.{Msg}
 use Rattle.ab_msg.specs.declared.message.Out.{Out}
@@ -60,8 +61,8 @@ pub record Does {P : Type 0} (proto : Proto P) (pen : Pen) (s : Site P) (ts : Li
   pub shows : marks ≡ marks_in_turns (setup_of s pen) proto s.me s.rep (unless_spent proto (setup_of s pen) s ts)
   pub spends : spent ≡ are_spent proto (setup_of s pen) s ts
 
--- the same of one that has just entered its instance: that is seen too
-pub record Arrives {P : Type 0} (proto : Proto P) (pen : Pen) (s : Site P) (ts : List RepAction) (now : Site P) (outs : List Out) (shown : List Seen) (spent : Bool) : Type 0 where
+-- the same of one that has just entered its instance by a list that has forgotten its first n entries: that is seen too
+pub record Arrives {P : Type 0} (proto : Proto P) (pen : Pen) (s : Site P) (n : ℕ) (ts : List RepAction) (now : Site P) (outs : List Out) (shown : List Seen) (spent : Bool) : Type 0 where
   pub marks : List Seen
   pub does : Does proto pen s ts now outs marks spent
-  pub shows : shown ≡ with_entry s.rep.at s.me s.rep.entry.base marks spent
+  pub shows : shown ≡ with_entry s.rep.at s.me (trim n s.rep.entry.base) marks spent

@@ -1,13 +1,13 @@
 //! How a certificate leads a replica to another instance.
 
-ghost use Rattle.std.specs.Prelude.{◌≡◌, ◌+◌, ◌<◌, ◌≤◌, All, IfOk, length, slice_get};
+ghost use Rattle.std.specs.Prelude.{◌≡◌, ◌+◌, ◌<◌, ◌≤◌, Some, All, IfOk, IfSome, length, slice_get};
 ghost use Rattle.std.specs.Option.{option_map};
 ghost use Rattle.ab_form.specs.Readers.{listed};
 ghost use Rattle.ab_msg.specs.Certs.{IsSigned};
 ghost use Rattle.ab_msg.specs.Contents.{IsStopContent};
 ghost use Rattle.ab_wire.specs.Views.{IsReceived, aborts, message};
 ghost use Rattle.ab_abs.specs.Certificates.{history_of};
-ghost use Rattle.ab_stable.specs.Offers.{based_on_whole, offered_by};
+ghost use Rattle.ab_stable.specs.Offers.{based_on_list, based_on_whole, offered_by, offered_start};
 ghost use Rattle.ab_run.specs.Replicas.{brought, cert_instance};
 ghost use Rattle.ab_replica.specs.Crossings.{crossing_by, crossing_in, led_by, may_begin};
 
@@ -17,14 +17,25 @@ use ab_form::{ListRef, Part};
 use ab_hist::History;
 use ab_num::{Cluster, OutOfMemory};
 use ab_stable::{are_whole, based_on, list_of, makes_checkpoints, shows};
+use ab_trim::Trimmed;
 use ab_wire::{MsgRef, OfferRef, SignedRef};
 use std::alloc::Global;
 
-/// The instance that a replica enters, and with what.
+/// The instance that a replica enters, and with what; how many first entries of its base the offered list has forgotten.
 #[derive(Drop)]
 pub(crate) struct Crossing {
     pub instance: u32,
     pub entry: Entry,
+    pub start: usize,
+}
+
+/// What a certificate brings to a replica: a base, how many of its first entries are trimmed, and how many the offered list has
+/// forgotten.
+#[derive(Drop)]
+struct Offer {
+    base: History,
+    trimmed: usize,
+    start: usize,
 }
 
 /// The first part of a list.
@@ -62,11 +73,12 @@ fn whole_offer<'a>(
     cert: &ListRef<'a, SignedRef<'a>>,
     own: &History,
     k: usize,
-) -> Result<Option<(History, usize)>, OutOfMemory>
+) -> Result<Option<Offer>, OutOfMemory>
     requires instance { 1 ≤ j }
     requires formed { All (IsSigned IsStopContent) (aborts cert.now) }
     requires trimmed { k ≤ length own.now }
-    ensures { IfOk result (λ o. option_map (λ b. record { base = b.0; trimmed = b.1 }) o ≡ based_on_whole k own.now (history_of c.now j (aborts cert.now))) }
+    ensures base { IfOk result (λ o. option_map (λ b. record { base = b.base; trimmed = b.trimmed }) o ≡ based_on_whole k own.now (history_of c.now j (aborts cert.now))) }
+    ensures start { IfOk result (λ o. IfSome o (λ b. b.start ≡ 0)) }
 {
     let Some(base) = history_view(alloc, c, j, cert, Some(own))? else {
         return Ok(None);
@@ -74,10 +86,35 @@ fn whole_offer<'a>(
     if !shows(own, k, &base) {
         return Ok(None);
     }
-    Ok(Some((base, k)))
+    Ok(Some(Offer {
+        base,
+        trimmed: k,
+        start: 0,
+    }))
 }
 
-/// The same of any certificate.
+/// What a list brings to such a replica.
+fn list_offer(
+    alloc: Global,
+    own: &History,
+    k: usize,
+    list: &Trimmed,
+) -> Result<Option<Offer>, OutOfMemory>
+    requires { k ≤ length own.now }
+    ensures base { IfOk result (λ o. option_map (λ b. record { base = b.base; trimmed = b.trimmed }) o ≡ based_on_list k own.now (Some list.now.list)) }
+    ensures start { IfOk result (λ o. IfSome o (λ b. b.start ≡ list.now.list.start)) }
+{
+    match based_on(alloc, own, k, list)? {
+        Some((base, trimmed)) => Ok(Some(Offer {
+            base,
+            trimmed,
+            start: list.start(),
+        })),
+        None => Ok(None),
+    }
+}
+
+/// What any certificate of instance `j` brings to such a replica.
 fn offered_by<'a>(
     alloc: Global,
     c: &Cluster,
@@ -85,17 +122,18 @@ fn offered_by<'a>(
     cert: &ListRef<'a, SignedRef<'a>>,
     own: &History,
     k: usize,
-) -> Result<Option<(History, usize)>, OutOfMemory>
+) -> Result<Option<Offer>, OutOfMemory>
     requires instance { 1 ≤ j }
     requires formed { All (IsSigned IsStopContent) (aborts cert.now) }
     requires trimmed { k ≤ length own.now }
-    ensures { IfOk result (λ o. option_map (λ b. record { base = b.0; trimmed = b.1 }) o ≡ offered_by c.now k own.now j (aborts cert.now)) }
+    ensures base { IfOk result (λ o. option_map (λ b. record { base = b.base; trimmed = b.trimmed }) o ≡ offered_by c.now k own.now j (aborts cert.now)) }
+    ensures start { IfOk result (λ o. IfSome o (λ b. b.start ≡ offered_start c.now j (aborts cert.now))) }
 {
     if are_whole(cert) {
         return whole_offer(alloc, c, j, cert, own, k);
     }
     match list_of(alloc, c, j, cert)? {
-        Some(list) => based_on(alloc, own, k, &list),
+        Some(list) => list_offer(alloc, own, k, &list),
         None => Ok(None),
     }
 }
@@ -118,9 +156,14 @@ fn led_by<'a>(
     if !may_begin(c, j + 1, k) {
         return Ok(None);
     }
-    let Some((base, trimmed)) = offered_by(alloc, c, j, cert, own, k)? else {
+    let Some(offer) = offered_by(alloc, c, j, cert, own, k)? else {
         return Ok(None);
     };
+    let Offer {
+        base,
+        trimmed,
+        start,
+    } = offer;
     if !may_begin(c, j + 1, trimmed) {
         return Ok(None);
     }
@@ -132,6 +175,7 @@ fn led_by<'a>(
             trimmed,
             cert: Some(aborts),
         },
+        start,
     }))
 }
 

@@ -1,6 +1,7 @@
 //! What a replica does before an event ends.
 
 ghost use Rattle.std.specs.Prelude.{◌≡◌, ◌≤◌, ◌++◌, [], false, IfOk, length};
+ghost use Rattle.ab_hist.specs.Trimmed.{trim};
 ghost use Rattle.ab_replica.specs.Entries.{with_entry};
 
 use crate::accepted::init_marks;
@@ -47,26 +48,28 @@ impl Done {
         }
     }
 
-    /// The same of replica `me`, which entered instance `i` with this history: that is seen before the
-    /// rest, unless the event is spent.
+    /// The same of replica `me`, which entered instance `i` with this base by a list that has forgotten its first `start` entries:
+    /// that is seen before the rest, unless the event is spent.
     pub(crate) fn with_entry(
         self,
         alloc: Global,
         i: u32,
         me: u8,
+        start: usize,
         base: History,
     ) -> Result<Done, OutOfMemory>
         requires instance { 1 ≤ i }
+        requires within { start ≤ length base }
         requires few { length self.marks.items ≤ 2 }
         ensures outs { IfOk result (λ e. e.outs ≡ self.outs) }
-        ensures marks { IfOk result (λ e. e.marks.items ≡ with_entry i me base self.marks.items self.spent) }
+        ensures marks { IfOk result (λ e. e.marks.items ≡ with_entry i me (trim start base) self.marks.items self.spent) }
         ensures spent { IfOk result (λ e. e.spent ≡ self.spent) }
     {
         if self.spent {
             return Ok(self);
         }
         let Done { outs, marks, spent } = self;
-        let marks = init_marks(alloc, i, me, base, marks)?;
+        let marks = init_marks(alloc, i, me, start, base, marks)?;
         Ok(Done { outs, marks, spent })
     }
 

@@ -18,6 +18,7 @@ ghost use Rattle.ab_abs.specs.Kinds.{rule_of};
 ghost use Rattle.ab_abs.specs.Ensembles.{trimmed_entry};
 ghost use Rattle.ab_abs.specs.Messages.{took, timed, offered};
 ghost use Rattle.ab_abs.specs.Signers.{SignsNothing};
+ghost use Rattle.ab_stable.specs.Offers.{offered_start};
 ghost use Rattle.ab_run.specs.Setups.{RunSetup};
 ghost use Rattle.ab_run.specs.Runs.{first_rep};
 ghost use Rattle.ab_run.specs.Replicas.{aborting, due, halting, here, keeping_with, late, logged_or, taken, turn_call};
@@ -145,6 +146,17 @@ impl<S: Service, P: Protocol<S>> Replica<S, P> {
         ensures { result.now ≡ (P.proto.state self.now.rep.value).log }
     {
         self.value.log()
+    }
+
+    /// How many of the first entries of the present log are trimmed.
+    pub fn trimmed(&self) -> u16
+        ensures trimmed { result ≡ P.proto.trimmed self.now.rep.value }
+        ensures within { result ≤ length (P.proto.state self.now.rep.value).log }
+    {
+        let trimmed = self.value.trimmed();
+        let within = trimmed <= self.value.log().len();
+        prove!(within);
+        trimmed as u16
     }
 
     /// Whether the present instance has stopped here.
@@ -419,16 +431,18 @@ impl<S: Service, P: Protocol<S>> Replica<S, P> {
         requires higher { self.old.rep.at < next.instance }
         requires within { next.entry.trimmed ≤ length next.entry.base }
         requires begins { may_begin self.old.cluster next.instance next.entry.trimmed ≡ true }
+        requires shown { next.start ≤ length next.entry.base }
         requires received { IsReceived m }
         requires pen { IsPenOf (N.pen n.old) (N.remains n.old) self.old }
-        ensures does { (j : ℕ) (cert : List SignedContent) (trimmed : ℕ) (h : List Request) → next ≡ record { instance = j + 1; entry = trimmed_entry h trimmed cert } → IfOk result (λ e. Does P.proto (N.pen n.old) self.old (entering (setup_of self.old (N.pen n.old)) P.proto self.old.me self.old.rep (message m.entry) j cert trimmed h) self.new e.outs e.marks.items e.spent) }
+        ensures does { (j : ℕ) (cert : List SignedContent) (trimmed : ℕ) (h : List Request) → next ≡ record { instance = j + 1; entry = trimmed_entry h trimmed cert; start = offered_start self.old.cluster j cert } → IfOk result (λ e. Does P.proto (N.pen n.old) self.old (entering (setup_of self.old (N.pen n.old)) P.proto self.old.me self.old.rep (message m.entry) j cert trimmed h) self.new e.outs e.marks.items e.spent) }
         ensures pen { IfOk result (λ e. e.spent ≡ false → IsPenAfter (N.pen n.old) (N.pen n.new) (N.remains n.new) self.new) }
         ensures unused { IfOk result (λ e. e.spent ≡ true → SignsNothing (N.pen n.old) (N.remains n.old) (N.pen n.new) (N.remains n.new)) }
         ensures err { OnErr result (self.new ≡ self.old) }
     {
+        let start = next.start;
         let mut there = self.entered(alloc, next)?;
         // Where it isn't kept a call lets it go: in place each form of what it holds would be taken apart.
-        match there.arrive(alloc, m, n) {
+        match there.arrive(alloc, start, m, n) {
             Ok(effects) => {
                 if effects.spent {
                     drop(there);
@@ -444,23 +458,26 @@ impl<S: Service, P: Protocol<S>> Replica<S, P> {
         }
     }
 
-    /// Takes the first message of the instance that it has just entered, and shows its entry too.
+    /// Takes the first message of the instance that it has just entered by a list that has forgotten its first `start` entries, and
+    /// shows its entry too.
     fn arrive<'a, N: Notary>(
         &mut self,
         alloc: Global,
+        start: usize,
         m: MsgRef<'a>,
         n: &mut N,
     ) -> Result<Done, OutOfMemory>
+        requires shown { start ≤ length self.old.rep.entry.base }
         requires received { IsReceived m }
         requires pen { IsPenOf (N.pen n.old) (N.remains n.old) self.old }
-        ensures does { IfOk result (λ e. Arrives P.proto (N.pen n.old) self.old (taken (setup_of self.old (N.pen n.old)) P.proto self.old.me self.old.rep (message m.entry)) self.new e.outs e.marks.items e.spent) }
+        ensures does { IfOk result (λ e. Arrives P.proto (N.pen n.old) self.old start (taken (setup_of self.old (N.pen n.old)) P.proto self.old.me self.old.rep (message m.entry)) self.new e.outs e.marks.items e.spent) }
         ensures pen { IfOk result (λ e. e.spent ≡ false → IsPenAfter (N.pen n.old) (N.pen n.new) (N.remains n.new) self.new) }
         ensures unused { IfOk result (λ e. e.spent ≡ true → SignsNothing (N.pen n.old) (N.remains n.old) (N.pen n.new) (N.remains n.new)) }
     {
         let (instance, me) = (self.instance, self.me);
         let base = self.entry.base.copy(alloc)?;
         let effects = self.take(alloc, m, n)?;
-        effects.with_entry(alloc, instance, me, base)
+        effects.with_entry(alloc, instance, me, start, base)
     }
 
     /// It is the other one from now on.

@@ -40,6 +40,16 @@ enter-requires-clause-begins g c =
     let enters = own_enters proto m s c.own_list.result.now c.in-Some.next c.own_list.ensures.list c.own_list.ensures.trimmed led in
     enters.begins
 
+pub enter-requires-clause-shown : goal.enter-requires-clause-shown
+enter-requires-clause-shown g c =
+    let proto = g.P.Protocol.proto in
+    let s : Site g.row.P.Denot = c.args.self.now in
+    let m = message c.args.m in
+    let led : Some c.in-Some.next ≡ own_crossing proto m s =
+    sym c.in-Some.is ∙ own_is proto m s c.trimmed-trimmed.result c.own_list.result.now c.in_ok-next.next c.self.view_is c.trimmed-trimmed.ensures c.own_list.ensures.list c.in_ok-next.ensures in
+    let enters = own_enters proto m s c.own_list.result.now c.in-Some.next c.own_list.ensures.list c.own_list.ensures.trimmed led in
+    enters.shown
+
 pub returns-in-Some-clause-does : goal.returns-in-Some-clause-does
 returns-in-Some-clause-does g c =
     let proto = g.P.Protocol.proto in
