@@ -74,8 +74,8 @@ trimmed_line start digest = codes "trimmed " then decimal start then codes " " t
 
 -- the log that an ABORT states, behind what is trimmed of it, or the digest that a PREPARE states
 abbrev pub words_of : Content → List ℕ
-words_of (content.Abort (Replica r) i h) = log_line r i (map key_of h)
-words_of (content.AbortZ (Replica r) i h z) = log_line r i (map key_of h)
-words_of (content.TrimmedAbort (Replica r) i start digest rest) = trimmed_line start digest ++ log_line r i (map key_of rest)
+words_of (content.Abort (Replica r) i h) = log_line r i 0 (map key_of h)
+words_of (content.AbortZ (Replica r) i h z) = log_line r i 0 (map key_of h)
+words_of (content.TrimmedAbort (Replica r) i start digest rest) = trimmed_line start digest ++ log_line r i 0 (map key_of rest)
 words_of (content.Prepare maker i view slot x) = codes "digest " then encode_lower x then codes "\n"
 words_of _ = []

@@ -32,11 +32,11 @@ fn log_words(
     instance: u32,
     history: &HistoryRef<'_>,
 ) -> Result<Vec<u8>, OutOfMemory>
-    ensures { IfOk result (λ v. v.items ≡ log_line replica instance (map key_of (requests_in history.now))) }
+    ensures { IfOk result (λ v. v.items ≡ log_line replica instance 0 (map key_of (requests_in history.now))) }
 {
     let entries = entries(alloc, history)?;
     let mut words = Vec::new(alloc);
-    write_log(alloc, &mut words, replica, instance, entries.as_slice())?;
+    write_log(alloc, &mut words, replica, instance, 0, entries.as_slice())?;
     Ok(words)
 }
 
@@ -56,12 +56,12 @@ fn trimmed_words(
     digest: &[u8; 32],
     rest: &HistoryRef<'_>,
 ) -> Result<Vec<u8>, OutOfMemory>
-    ensures { IfOk result (λ v. v.items ≡ trimmed_line start digest.now ++ log_line replica instance (map key_of (requests_in rest.now))) }
+    ensures { IfOk result (λ v. v.items ≡ trimmed_line start digest.now ++ log_line replica instance 0 (map key_of (requests_in rest.now))) }
 {
     let line = trimmed_string(alloc, start, digest)?;
     let entries = entries(alloc, rest)?;
     let mut words = Vec::from_slice(alloc, line.as_bytes())?;
-    write_log(alloc, &mut words, replica, instance, entries.as_slice())?;
+    write_log(alloc, &mut words, replica, instance, 0, entries.as_slice())?;
     Ok(words)
 }
 

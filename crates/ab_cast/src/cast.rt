@@ -1,6 +1,6 @@
 //! The cores of all parties.
 
-ghost use Rattle.std.specs.Prelude.{option_and_then, ◌≡◌, ◌+◌, ◌*◌, ◌<◌, ◌≤◌, ℕ, IsOkAnd, IfOk, IfErr, OnOk, OnErr, Option, Some, None, [], ◌∷◌, length, slice_get};
+ghost use Rattle.std.specs.Prelude.{option_and_then, ◌≡◌, ◌+◌, ◌*◌, ◌<◌, ◌≤◌, ℕ, IsOkAnd, IfOk, IfErr, IfSome, OnOk, OnErr, Option, Some, None, [], ◌∷◌, length, slice_get};
 ghost use Rattle.std.specs.Option.{option_map};
 ghost use Rattle.ab_num.specs.declared.party.Party.{Party as TheParty};
 ghost use Rattle.ab_num.specs.Limits.{most_events};
@@ -125,6 +125,15 @@ impl<S: Service, P: Protocol<S>> Cast<S, P> {
     {
         let replica = self.replica(r)?;
         Some(replica.log())
+    }
+
+    /// How many of the first entries of that log are trimmed.
+    pub fn trimmed_of(&self, r: u8) -> Option<u16>
+        ensures trimmed { result ≡ option_map (λ s. P.proto.trimmed s.rep.value) (slice_get self.now.replicas r) }
+        ensures within { IfSome result (λ n. IfSome (slice_get self.now.replicas r) (λ s. n ≤ length (P.proto.state s.rep.value).log)) }
+    {
+        let replica = self.replica(r)?;
+        Some(replica.trimmed())
     }
 
     /// The history that replica `r` accepted in slot 0 in its present view. None where there is no

@@ -1,15 +1,18 @@
 -- The commit among what is seen.
-use Rattle.std.proofs.Common.{◌≡◌, ℕ, suc, ◌+◌, ◌<◌, List, [], ◌∷◌, Option, None, Some, inl, inr, length, drop, get_or, refl, subst, ap, sym, ◌∙◌, add-one, arith, drop-cons}
-use Rattle.std.specs.Prelude.{Contains}
+use Rattle.std.proofs.Common.{◌≡◌, ℕ, suc, ◌+◌, ◌<◌, Bool, true, false, List, [], ◌∷◌, Option, None, Some, inl, inr, length, drop, get_or, refl, subst, ap, sym, ◌∙◌, add-one, arith, drop-cons}
+use Rattle.std.specs.Prelude.{Contains, ◌==◌, if◌then◌else◌}
 use Rattle.std.proofs.lemmas.List.Elements.{Contains-append_cases}
 use Rattle.std.proofs.lemmas.Option.{none-some, same_Some}
 use Rattle.ab_hist.specs.declared.request.Request.{Request}
+use Rattle.ab_hist.specs.Trimmed.{Trimmed}
+use Rattle.ab_num.specs.declared.party.Party.{Party}
 use Rattle.ab_num.specs.declared.party.Party.TheVariants.{Client}
 use Rattle.ab_num.proofs.Lists.{Contains-head, Contains-tail, Contains-cons_cases}
 use Rattle.ab_abs.specs.declared.seen.Seen.{Seen}
-use Rattle.ab_abs.specs.declared.seen.Seen.TheVariants.{Invoked, Cert, Committed}
-use Rattle.ab_run.specs.Clients.{Cli, CliAction, move_ask, move_vote, move_commit, move_keep, move_take, move_panic, move_again, move_spec, move_cert, move_told, after_move, seen_in_move}
-use Rattle.ab_run.specs.Local.{seen_in_moves}
+use Rattle.ab_abs.specs.declared.seen.Seen.TheVariants.{Invoked, Cert, TrimmedCert, Committed}
+use Rattle.ab_abs.specs.Observations.{cert_seen}
+use Rattle.ab_run.specs.Clients.{Cli, CliAction, move_ask, move_vote, move_commit, move_keep, move_take, move_panic, move_again, move_spec, move_cert, move_told, after_move, shown_in_move}
+use Rattle.ab_run.specs.Local.{shown_in_moves}
 use Rattle.ab_loop.specs.declared.party_core.Commit.{Commit}
 use Rattle.ab_node.specs.Clients.{commit_in, commit_of, first_of}
 
@@ -47,7 +50,12 @@ one_own c seen s commit has is own = elim (Contains-cons_cases seen [] s has) [
   | inr gone ↦ absurd (omega (arith, gone.1))
 ]
 
-own_move : (c : ℕ) (at : Cli) (t : CliAction) (s : Seen) (commit : Commit) → Contains (seen_in_move c at t) s → commit_of s ≡ Some commit → IsOwnCommit c s commit
+-- a certificate that it takes is none, whatever its list has forgotten
+no_commit : (j : ℕ) (p : Party) (t : Trimmed) (b : Bool) → commit_of (if b then Cert j p t.rest else TrimmedCert j p t.start t.digest t.rest) ≡ None
+no_commit j p t true = refl
+no_commit j p t false = refl
+
+own_move : (c : ℕ) (at : Cli) (t : CliAction) (s : Seen) (commit : Commit) → Contains (shown_in_move c at t) s → commit_of s ≡ Some commit → IsOwnCommit c s commit
 own_move c at (move_ask m) s commit has is = one_own c (Invoked at.at c m) s commit has is (λ none. absurd (none-some commit none))
 own_move c at (move_vote b) s commit gone is = absurd (omega (arith, gone.1))
 own_move c at (move_commit m n d reply claims) s commit has is =
@@ -55,9 +63,9 @@ own_move c at (move_commit m n d reply claims) s commit has is =
     let made : Commit = record { stamp = m.stamp; instance = at.at; n = n; reply = reply } in
     subst (λ (x : Commit). IsOwnCommit c (Committed at.at c m n d reply) x) (same_Some made commit some) (record { request = m; digest = d; is = refl; stamp = refl }))
 own_move c at (move_keep v) s commit gone is = absurd (omega (arith, gone.1))
-own_move c at (move_take j cert h m) s commit has is = elim (Contains-cons_cases (Invoked (j + 1) c m) (Cert j (Client c) h ∷ []) s has) [
+own_move c at (move_take j cert t m) s commit has is = elim (Contains-cons_cases (Invoked (j + 1) c m) (cert_seen j (Client c) t ∷ []) s has) [
   | inl same ↦ own_seen c (Invoked (j + 1) c m) s commit same is (λ none. absurd (none-some commit none))
-  | inr more ↦ one_own c (Cert j (Client c) h) s commit more is (λ none. absurd (none-some commit none))
+  | inr more ↦ one_own c (cert_seen j (Client c) t) s commit more is (λ some. absurd (none-some commit (sym (no_commit j (Client c) t (t.start == 0)) ∙ some)))
 ]
 own_move c at move_panic s commit gone is = absurd (omega (arith, gone.1))
 own_move c at (move_again m) s commit gone is = absurd (omega (arith, gone.1))
@@ -65,9 +73,9 @@ own_move c at (move_spec b sig) s commit gone is = absurd (omega (arith, gone.1)
 own_move c at (move_cert z) s commit gone is = absurd (omega (arith, gone.1))
 own_move c at (move_told r) s commit gone is = absurd (omega (arith, gone.1))
 
-pub own_commit : (c : ℕ) (ts : List CliAction) (at : Cli) (s : Seen) (commit : Commit) → Contains (seen_in_moves c at ts) s → commit_of s ≡ Some commit → IsOwnCommit c s commit
+pub own_commit : (c : ℕ) (ts : List CliAction) (at : Cli) (s : Seen) (commit : Commit) → Contains (shown_in_moves c at ts) s → commit_of s ≡ Some commit → IsOwnCommit c s commit
 own_commit c [] at s commit gone is = absurd (omega (arith, gone.1))
-own_commit c (t ∷ ts) at s commit has is = elim (Contains-append_cases (seen_in_moves c (after_move at t) ts) (seen_in_move c at t) s has) [
+own_commit c (t ∷ ts) at s commit has is = elim (Contains-append_cases (shown_in_moves c (after_move at t) ts) (shown_in_move c at t) s has) [
   | inl later ↦ own_commit c ts (after_move at t) s commit later is
   | inr here ↦ own_move c at t s commit here is
 ]

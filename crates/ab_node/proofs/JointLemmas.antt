@@ -18,6 +18,7 @@ use Rattle.ab_abs.proofs.Reach.{put_same, put_other}
 use Rattle.ab_run.specs.Setups.{RunSetup, replicas}
 use Rattle.ab_run.specs.Runs.{Event as Happening, Run, invoke, to_replica, to_client, replica_time, client_time, first_rep, run}
 use Rattle.ab_run.specs.Local.{Cue, cue_command, cue_message, cue_time, cli_after, cli_marks, cli_shows, moves_at, rep_after, rep_shows}
+use Rattle.ab_run.proofs.Commits.{commits_were_seen}
 use Rattle.ab_run.proofs.Effects.{at_call, at_cue, called, cued, reps_stay, reps_apart, clis_stay, clis_apart}
 use Rattle.ab_run.proofs.Listed.{Contains-reverse}
 use Rattle.ab_run.proofs.Shown.{moves_backward}
@@ -170,56 +171,64 @@ module _ {P : Type 0} (k : RunSetup) (proto : Proto P) where
         | inr differ ↦ rw differ (ap (λ m. core_after client_rules m (events_at_client c xs)) (put_other w.clients d c v (λ is. eqb-false d c differ (sym is))))
       ]
 
-  -- ---- what clients commit is seen
+  -- ---- what clients commit is shown, and so it is seen
 
-  -- what was seen stays seen
-  still_seen : (bad : Bool) (new old : List Seen) (s : Seen) → Contains old s → Contains (if bad then old else new ++ old) s
-  still_seen true new old s has = has
-  still_seen false new old s has = Contains-append_right new old s has
+  -- what was shown stays shown
+  still_shown : (bad : Bool) (new old : List Seen) (s : Seen) → Contains old s → Contains (if bad then old else new ++ old) s
+  still_shown true new old s has = has
+  still_shown false new old s has = Contains-append_right new old s has
 
-  seen_at_call : (v : Run P) (r : ℕ) (call : Call) (s : Seen) → Contains v.seen s → Contains (at_call k proto v r call).seen s
-  seen_at_call v r call s has =
+  shown_at_call : (v : Run P) (r : ℕ) (call : Call) (s : Seen) → Contains v.shown s → Contains (at_call k proto v r call).shown s
+  shown_at_call v r call s has =
       elim (cases_Bool (nat_lt r (replicas k))) [
         | inl there ↦
-            subst (λ (l : List Seen). Contains l s) (sym (called k proto v r call (ltb-true r (replicas k) there)).seen)
-            (still_seen (is_faulty k.faulty (Replica r)) (rep_shows k proto r (v.reps r) call) v.seen s has)
+            subst (λ (l : List Seen). Contains l s) (sym (called k proto v r call (ltb-true r (replicas k) there)).shown)
+            (still_shown (is_faulty k.faulty (Replica r)) (rep_shows k proto r (v.reps r) call) v.shown s has)
         | inr gone ↦ rw gone has
       ]
 
-  seen_at_cue : (v : Run P) (c : ℕ) (cue : Cue) (s : Seen) → Contains v.seen s → Contains (at_cue k proto v c cue).seen s
-  seen_at_cue v c cue s has =
+  shown_at_cue : (v : Run P) (c : ℕ) (cue : Cue) (s : Seen) → Contains v.shown s → Contains (at_cue k proto v c cue).shown s
+  shown_at_cue v c cue s has =
       elim (cases_Bool (nat_lt c k.cluster.clients)) [
         | inl there ↦
-            subst (λ (l : List Seen). Contains l s) (sym (cued k proto v c cue (ltb-true c k.cluster.clients there)).seen)
-            (still_seen (is_faulty k.faulty (Client c)) (cli_shows k c (v.clis c) cue) v.seen s has)
+            subst (λ (l : List Seen). Contains l s) (sym (cued k proto v c cue (ltb-true c k.cluster.clients there)).shown)
+            (still_shown (is_faulty k.faulty (Client c)) (cli_shows k c (v.clis c) cue) v.shown s has)
         | inr gone ↦ rw gone has
       ]
 
-  seen_on : (h : Happening) (before : List Happening) (s : Seen) → Contains (run k proto before).seen s → Contains (run k proto (h ∷ before)).seen s
-  seen_on (invoke c command) before s has = seen_at_cue (run k proto before) c (cue_command command) s has
-  seen_on (to_replica r m) before s has = seen_at_call (run k proto before) r (took m) s has
-  seen_on (to_client c m) before s has = seen_at_cue (run k proto before) c (cue_message m) s has
-  seen_on (replica_time r) before s has = seen_at_call (run k proto before) r timed s has
-  seen_on (client_time c) before s has = seen_at_cue (run k proto before) c cue_time s has
+  shown_on : (h : Happening) (before : List Happening) (s : Seen) → Contains (run k proto before).shown s → Contains (run k proto (h ∷ before)).shown s
+  shown_on (invoke c command) before s has = shown_at_cue (run k proto before) c (cue_command command) s has
+  shown_on (to_replica r m) before s has = shown_at_call (run k proto before) r (took m) s has
+  shown_on (to_client c m) before s has = shown_at_cue (run k proto before) c (cue_message m) s has
+  shown_on (replica_time r) before s has = shown_at_call (run k proto before) r timed s has
+  shown_on (client_time c) before s has = shown_at_cue (run k proto before) c cue_time s has
 
-  seen_later : (hs before : List Happening) (s : Seen) → Contains (run k proto before).seen s → Contains (run k proto (hs ++ before)).seen s
-  seen_later [] before s has = has
-  seen_later (h ∷ hs) before s has = seen_on h (hs ++ before) s (seen_later hs before s has)
+  shown_later : (hs before : List Happening) (s : Seen) → Contains (run k proto before).shown s → Contains (run k proto (hs ++ before)).shown s
+  shown_later [] before s has = has
+  shown_later (h ∷ hs) before s has = shown_on h (hs ++ before) s (shown_later hs before s has)
 
-  commit_later : (c : ℕ) (commit : Commit) (hs before : List Happening) → IsSeen c commit (run k proto before).seen → IsSeen c commit (run k proto (hs ++ before)).seen
+  commit_later : (c : ℕ) (commit : Commit) (hs before : List Happening) → IsSeen c commit (run k proto before).shown → IsSeen c commit (run k proto (hs ++ before)).shown
   commit_later c commit hs before is = record {
     request = is.request;
     digest = is.digest;
-    there = seen_later hs before (Committed commit.instance c is.request commit.n is.digest commit.reply) is.there;
+    there = shown_later hs before (Committed commit.instance c is.request commit.n is.digest commit.reply) is.there;
+    stamp = is.stamp;
+  }
+
+  was_seen : (c : ℕ) (commit : Commit) (hs : List Happening) → IsSeen c commit (run k proto hs).shown → IsSeen c commit (run k proto hs).seen
+  was_seen c commit hs is = record {
+    request = is.request;
+    digest = is.digest;
+    there = commits_were_seen commit.instance c is.request commit.n is.digest commit.reply k proto hs is.there;
     stamp = is.stamp;
   }
 
   module _ (c : ℕ) (lt : c < k.cluster.clients) (good : is_faulty k.faulty (Client c) ≡ false) where
-    -- what it commits in an event is seen in that event
+    -- what it commits in an event is shown in that event
     commit_now : (w : Members P) (before : List Happening) → Stand w before → (e : NodeEvent) (commit : Commit) → (client_step (w.clients c) e).commit ≡ Some commit
-        → IsSeen c commit (run k proto (happens proto w (Client c) e ++ before)).seen
+        → IsSeen c commit (run k proto (happens proto w (Client c) e ++ before)).shown
     commit_now w before st e commit is = go (cue_of (w.clients c) e) is where
-      go : (o : Option Cue) → (client_may_take (w.clients c) o).commit ≡ Some commit → IsSeen c commit (run k proto (option_to_list (option_map (cue_event c) o) ++ before)).seen
+      go : (o : Option Cue) → (client_may_take (w.clients c) o).commit ≡ Some commit → IsSeen c commit (run k proto (option_to_list (option_map (cue_event c) o) ++ before)).shown
       go None none = absurd (none-some commit none)
       go (Some cue) some =
           let m = w.clients c in
@@ -233,25 +242,25 @@ module _ {P : Type 0} (k : RunSetup) (proto : Proto P) where
           ∙ moves_backward c (moves_at k c (v.clis c) cue) (v.clis c) in
           let shown : Contains shows found.0 = Contains-reverse shows found.0 (subst (λ (l : List Seen). Contains l found.0) backward found.1) in
           let own = own_commit c (moves_at k c (v.clis c) cue) (v.clis c) found.0 commit shown found.2 in
-          let seen : (run k proto (cue_event c cue ∷ before)).seen ≡ (if is_faulty k.faulty (Client c) then v.seen else shows ++ v.seen) =
-          ap (λ u. u.seen) (cue_happens before c cue) ∙ (cued k proto v c cue lt).seen in
-          let there : Contains (run k proto (cue_event c cue ∷ before)).seen found.0 =
-          subst (λ (l : List Seen). Contains l found.0) (sym seen)
-          (subst (λ (b : Bool). Contains (if b then v.seen else shows ++ v.seen) found.0) (sym good) (Contains-append_left shows v.seen found.0 shown)) in
-          record { request = own.request; digest = own.digest; there = subst (λ s. Contains (run k proto (cue_event c cue ∷ before)).seen s) own.is there; stamp = own.stamp }
+          let all : (run k proto (cue_event c cue ∷ before)).shown ≡ (if is_faulty k.faulty (Client c) then v.shown else shows ++ v.shown) =
+          ap (λ u. u.shown) (cue_happens before c cue) ∙ (cued k proto v c cue lt).shown in
+          let there : Contains (run k proto (cue_event c cue ∷ before)).shown found.0 =
+          subst (λ (l : List Seen). Contains l found.0) (sym all)
+          (subst (λ (b : Bool). Contains (if b then v.shown else shows ++ v.shown) found.0) (sym good) (Contains-append_left shows v.shown found.0 shown)) in
+          record { request = own.request; digest = own.digest; there = subst (λ s. Contains (run k proto (cue_event c cue ∷ before)).shown s) own.is there; stamp = own.stamp }
 
-    commits_seen : (xs : List (Party × NodeEvent)) (w : Members P) (before : List Happening) → Stand w before → (commit : Commit)
-        → Contains (commits_in client_rules (w.clients c) (events_at_client c xs)) commit → IsSeen c commit (run k proto (all_happens proto w xs ++ before)).seen
-    commits_seen [] w before st commit gone = absurd (omega (arith, gone.1))
-    commits_seen ((Replica q, e) ∷ xs) w before st commit has =
+    commits_shown : (xs : List (Party × NodeEvent)) (w : Members P) (before : List Happening) → Stand w before → (commit : Commit)
+        → Contains (commits_in client_rules (w.clients c) (events_at_client c xs)) commit → IsSeen c commit (run k proto (all_happens proto w xs ++ before)).shown
+    commits_shown [] w before st commit gone = absurd (omega (arith, gone.1))
+    commits_shown ((Replica q, e) ∷ xs) w before st commit has =
         let now = members_after proto w (Replica q) e in
-        subst (λ (hs : List Happening). IsSeen c commit (run k proto hs).seen) (sym (append_assoc (all_happens proto now xs) (happens proto w (Replica q) e) before))
-        (commits_seen xs now (happens proto w (Replica q) e ++ before) (replica_stands w before q e st) commit has)
-    commits_seen ((Client d, e) ∷ xs) w before st commit has =
+        subst (λ (hs : List Happening). IsSeen c commit (run k proto hs).shown) (sym (append_assoc (all_happens proto now xs) (happens proto w (Replica q) e) before))
+        (commits_shown xs now (happens proto w (Replica q) e ++ before) (replica_stands w before q e st) commit has)
+    commits_shown ((Client d, e) ∷ xs) w before st commit has =
         let v = (client_step (w.clients d) e).after in
         let now = members_after proto w (Client d) e in
         let after = happens proto w (Client d) e ++ before in
-        subst (λ (hs : List Happening). IsSeen c commit (run k proto hs).seen) (sym (append_assoc (all_happens proto now xs) (happens proto w (Client d) e) before))
+        subst (λ (hs : List Happening). IsSeen c commit (run k proto hs).shown) (sym (append_assoc (all_happens proto now xs) (happens proto w (Client d) e) before))
         (elim (cases_Bool (d == c)) [
           | inl same ↦
               let is : d ≡ c = eqb-true d c same in
@@ -260,13 +269,13 @@ module _ {P : Type 0} (k : RunSetup) (proto : Proto P) where
               elim (option_cases (client_step (w.clients c) e).commit (commits_in client_rules (client_step (w.clients c) e).after (events_at_client c xs)) commit (rw same at has)) [
                 | inl new ↦
                     commit_later c commit (all_happens proto now xs) after
-                    (subst (λ j. IsSeen c commit (run k proto (happens proto w (Client j) e ++ before)).seen) (sym is) (commit_now w before st e commit new))
+                    (subst (λ j. IsSeen c commit (run k proto (happens proto w (Client j) e ++ before)).shown) (sym is) (commit_now w before st e commit new))
                 | inr rest ↦
-                    commits_seen xs now after (client_stands w before d e st) commit
+                    commits_shown xs now after (client_stands w before d e st) commit
                     (subst (λ m. Contains (commits_in client_rules m (events_at_client c xs)) commit) (sym put_is) rest)
               ]
           | inr differ ↦
-              commits_seen xs now after (client_stands w before d e st) commit
+              commits_shown xs now after (client_stands w before d e st) commit
               (subst (λ m. Contains (commits_in client_rules m (events_at_client c xs)) commit) (sym (put_other w.clients d c v (λ is. eqb-false d c differ (sym is)))) (rw differ at has))
         ])
 
@@ -286,7 +295,9 @@ module _ {P : Type 0} (k : RunSetup) (proto : Proto P) where
       record {
         replicas = λ r lt. subst (λ (hs : List Happening). (run k proto hs).reps r ≡ ((all_after proto w xs).replicas r).site.rep) (append-nil (all_happens proto w xs)) (last.replicas r lt) ∙ ap (λ m. m.site.rep) (replica_comes counted r xs w);
         clients = λ c lt. subst (λ (hs : List Happening). (run k proto hs).clis c ≡ ((all_after proto w xs).clients c).seat.cli) (append-nil (all_happens proto w xs)) (last.clients c lt) ∙ ap (λ m. m.seat.cli) (client_comes c xs w);
-        commits = λ c lt good commit has. subst (λ (hs : List Happening). IsSeen c commit (run k proto hs).seen) (append-nil (all_happens proto w xs)) (commits_seen c lt good xs w [] first commit has);
+        commits = λ c lt good commit has.
+            was_seen c commit (all_happens proto w xs)
+            (subst (λ (hs : List Happening). IsSeen c commit (run k proto hs).shown) (append-nil (all_happens proto w xs)) (commits_shown c lt good xs w [] first commit has));
       }
 
 -- ---- before their first events

@@ -4,7 +4,7 @@ use Rattle.std.specs.Option.{option_map}
 use Rattle.ab_num.specs.declared.cluster.Cluster.{Cluster}
 use Rattle.ab_key_text.specs.Keys.{PartyKeys}
 use Rattle.ab_abs.specs.declared.seen.Seen.{Seen}
-use Rattle.ab_abs.specs.declared.seen.Seen.TheVariants.{Invoked, Init, Cert, Committed}
+use Rattle.ab_abs.specs.declared.seen.Seen.TheVariants.{Invoked, Init, Cert, TrimmedInit, TrimmedCert, Committed}
 use Rattle.ab_run.specs.declared.phase.Phase.{Phase}
 use Rattle.ab_run.specs.declared.phase.Phase.TheVariants.{Idle, Waiting, Panicking}
 use Rattle.ab_msg.specs.declared.message.Out.{Out}
@@ -43,6 +43,8 @@ abbrev pub commit_of : Seen → Option Commit
 commit_of (Invoked i c m) = None
 commit_of (Init i r h) = None
 commit_of (Cert i p h) = None
+commit_of (TrimmedInit i r start digest rest) = None
+commit_of (TrimmedCert i p start digest rest) = None
 commit_of (Committed i c m n d reply) = Some (record { stamp = m.stamp; instance = i; n = n; reply = reply })
 
 abbrev pub first_of : Option Commit → Option Commit → Option Commit

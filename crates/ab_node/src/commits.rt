@@ -15,6 +15,8 @@ fn commit_of(seen: &Seen) -> Option<Commit>
         Seen::Invoked { .. } => None,
         Seen::Init { .. } => None,
         Seen::Cert { .. } => None,
+        Seen::TrimmedInit { .. } => None,
+        Seen::TrimmedCert { .. } => None,
         Seen::Committed { i, m, n, reply, .. } => Some(Commit {
             stamp: m.stamp,
             instance: *i,

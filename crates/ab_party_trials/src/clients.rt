@@ -1,6 +1,7 @@
 //! A client by itself: what it refuses, what it sends, when it commits, and how it switches. The bytes
 //! of answers and ABORTs are of another implementation.
 
+use ab_abs::{Marks, Seen};
 use ab_client::{Client, InvokeFault, clients_act_by_their_cluster};
 use ab_num::{Cluster, OutOfMemory, Plan};
 use ab_open::read;
@@ -29,6 +30,24 @@ const ABORT: [u8; 31] = [
     6, 0, 0, 0, 0, 0, 0, 1, 0, 1, 0, 0, 0, 0, 0, 0, 0, 0, 0, 1, 0, 7, 0x70, 0x75, 0x74, 0x20, 0x61,
     0x20, 0x31, 9, 0x2c,
 ];
+
+/// Replica 0's ABORT of instance 1 with a log of which two entries are trimmed, with a digest of zeros and that request behind
+/// them, without the bytes of its signature. Its number stands in byte 3, the last byte of the digest in byte 43.
+const TRIMMED: [u8; 67] = [
+    6, 0, 0, 0, 0, 0, 0, 1, 255, 255, 0, 2, 0, 0, 0, 0, 0, 0, 0, 0, 0, 0, 0, 0, 0, 0, 0, 0, 0, 0,
+    0, 0, 0, 0, 0, 0, 0, 0, 0, 0, 0, 0, 0, 0, 0, 1, 0, 0, 0, 0, 0, 0, 0, 0, 0, 1, 0, 7, 0x70, 0x75,
+    0x74, 0x20, 0x61, 0x20, 0x31, 9, 0x2c,
+];
+
+/// Adds such an ABORT of a replica, whose digest ends with this byte.
+fn put_trimmed(bytes: &mut Vec<u8>, by: u8, digest: u8) -> Result<(), OutOfMemory> {
+    let mut head = TRIMMED;
+    head[3] = by;
+    head[43] = digest;
+    bytes.extend_from_slice(&head)?;
+    bytes.extend_from_slice(&[0; 2348])?;
+    Ok(())
+}
 
 /// Adds the ABORTs of these replicas.
 fn put_aborts(bytes: &mut Vec<u8>, replicas: &[u8]) -> Result<(), OutOfMemory> {
@@ -83,6 +102,56 @@ fn aborts(
 fn enters(alloc: Global, client: &mut Client) -> Result<Option<(usize, usize)>, OutOfMemory> {
     let bytes = with_aborts(alloc, &[7, 3], &[0, 1, 2])?;
     heard(alloc, client, &bytes)
+}
+
+/// How many entries a list has forgotten, and how many not, that a client shows as it enters instance 2.
+fn shown(marks: &Marks) -> Option<(u16, usize)> {
+    match marks.as_slice() {
+        [
+            Seen::TrimmedCert {
+                i: 1,
+                start,
+                rest,
+                ..
+            },
+            Seen::Invoked { i: 2, .. },
+        ] => Some((*start, rest.len())),
+        _ => None,
+    }
+}
+
+/// How much of a list it shows as a message comes.
+fn shows(
+    alloc: Global,
+    client: &mut Client,
+    bytes: &[u8],
+) -> Result<Option<(u16, usize)>, OutOfMemory> {
+    let Ok(m) = read(bytes) else {
+        return Ok(None);
+    };
+    let (_outs, marks) = client.on(alloc, m)?;
+    Ok(shown(&marks))
+}
+
+/// The same of the ABORT of a replica whose log is trimmed.
+fn aborts_trimmed(
+    alloc: Global,
+    client: &mut Client,
+    by: u8,
+    digest: u8,
+) -> Result<Option<(u16, usize)>, OutOfMemory> {
+    let mut bytes = Vec::from_slice(alloc, &[6])?;
+    put_trimmed(&mut bytes, by, digest)?;
+    shows(alloc, client, &bytes)
+}
+
+/// The same of a certificate by three replicas whose logs are trimmed.
+fn enters_trimmed(alloc: Global, client: &mut Client) -> Result<Option<(u16, usize)>, OutOfMemory> {
+    let mut bytes = Vec::from_slice(alloc, &[7, 3])?;
+    put_trimmed(&mut bytes, 0, 1)?;
+    put_trimmed(&mut bytes, 1, 2)?;
+    put_trimmed(&mut bytes, 2, 1)?;
+    shows(alloc, client, &bytes)
 }
 
 /// How much a client sends and observes as its timer runs out.
@@ -244,6 +313,53 @@ fn is_brought(alloc: Global, plan: Plan) -> Option<(bool, bool)> {
 #[test]
 fn certificates_bring_it_on(rt: HostRuntime) {
     assert!(rt; is_brought(rt.alloc(), Plan::AZyzzyva) == Some((true, true)));
+}
+
+/// Whether a certificate of trimmed logs brings a client to instance 2, and how much it shows of their list.
+fn is_brought_by_trimmed(alloc: Global, plan: Plan) -> Option<(bool, Option<(u16, usize)>)> {
+    let mut client = client_of(alloc, plan)?;
+    let _asked = asks(alloc, &mut client, b"put a 1");
+    let taken = enters_trimmed(alloc, &mut client);
+    let there = client.instance() == 2;
+    drop(client);
+    match taken {
+        Ok(list) => Some((there, list)),
+        Err(_) => None,
+    }
+}
+
+#[test]
+fn certificates_of_trimmed_logs_bring_it_on(rt: HostRuntime) {
+    let alloc = rt.alloc();
+    assert!(rt; is_brought_by_trimmed(alloc, Plan::Chain) == Some((true, Some((2, 1)))));
+    assert!(rt; is_brought_by_trimmed(alloc, Plan::Backup) == Some((false, None)));
+}
+
+/// Whether three ABORTs of which no two agree bring a client nowhere.
+fn stays_by_aborts(alloc: Global, client: &mut Client) -> bool {
+    let first = aborts_trimmed(alloc, client, 1, 2) == Ok(None);
+    let second = aborts_trimmed(alloc, client, 0, 1) == Ok(None);
+    let third = aborts(alloc, client, 3) == Ok(Some((0, 0)));
+    first && second && third && client.instance() == 1
+}
+
+/// How much a client shows of the list of three ABORTs among four, two of which agree.
+fn makes_trimmed(alloc: Global) -> Option<(bool, Option<(u16, usize)>)> {
+    let mut client = client_of(alloc, Plan::Quorum)?;
+    let left = panics(alloc, &mut client);
+    let stayed = stays_by_aborts(alloc, &mut client);
+    let taken = aborts_trimmed(alloc, &mut client, 2, 1);
+    let there = client.instance() == 2;
+    drop(client);
+    match taken {
+        Ok(list) => Some((left && stayed && there, list)),
+        Err(_) => None,
+    }
+}
+
+#[test]
+fn aborts_of_trimmed_logs_bring_it_on(rt: HostRuntime) {
+    assert!(rt; makes_trimmed(rt.alloc()) == Some((true, Some((2, 1)))));
 }
 
 #[test]

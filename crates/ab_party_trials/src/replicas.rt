@@ -5,8 +5,9 @@ ghost use Rattle.std.specs.Prelude.{◌≡◌, ◌+◌, ◌≤◌, false, true};
 ghost use Rattle.ab_abs.specs.Promises.{ServesAll};
 ghost use Rattle.ab_replica.specs.Sites.{IsPenOf};
 
-use ab_abs::Protocol;
+use ab_abs::{Protocol, Seen};
 use ab_fixtures::Null;
+use ab_hist::History;
 use ab_msg::{Content, Msg, Notary, Out, Outs, Sig, SignFault};
 use ab_num::{Cluster, Party, Plan};
 use ab_open::read;
@@ -39,6 +40,17 @@ const PANIC: [u8; 41] = [
 const NEXT_PANIC: [u8; 41] = [
     5, 5, 1, 0, 0, 0, 0, 0, 2, 0, 0, 0, 0, 0, 0, 0, 0, 0, 0, 0, 0, 0, 0, 0, 0, 0, 0, 0, 0, 0, 0, 0,
     0, 0, 0, 0, 0, 0, 0, 0, 0,
+];
+
+/// The digest of the history of the two requests.
+const DIGEST_OF_BOTH: [u8; 32] = [
+    0x42, 0xd8, 0xbd, 0x86, 0xb3, 0x6a, 0x48, 0xb6, 0xf5, 0x44, 0x66, 0xf8, 0x72, 0x3c, 0x37, 0x61,
+    0x82, 0xae, 0x4f, 0xf3, 0x02, 0x4c, 0x0e, 0xa1, 0x7e, 0x64, 0x28, 0x39, 0xc4, 0xc7, 0xd5, 0x4b,
+];
+
+/// A history of client 0's request `put a 3` of stamp 3.
+const THIRD: [u8; 21] = [
+    0, 1, 0, 0, 0, 0, 0, 0, 0, 0, 0, 3, 0, 7, 0x70, 0x75, 0x74, 0x20, 0x61, 0x20, 0x33,
 ];
 
 /// It makes signatures without bytes.
@@ -87,11 +99,13 @@ fn init(alloc: Global) -> Result<Vec<u8>, AllocError> {
     Ok(bytes)
 }
 
-/// Adds the ABORT of instance 1 by replica r, whose log is two entries with this digest, both trimmed, and whose signature is of zeros.
+/// Adds the ABORT of instance 1 by replica r, whose log is two entries with this digest, both trimmed, and the third request, and
+/// whose signature is of zeros.
 fn put_trimmed(bytes: &mut Vec<u8>, r: u8, digest: &[u8; 32]) -> Result<(), AllocError> {
     bytes.extend_from_slice(&[6, 0, 0, r, 0, 0, 0, 1, 255, 255, 0, 2])?;
     bytes.extend_from_slice(digest)?;
-    bytes.extend_from_slice(&[0, 0, 9, 44])?;
+    bytes.extend_from_slice(&THIRD)?;
+    bytes.extend_from_slice(&[9, 44])?;
     bytes.extend_from_slice(&[0; 2348])
 }
 
@@ -178,14 +192,43 @@ fn is_told_to_all(outs: &Outs) -> bool {
     }
 }
 
-/// What a replica did: whether it took the message, whether it had no signature left, how many messages and marks there are, and
-/// what went to client 0 alone or, behind an answer, to the other replicas.
+/// Whether the list has forgotten both requests, and has the third behind them.
+fn is_third_behind(start: u16, digest: &[u8; 32], rest: &History) -> bool {
+    start == 2 && *digest == DIGEST_OF_BOTH && rest.len() == 1 && rest.at(1).stamp == 3
+}
+
+/// Whether replica 2 took such a list of a certificate of instance 1, and entered instance 2 with it.
+fn is_entry_behind(marks: &[Seen]) -> bool {
+    match marks {
+        [
+            Seen::TrimmedCert {
+                i: 1,
+                p: Party::Replica(2),
+                start: taken,
+                digest: d,
+                rest: g,
+            },
+            Seen::TrimmedInit {
+                i: 2,
+                r: 2,
+                start: begun,
+                digest: e,
+                rest: h,
+            },
+        ] => is_third_behind(*taken, d, g) && is_third_behind(*begun, e, h),
+        _ => false,
+    }
+}
+
+/// What a replica did: whether it took the message, whether it had no signature left, how many messages and marks there are,
+/// whether it entered by the third request alone, and what went to client 0 alone or, behind an answer, to the other replicas.
 #[derive(Drop)]
 struct Done {
     taken: bool,
     spent: bool,
     outs: usize,
     marks: usize,
+    behind: bool,
     aborted: Option<usize>,
     brought: Option<usize>,
     trimmed: Option<(u16, usize)>,
@@ -207,6 +250,7 @@ fn heard<P: Protocol<Echo>, N: Notary>(
         spent: true,
         outs: 0,
         marks: 0,
+        behind: false,
         aborted: None,
         brought: None,
         trimmed: None,
@@ -221,6 +265,7 @@ fn heard<P: Protocol<Echo>, N: Notary>(
                     spent,
                     outs: outs.len(),
                     marks: marks.len(),
+                    behind: is_entry_behind(marks.as_slice()),
                     aborted: aborted(&outs),
                     brought: brought(&outs),
                     trimmed: trimmed(&outs),
@@ -370,13 +415,17 @@ fn stops_after_all<P: Protocol<Echo>, N: Notary>(
     heard(alloc, replica, n, &PANIC).trimmed
 }
 
-/// In which instance it is, and how it then aborts in instance 2, after an INIT with logs whose two trimmed entries have this digest.
+/// What comes of a certificate of trimmed logs: in which instance the replica then is, whether it showed the third request alone as
+/// it entered, and how many entries are trimmed of the log that it states in instance 2, and how many aren't.
+type Led = (u32, bool, Option<(u16, usize)>);
+
+/// The same of an INIT with logs whose two trimmed entries have this digest.
 fn enters_by<P: Protocol<Echo>, N: Notary>(
     alloc: Global,
     replica: &mut Replica<Echo, P>,
     n: &mut N,
     digest: &[u8; 32],
-) -> Option<(u32, Option<(u16, usize)>)>
+) -> Option<Led>
     requires { IsPenOf (N.pen n.old) (N.remains n.old) replica.old }
 {
     let Ok(init) = trimmed_init(alloc, digest) else {
@@ -387,27 +436,23 @@ fn enters_by<P: Protocol<Echo>, N: Notary>(
         return None;
     }
     let there = replica.instance();
-    Some((there, heard(alloc, replica, n, &NEXT_PANIC).trimmed))
+    let stated = heard(alloc, replica, n, &NEXT_PANIC).trimmed;
+    Some((there, entry.behind, stated))
 }
 
-/// The same of a replica that has heard both requests and the others' CHECKPOINTs, by the digest of its own log or by another.
+/// The same of a replica that has heard both requests and the others' CHECKPOINTs.
 fn enters_after_all<P: Protocol<Echo>, N: Notary>(
     alloc: Global,
     replica: &mut Replica<Echo, P>,
     n: &mut N,
-    own: bool,
-) -> Option<(u32, Option<(u16, usize)>)>
+    digest: &[u8; 32],
+) -> Option<Led>
     requires { IsPenOf (N.pen n.old) (N.remains n.old) replica.old }
 {
-    if !hears_all(alloc, replica, n) || replica.log().len() < 2 {
+    if !hears_all(alloc, replica, n) {
         return None;
     }
-    let digest = if own {
-        replica.log().digest_at(2)
-    } else {
-        [0; 32]
-    };
-    enters_by(alloc, replica, n, &digest)
+    enters_by(alloc, replica, n, digest)
 }
 
 /// Whether replica 2 sends its CHECKPOINT of two entries to the others, if each two requests are to have one.
@@ -436,35 +481,28 @@ fn stops<P: Protocol<Echo>>(alloc: Global, c: &Cluster) -> Option<(u16, usize)>
     stated
 }
 
-/// In which instance replica 2 is after a certificate of trimmed logs with its own digest, or with another, and how it aborts there.
-fn leads_on<P: Protocol<Echo>>(
-    alloc: Global,
-    c: &Cluster,
-    own: bool,
-) -> Option<(u32, Option<(u16, usize)>)>
+/// What comes of a certificate of trimmed logs with this digest to replica 2, whose log is both requests.
+fn leads_on<P: Protocol<Echo>>(alloc: Global, c: &Cluster, digest: &[u8; 32]) -> Option<Led>
     requires { ServesAll P.serves c.now }
 {
     let Ok(mut replica) = Replica::<Echo, P>::new(alloc, c, 2, 1) else {
         return None;
     };
     let mut pen = Blank { used: 0, left: 1 };
-    let there = enters_after_all(alloc, &mut replica, &mut pen, own);
+    let there = enters_after_all(alloc, &mut replica, &mut pen, digest);
     drop(replica);
     there
 }
 
 /// The same of a replica whose log is empty.
-fn leads_nobody<P: Protocol<Echo>>(
-    alloc: Global,
-    c: &Cluster,
-) -> Option<(u32, Option<(u16, usize)>)>
+fn leads_nobody<P: Protocol<Echo>>(alloc: Global, c: &Cluster) -> Option<Led>
     requires { ServesAll P.serves c.now }
 {
     let Ok(mut replica) = Replica::<Echo, P>::new(alloc, c, 2, 1) else {
         return None;
     };
     let mut pen = Blank { used: 0, left: 1 };
-    let there = enters_by(alloc, &mut replica, &mut pen, &[0; 32]);
+    let there = enters_by(alloc, &mut replica, &mut pen, &DIGEST_OF_BOTH);
     drop(replica);
     there
 }
@@ -523,20 +561,20 @@ fn a_stable_log_is_trimmed(rt: HostRuntime) {
 fn a_certificate_of_trimmed_logs_leads_on(rt: HostRuntime) {
     let alloc = rt.alloc();
     let there = match Cluster::new(1, 4, Plan::Quorum, 2) {
-        Some(c) => leads_on::<Quorum<Echo>>(alloc, &c, true),
+        Some(c) => leads_on::<Quorum<Echo>>(alloc, &c, &DIGEST_OF_BOTH),
         None => None,
     };
-    assert!(rt; there == Some((2, Some((2, 0)))));
+    assert!(rt; there == Some((2, true, Some((2, 1)))));
 }
 
 #[test]
 fn trimmed_logs_of_another_digest_lead_nowhere(rt: HostRuntime) {
     let alloc = rt.alloc();
     let there = match Cluster::new(1, 4, Plan::Quorum, 2) {
-        Some(c) => leads_on::<Quorum<Echo>>(alloc, &c, false),
+        Some(c) => leads_on::<Quorum<Echo>>(alloc, &c, &[0; 32]),
         None => None,
     };
-    assert!(rt; there == Some((1, None)));
+    assert!(rt; there == Some((1, false, None)));
 }
 
 #[test]
@@ -546,5 +584,5 @@ fn trimmed_logs_lead_no_empty_replica_on(rt: HostRuntime) {
         Some(c) => leads_nobody::<Quorum<Echo>>(alloc, &c),
         None => None,
     };
-    assert!(rt; there == Some((1, None)));
+    assert!(rt; there == Some((1, false, None)));
 }

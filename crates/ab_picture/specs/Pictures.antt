@@ -22,8 +22,8 @@ use Rattle.ab_picture.specs.declared.picture.Stub.{Stub}
 -- the mark of a line: at its event and its party
 abbrev pub mark_of : Line → Mark
 mark_of (line.Refused e p cause) = record { event = e; party = p; sign = sign.Refused cause }
-mark_of (line.Cert e p i entries) = record { event = e; party = p; sign = sign.Certified i }
-mark_of (line.Init e r i entries) = record { event = e; party = Replica r; sign = sign.Entered i }
+mark_of (line.Cert e p i start entries) = record { event = e; party = p; sign = sign.Certified i }
+mark_of (line.Init e r i start entries) = record { event = e; party = Replica r; sign = sign.Entered i }
 mark_of (line.Invoked e c i stamp) = record { event = e; party = Client c; sign = sign.Invoked i stamp }
 mark_of (line.Commit e c i stamp n reply) = record { event = e; party = Client c; sign = sign.Committed i n reply }
 mark_of (line.Spent e r) = record { event = e; party = Replica r; sign = sign.Spent }

@@ -38,6 +38,7 @@ fn mark_of(line: &Line) -> Mark
             event,
             party,
             instance,
+            start: _,
             entries: _,
         } => Mark {
             event: *event,
@@ -50,6 +51,7 @@ fn mark_of(line: &Line) -> Mark
             event,
             replica,
             instance,
+            start: _,
             entries: _,
         } => Mark {
             event: *event,

@@ -1,5 +1,5 @@
 -- Replays of schedules.
-use Rattle.std.specs.Prelude.{◌≡◌, ◌⊎◌, ◌↔◌, ⊤, ℕ, ◌+◌, ◌<◌, Bool, IsTrue, if◌then◌else◌, Option, List, [], ◌∷◌, Result, Ok, Err, length}
+use Rattle.std.specs.Prelude.{◌≡◌, ◌⊎◌, ◌↔◌, ⊤, ℕ, ◌+◌, ◌<◌, Bool, IsTrue, if◌then◌else◌, Option, List, [], ◌∷◌, Result, Ok, Err, drop, length}
 use Rattle.ab_num.specs.declared.party.Party.TheVariants.{Replica}
 use Rattle.ab_num.specs.declared.plan.ServiceName.{ServiceName}
 use Rattle.ab_num.specs.declared.plan.ServiceName.TheVariants.{Echo, Kv}
@@ -75,8 +75,11 @@ Runs s r = RunsTo (proto_of s.service) s r
 
 -- ---- reports
 
+-- the log of a replica, of which it shows the entries behind those that it has trimmed
 abbrev pub log_of : {P : Type 0} → Proto P → ℕ → Site P → Log
-log_of proto r s = record { replica = r; instance = s.rep.at; entries = entries_of (proto.state s.rep.value).log }
+log_of proto r s =
+    let start = proto.trimmed s.rep.value in
+    record { replica = r; instance = s.rep.at; start = start; entries = drop start (entries_of (proto.state s.rep.value).log) }
 
 -- the logs of the correct replicas from number r on
 abbrev pub logs_from : {P : Type 0} → Proto P → Setup → ℕ → List (Site P) → List Log

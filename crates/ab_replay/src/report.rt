@@ -1,6 +1,6 @@
 //! The report of a run.
 
-ghost use Rattle.std.specs.Prelude.{◌≡◌, ◌<◌, ◌+◌, ◌*◌, ◌++◌, IfOk, IfSome, OnOk, flat_map, length, slice_get};
+ghost use Rattle.std.specs.Prelude.{◌≡◌, ◌<◌, ◌≤◌, ◌+◌, ◌*◌, ◌++◌, drop, IfOk, IfSome, OnOk, flat_map, length, slice_get};
 ghost use Rattle.ab_text.specs.Reports.{line_text, log_text};
 ghost use Rattle.ab_replay.specs.Replays.{report_of, log_of, logs_from};
 
@@ -21,6 +21,14 @@ fn write_lines(alloc: Global, out: &mut Vec<u8>, lines: &[Line]) -> Result<(), O
     Ok(())
 }
 
+/// The entries behind the first `n`.
+fn behind(entries: &[(u16, u64)], n: u16) -> &[(u16, u64)]
+    requires { n ≤ length entries.now }
+    ensures { result.now ≡ drop n entries.now }
+{
+    &entries[n as usize..]
+}
+
 /// Adds the line for the log of a replica.
 fn write_log_of<S: Service, P: Protocol<S>>(
     alloc: Global,
@@ -37,8 +45,12 @@ fn write_log_of<S: Service, P: Protocol<S>>(
     let Some(log) = world.present_log(r) else {
         unreachable!()
     };
+    let Some(start) = world.trimmed_of(r) else {
+        unreachable!()
+    };
     let entries = entries(alloc, log)?;
-    write_log(alloc, out, r, instance, entries.as_slice())
+    let rest = behind(entries.as_slice(), start);
+    write_log(alloc, out, r, instance, start, rest)
 }
 
 /// Adds a line for the log of each correct replica.

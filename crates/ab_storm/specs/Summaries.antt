@@ -13,9 +13,9 @@ use Rattle.ab_storm.specs.declared.summary.Counted.TheVariants as counted
 abbrev pub is_of : Counted → Line → Bool
 is_of counted.Commits (Commit e c i stamp n reply) = true
 is_of counted.Commits _ = false
-is_of counted.Certs (Cert e p i entries) = true
+is_of counted.Certs (Cert e p i start entries) = true
 is_of counted.Certs _ = false
-is_of counted.Inits (Init e r i entries) = true
+is_of counted.Inits (Init e r i start entries) = true
 is_of counted.Inits _ = false
 is_of counted.Spent (Spent e r) = true
 is_of counted.Spent _ = false

@@ -1,5 +1,5 @@
 -- The text of a report.
-use Rattle.std.specs.Prelude.{ℕ, List, [], ◌∷◌, ◌++◌, codes, decimal}
+use Rattle.std.specs.Prelude.{ℕ, ◌==◌, if◌then◌else◌, List, [], ◌∷◌, ◌++◌, codes, decimal}
 use Rattle.std.specs.List.{flat_map}
 use Rattle.ab_num.specs.declared.party.Party.{Party}
 use Rattle.ab_text.specs.declared.line.OpenCause.{OpenCause}
@@ -29,6 +29,10 @@ abbrev pub entries_text : List (ℕ × ℕ) → List ℕ
 entries_text [] = codes "-"
 entries_text (e ∷ es) = entry_text e ++ flat_map next_entry_text es
 
+-- of a list that has forgotten its first `start` entries: their number, then those that it has
+abbrev pub list_text : ℕ → List (ℕ × ℕ) → List ℕ
+list_text start entries = if start == 0 then entries_text entries else decimal start then codes ":" then entries_text entries
+
 abbrev pub cause_text : OpenCause → List ℕ
 cause_text Bad = codes "bad"
 cause_text Kind = codes "kind"
@@ -37,11 +41,11 @@ cause_text Tag = codes "tag"
 abbrev pub refused_line : ℕ → Party → OpenCause → List ℕ
 refused_line e p cause = codes "refused " then decimal e then codes " " then party_text p then codes " " then cause_text cause then codes "\n"
 
-abbrev pub cert_line : ℕ → Party → ℕ → List (ℕ × ℕ) → List ℕ
-cert_line e p i entries = codes "cert " then decimal e then codes " " then party_text p then codes " " then decimal i then codes " " then entries_text entries then codes "\n"
+abbrev pub cert_line : ℕ → Party → ℕ → ℕ → List (ℕ × ℕ) → List ℕ
+cert_line e p i start entries = codes "cert " then decimal e then codes " " then party_text p then codes " " then decimal i then codes " " then list_text start entries then codes "\n"
 
-abbrev pub init_line : ℕ → ℕ → ℕ → List (ℕ × ℕ) → List ℕ
-init_line e r i entries = codes "init " then decimal e then codes " r" then decimal r then codes " " then decimal i then codes " " then entries_text entries then codes "\n"
+abbrev pub init_line : ℕ → ℕ → ℕ → ℕ → List (ℕ × ℕ) → List ℕ
+init_line e r i start entries = codes "init " then decimal e then codes " r" then decimal r then codes " " then decimal i then codes " " then list_text start entries then codes "\n"
 
 abbrev pub invoked_line : ℕ → ℕ → ℕ → ℕ → List ℕ
 invoked_line e c i stamp = codes "invoked " then decimal e then codes " c" then decimal c then codes " " then decimal i then codes " " then decimal stamp then codes "\n"
@@ -59,23 +63,24 @@ spent_line e r = codes "spent " then decimal e then codes " r" then decimal r th
 
 abbrev pub line_text : Line → List ℕ
 line_text (Refused e p cause) = refused_line e p cause
-line_text (Cert e p i entries) = cert_line e p i entries
-line_text (Init e r i entries) = init_line e r i entries
+line_text (Cert e p i start entries) = cert_line e p i start entries
+line_text (Init e r i start entries) = init_line e r i start entries
 line_text (Invoked e c i stamp) = invoked_line e c i stamp
 line_text (Commit e c i stamp n reply) = commit_line e c i stamp n reply.items
 line_text (Spent e r) = spent_line e r
 
-abbrev pub log_line : ℕ → ℕ → List (ℕ × ℕ) → List ℕ
-log_line r i entries = codes "log r" then decimal r then codes " " then decimal i then codes " " then entries_text entries then codes "\n"
+abbrev pub log_line : ℕ → ℕ → ℕ → List (ℕ × ℕ) → List ℕ
+log_line r i start entries = codes "log r" then decimal r then codes " " then decimal i then codes " " then list_text start entries then codes "\n"
 
--- the present instance and log of a replica
+-- the present instance and log of a replica, of which it has forgotten the first `start` entries
 pub record Log : Type 0 where
   pub replica : ℕ
   pub instance : ℕ
+  pub start : ℕ
   pub entries : List (ℕ × ℕ)
 
 abbrev pub log_text : Log → List ℕ
-log_text log = log_line log.replica log.instance log.entries
+log_text log = log_line log.replica log.instance log.start log.entries
 
 abbrev pub breach_text : Breach → List ℕ
 breach_text Faulty = codes "faulty"

@@ -17,7 +17,8 @@ pub enum OpenCause {
     Tag,
 }
 
-/// One line of a report, of the event of this number. Entries are client and stamp of each request of a history.
+/// One line of a report, of the event of this number. Entries are client and stamp of each request
+/// of a history, or of a list that has forgotten its first `start` requests.
 #[derive(Debug, Drop)]
 pub enum Line {
     /// A message didn't open at a correct party.
@@ -31,6 +32,7 @@ pub enum Line {
         event: u32,
         party: Party,
         instance: u32,
+        start: u16,
         entries: Items<(u16, u64)>,
     },
     /// A correct replica entered the instance with this history.
@@ -38,6 +40,7 @@ pub enum Line {
         event: u32,
         replica: u8,
         instance: u32,
+        start: u16,
         entries: Items<(u16, u64)>,
     },
     /// A correct client sent its request in the instance for the first time.

@@ -3,7 +3,7 @@
 ghost use Rattle.std.specs.Prelude.{◌≡◌, ◌++◌, OnOk, OnErr, IfOk, codes, string_bytes};
 ghost use Rattle.std.specs.List.{flat_map};
 ghost use Rattle.ab_text.specs.Cores.{party_text};
-ghost use Rattle.ab_text.specs.Reports.{entry_text, next_entry_text, entries_text, cause_text, breach_text, refused_line, cert_line, init_line, invoked_line, commit_front, spent_line, line_text, log_line, premise_text, broken_line, end_text};
+ghost use Rattle.ab_text.specs.Reports.{entry_text, next_entry_text, entries_text, list_text, cause_text, breach_text, refused_line, cert_line, init_line, invoked_line, commit_front, spent_line, line_text, log_line, premise_text, broken_line, end_text};
 
 use crate::line::{Breach, Line, OpenCause, Premise};
 use ab_num::{OutOfMemory, Party};
@@ -82,6 +82,17 @@ fn joined(alloc: Global, first: &(u16, u64), rest: &[(u16, u64)]) -> Result<Stri
     Ok(text)
 }
 
+/// The entries of a list that has forgotten its first `start` ones.
+fn list_string(alloc: Global, start: u16, entries: &[(u16, u64)]) -> Result<String, AllocError>
+    ensures { IfOk result (λ s. string_bytes s ≡ list_text start entries.now) }
+{
+    let entries = entries_string(alloc, entries)?;
+    if start == 0 {
+        return Ok(entries);
+    }
+    format!(in alloc; "{start}:{entries}")
+}
+
 fn refused_string(
     alloc: Global,
     event: u32,
@@ -100,12 +111,13 @@ fn cert_string(
     event: u32,
     party: Party,
     instance: u32,
+    start: u16,
     entries: &[(u16, u64)],
 ) -> Result<String, AllocError>
-    ensures { IfOk result (λ s. string_bytes s ≡ cert_line event party instance entries.now) }
+    ensures { IfOk result (λ s. string_bytes s ≡ cert_line event party instance start entries.now) }
 {
     let party = party_string(alloc, party)?;
-    let entries = entries_string(alloc, entries)?;
+    let entries = list_string(alloc, start, entries)?;
     format!(in alloc; "cert {event} {party} {instance} {entries}\n")
 }
 
@@ -114,11 +126,12 @@ fn init_string(
     event: u32,
     replica: u8,
     instance: u32,
+    start: u16,
     entries: &[(u16, u64)],
 ) -> Result<String, AllocError>
-    ensures { IfOk result (λ s. string_bytes s ≡ init_line event replica instance entries.now) }
+    ensures { IfOk result (λ s. string_bytes s ≡ init_line event replica instance start entries.now) }
 {
-    let entries = entries_string(alloc, entries)?;
+    let entries = list_string(alloc, start, entries)?;
     format!(in alloc; "init {event} r{replica} {instance} {entries}\n")
 }
 
@@ -157,11 +170,12 @@ fn log_string(
     alloc: Global,
     replica: u8,
     instance: u32,
+    start: u16,
     entries: &[(u16, u64)],
 ) -> Result<String, AllocError>
-    ensures { IfOk result (λ s. string_bytes s ≡ log_line replica instance entries.now) }
+    ensures { IfOk result (λ s. string_bytes s ≡ log_line replica instance start entries.now) }
 {
-    let entries = entries_string(alloc, entries)?;
+    let entries = list_string(alloc, start, entries)?;
     format!(in alloc; "log r{replica} {instance} {entries}\n")
 }
 
@@ -226,18 +240,27 @@ pub fn write_seen(alloc: Global, out: &mut Vec<u8>, line: &Line) -> Result<(), O
             event,
             party,
             instance,
+            start,
             entries,
         } => {
-            let text = cert_string(alloc, *event, *party, *instance, entries.as_slice())?;
+            let text = cert_string(alloc, *event, *party, *instance, *start, entries.as_slice())?;
             add(out, text.as_bytes())
         }
         Line::Init {
             event,
             replica,
             instance,
+            start,
             entries,
         } => {
-            let text = init_string(alloc, *event, *replica, *instance, entries.as_slice())?;
+            let text = init_string(
+                alloc,
+                *event,
+                *replica,
+                *instance,
+                *start,
+                entries.as_slice(),
+            )?;
             add(out, text.as_bytes())
         }
         Line::Invoked {
@@ -267,18 +290,19 @@ pub fn write_seen(alloc: Global, out: &mut Vec<u8>, line: &Line) -> Result<(), O
     }
 }
 
-/// Adds the line of a replica's instance and log. Where memory is refused `out` is as before.
+/// Adds the line of a replica's instance and log, of which it has forgotten the first `start` entries. Where memory is refused `out` is as before.
 pub fn write_log(
     alloc: Global,
     out: &mut Vec<u8>,
     replica: u8,
     instance: u32,
+    start: u16,
     entries: &[(u16, u64)],
 ) -> Result<(), OutOfMemory>
-    ensures ok { OnOk result (out.new.items ≡ out.old.items ++ log_line replica instance entries.now) }
+    ensures ok { OnOk result (out.new.items ≡ out.old.items ++ log_line replica instance start entries.now) }
     ensures err { OnErr result (out.new.items ≡ out.old.items) }
 {
-    let text = log_string(alloc, replica, instance, entries)?;
+    let text = log_string(alloc, replica, instance, start, entries)?;
     add(out, text.as_bytes())
 }
 

@@ -400,6 +400,7 @@ fn write_histories(alloc: Global, out: &mut Vec<u8>) -> Option<()> {
         event: 22,
         party: Party::Client(0),
         instance: 1,
+        start: 0,
         entries: three(alloc)?,
     };
     write(alloc, out, cert).ok()?;
@@ -407,6 +408,7 @@ fn write_histories(alloc: Global, out: &mut Vec<u8>) -> Option<()> {
         event: 23,
         replica: 0,
         instance: 2,
+        start: 0,
         entries: three(alloc)?,
     };
     write(alloc, out, init).ok()
@@ -457,8 +459,8 @@ fn write_all(alloc: Global, out: &mut Vec<u8>) -> Option<()> {
     write_refused(alloc, out).ok()?;
     write_histories(alloc, out)?;
     write_others(alloc, out).ok()?;
-    write_log(alloc, out, 1, 1, &[(0, 1)]).ok()?;
-    write_log(alloc, out, 2, 1, &[]).ok()?;
+    write_log(alloc, out, 1, 1, 0, &[(0, 1)]).ok()?;
+    write_log(alloc, out, 2, 1, 0, &[]).ok()?;
     write_premises(alloc, out).ok()?;
     write_end(alloc, out, 35, 62).ok()
 }
@@ -469,5 +471,40 @@ fn writes(rt: HostRuntime) {
     write_all(rt.alloc(), &mut out).expect(&rt, "memory");
     let want =
         b"refused 9 c0 tag\nrefused 18 r0 bad\nrefused 18 r0 kind\ncert 22 c0 1 c0.1,c1.1,c2.1\ninit 23 r0 2 c0.1,c1.1,c2.1\ninvoked 31 c0 1 2\ncommit 9 c0 1 1 1 put a 1\nspent 33 r1\nlog r1 1 c0.1\nlog r2 1 -\npremise held\npremise broken 9 forged r3\npremise broken 0 faulty r1\nend 35 62\n";
+    assert!(rt; out.as_slice() == want.as_slice());
+}
+
+fn one(alloc: Global) -> Option<Items<(u16, u64)>> {
+    let mut entries = Items::new(alloc);
+    entries.push((0, 3)).ok()?;
+    Some(entries)
+}
+
+/// The lines of lists that have forgotten their first two entries.
+fn write_trimmed(alloc: Global, out: &mut Vec<u8>) -> Option<()> {
+    let cert = Line::Cert {
+        event: 38,
+        party: Party::Client(0),
+        instance: 1,
+        start: 2,
+        entries: Items::new(alloc),
+    };
+    write(alloc, out, cert).ok()?;
+    let init = Line::Init {
+        event: 39,
+        replica: 0,
+        instance: 2,
+        start: 2,
+        entries: one(alloc)?,
+    };
+    write(alloc, out, init).ok()?;
+    write_log(alloc, out, 2, 2, 2, &[(0, 3)]).ok()
+}
+
+#[test]
+fn writes_what_is_forgotten(rt: HostRuntime) {
+    let mut out = Vec::new(rt.alloc());
+    write_trimmed(rt.alloc(), &mut out).expect(&rt, "memory");
+    let want = b"cert 38 c0 1 2:-\ninit 39 r0 2 2:c0.3\nlog r2 2 2:c0.3\n";
     assert!(rt; out.as_slice() == want.as_slice());
 }

@@ -1,9 +1,9 @@
 -- What a world tells is that of its run.
-use Rattle.std.proofs.Common.{◌≡◌, ℕ, zero, suc, ◌*◌, ◌+◌, ◌<◌, Option, Some, List, [], ◌∷◌, refl, sym, ap, ◌∙◌, subst}
+use Rattle.std.proofs.Common.{◌≡◌, ℕ, zero, suc, ◌*◌, ◌+◌, ◌<◌, Option, Some, List, [], ◌∷◌, ◌++◌, refl, sym, ap, ◌∙◌, subst}
 use Rattle.std.specs.Prelude.{Result, Ok, Err, map, reverse, slice_get, take}
 use Rattle.std.specs.List.{filter}
 use Rattle.std.specs.Option.{option_map}
-use Rattle.std.proofs.lemmas.List.{reverse-reverse}
+use Rattle.std.proofs.lemmas.List.{map-append, reverse-append, reverse-reverse}
 use Rattle.std.proofs.lemmas.Option.{slice_get_within}
 use Rattle.ab_hist.specs.declared.request.Request.{Request}
 use Rattle.ab_text.specs.declared.event.Event.{Event}
@@ -13,7 +13,7 @@ use Rattle.ab_msg.specs.Contents.{spell_content}
 use Rattle.ab_abs.specs.declared.seen.Seen.{Seen}
 use Rattle.ab_abs.specs.Ensembles.{Proto}
 use Rattle.ab_abs.specs.Instances.{EachIsAbstract}
-use Rattle.ab_abs.specs.Observations.{history_at}
+use Rattle.ab_abs.specs.Observations.{history_at, seen_whole}
 use Rattle.ab_abs.specs.Order.{Ordered}
 use Rattle.ab_replica.specs.Sites.{Site}
 use Rattle.ab_run.specs.declared.noted.Noted.{Noted}
@@ -21,7 +21,7 @@ use Rattle.ab_run.specs.Setups.{replicas}
 use Rattle.ab_run.specs.Replicas.{Rep}
 use Rattle.ab_run.specs.Runs.{named_by}
 use Rattle.ab_run.specs.Inputs.{Input}
-use Rattle.ab_run.specs.Stages.{Stage, IsStageOf, all_seen, find_log, named_on, stage_over}
+use Rattle.ab_run.specs.Stages.{Stage, IsStageOf, all_seen, find_log, named_on, stage_over, whole_seen}
 use Rattle.ab_cast.specs.Setups.{Setup, run_setup}
 use Rattle.ab_world.specs.declared.fault.WorldFault.{WorldFault}
 use Rattle.ab_world.specs.Lines.{is_observed, line_of_noted}
@@ -31,6 +31,14 @@ use Rattle.ab_world.specs.Told.{run_of, up_to, EndsThere, KeepsPromises, TellsSe
 use Rattle.ab_world.specs.Worlds.{World, opener, shown_on, start}
 use Rattle.ab_world.proofs.NumberLemmas.{numbered}
 use Rattle.ab_world.proofs.SeatLemmas.{reps_of-get}
+
+map-reverse : {A B : Type 0} (f : A → B) (xs : List A) → map f (reverse xs) ≡ reverse (map f xs)
+map-reverse f [] = refl
+map-reverse f (x ∷ xs) =
+    ap (map f) (reverse-append (x ∷ []) xs)
+    ∙ map-append f (reverse xs) (x ∷ [])
+    ∙ ap (λ l. l ++ f x ∷ []) (map-reverse f xs)
+    ∙ sym (reverse-append (f x ∷ []) (map f xs))
 
 module _ {P : Type 0} (proto : Proto P) where
   -- what the first n events give is the first n of what all give
@@ -52,13 +60,22 @@ module _ {P : Type 0} (proto : Proto P) where
     stage inputs = stage_over (run_setup x) proto spell_content (opener x) inputs
 
     module _ (shown : (inputs : List Input) → IsStageOf (run_setup x) proto (opener x) spell_content (stage inputs) (reverse inputs)) where
-      pub all_is : (es : List Event) → all_seen (stage (given es)) ≡ reverse (run_of proto x es).seen
-      all_is es = sym (reverse-reverse (all_seen (stage (given es)))) ∙ ap reverse (shown (given es)).seen
+      pub all_is : (es : List Event) → all_seen (stage (given es)) ≡ reverse (run_of proto x es).shown
+      all_is es = sym (reverse-reverse (all_seen (stage (given es)))) ∙ ap reverse (shown (given es)).shown
 
       pub named_is : (es : List Event) → named_on (run_setup x) (stage (given es)) ≡ named_by (run_setup x) (run_of proto x es)
       named_is es = λ j i. history_at (run_setup x).faulty (replicas (run_setup x)) (λ r. (shown (given es)).logs i r j)
 
-      numbers_are : (n : ℕ) (es : List Event) → map (λ o. o.what) (filter (up_to n) (stage (given es)).seen) ≡ reverse (run_of proto x (take n es)).seen
+      -- made whole by the logs, it is what was seen, where what is shown stands for that
+      whole_is : (es : List Event) → (run_of proto x es).seen ≡ map (seen_whole (named_by (run_setup x) (run_of proto x es))) (run_of proto x es).shown
+          → whole_seen (run_setup x) (stage (given es)) ≡ reverse (run_of proto x es).seen
+      whole_is es stands =
+          let w = run_of proto x es in
+          (λ j. map (seen_whole (named_is es j)) (all_is es j))
+          ∙ map-reverse (seen_whole (named_by (run_setup x) w)) w.shown
+          ∙ ap reverse (sym stands)
+
+      numbers_are : (n : ℕ) (es : List Event) → map (λ o. o.what) (filter (up_to n) (stage (given es)).seen) ≡ reverse (run_of proto x (take n es)).shown
       numbers_are n es =
           ap (λ (l : List Noted). map (λ o. o.what) l) (numbered (run_setup x) proto spell_content (opener x) n (given es))
           ∙ ap (λ (l : List Input). all_seen (stage l)) (sym (front_inputs n (start proto x) es))
@@ -83,12 +100,14 @@ module _ {P : Type 0} (proto : Proto P) where
           }
 
       pub keeps : {S : Type 0} (machine : Machine S) (es : List Event)
-          → Ordered machine (all_seen (stage (given es))) (named_on (run_setup x) (stage (given es))) (run_setup x).faulty
-          → EachIsAbstract machine (all_seen (stage (given es))) (named_on (run_setup x) (stage (given es))) (run_setup x).faulty
+          → (run_of proto x es).seen ≡ map (seen_whole (named_by (run_setup x) (run_of proto x es))) (run_of proto x es).shown
+          → Ordered machine (whole_seen (run_setup x) (stage (given es))) (named_on (run_setup x) (stage (given es))) (run_setup x).faulty
+          → EachIsAbstract machine (whole_seen (run_setup x) (stage (given es))) (named_on (run_setup x) (stage (given es))) (run_setup x).faulty
           → KeepsPromises machine proto x es
-      keeps machine es ordered instances = record {
+      keeps machine es stands ordered instances = record {
+        shown = stands;
         ordered = subst (λ (named : ℕ → ℕ → List ℕ → List Request). Ordered machine (reverse (run_of proto x es).seen) named (run_setup x).faulty) (named_is es)
-            (subst (λ (seen : List Seen). Ordered machine seen (named_on (run_setup x) (stage (given es))) (run_setup x).faulty) (all_is es) ordered);
+            (subst (λ (seen : List Seen). Ordered machine seen (named_on (run_setup x) (stage (given es))) (run_setup x).faulty) (whole_is es stands) ordered);
         instances = subst (λ (named : ℕ → ℕ → List ℕ → List Request). EachIsAbstract machine (reverse (run_of proto x es).seen) named (run_setup x).faulty) (named_is es)
-            (subst (λ (seen : List Seen). EachIsAbstract machine seen (named_on (run_setup x) (stage (given es))) (run_setup x).faulty) (all_is es) instances);
+            (subst (λ (seen : List Seen). EachIsAbstract machine seen (named_on (run_setup x) (stage (given es))) (run_setup x).faulty) (whole_is es stands) instances);
       }

@@ -10,6 +10,7 @@ use Rattle.ab_text.specs.declared.line.Premise.TheVariants.{Held}
 use Rattle.ab_svc.specs.Machines.{Machine}
 use Rattle.ab_abs.specs.Ensembles.{Proto}
 use Rattle.ab_abs.specs.Instances.{EachIsAbstract}
+use Rattle.ab_abs.specs.Observations.{seen_whole}
 use Rattle.ab_abs.specs.Order.{Ordered}
 use Rattle.ab_replica.specs.Sites.{Site}
 use Rattle.ab_run.specs.declared.noted.Noted.{Noted}
@@ -25,26 +26,28 @@ use Rattle.ab_world.specs.Worlds.{World, opener, premise_of}
 abbrev pub run_of : {P : Type 0} → Proto P → Setup → List Event → Run P
 run_of proto x es = run (run_setup x) proto (events_in (opener x) (came_to proto x es))
 
--- it was seen in one of the first n events
+-- it was shown in one of the first n events
 abbrev pub up_to : ℕ → Noted → Bool
 up_to n o = nat_le o.event n
 
--- the lines of observations tell what is seen in the run, in its order: with the numbers of the first n events stands what is seen in
--- the run of these
+-- the lines of observations tell what the parties of the run show, in its order: with the numbers of the first n events stands what is
+-- shown in the run of these
 pub record TellsSeen {P : Type 0} (proto : Proto P) (x : Setup) (es : List Event) (lines : List Line) : Type 0 where
   pub noted : List Noted
   pub told : filter is_observed lines ≡ map line_of_noted noted
-  pub all : map (λ o. o.what) noted ≡ reverse (run_of proto x es).seen
-  pub numbered : (n : ℕ) → map (λ o. o.what) (filter (up_to n) noted) ≡ reverse (run_of proto x (take n es)).seen
+  pub all : map (λ o. o.what) noted ≡ reverse (run_of proto x es).shown
+  pub numbered : (n : ℕ) → map (λ o. o.what) (filter (up_to n) noted) ≡ reverse (run_of proto x (take n es)).shown
 
 -- replica r stands where the run leaves it, with the last log that the run keeps of it there
 pub record EndsThere {P : Type 0} (proto : Proto P) (x : Setup) (es : List Event) (r : ℕ) (s : Site P) : Type 0 where
   pub stands : s.rep ≡ (run_of proto x es).reps r
   pub log : (proto.state s.rep.value).log ≡ (run_of proto x es).log s.rep.at r
 
--- the observations of the run are ordered, and each instance keeps what Abstract promises of the service, under the last log of each
--- replica in each instance
+-- what the parties show stands for the observations of the run; these are ordered, and each instance keeps what Abstract promises of the
+-- service, under the last log of each replica in each instance
 pub record KeepsPromises {S P : Type 0} (machine : Machine S) (proto : Proto P) (x : Setup) (es : List Event) : Type 0 where
+  pub shown : let w = run_of proto x es in
+      w.seen ≡ map (seen_whole (named_by (run_setup x) w)) w.shown
   pub ordered : let w = run_of proto x es in
       Ordered machine (reverse w.seen) (named_by (run_setup x) w) (run_setup x).faulty
   pub instances : let w = run_of proto x es in
@@ -62,7 +65,7 @@ pub record IsLogIn {P : Type 0} (proto : Proto P) (x : Setup) (es : List Event) 
   pub was : (h : List Request) → log ≡ Some h → WasIn proto x es i r
   pub is : WasIn proto x es i r → log ≡ Some ((run_of proto x es).log i r)
 
--- what a world tells of the run of the events that led to it: what was seen; the logs of the correct replicas; the premise line, which is
+-- what a world tells of the run of the events that led to it: what is shown; the logs of the correct replicas; the premise line, which is
 -- that of the run, to the letter; and where it says `held` the run keeps what Abstract promises
 pub record IsTold {S P : Type 0} (machine : Machine S) (proto : Proto P) (x : Setup) (es : List Event) (end : World P) : Type 0 where
   pub seen : TellsSeen proto x es end.lines

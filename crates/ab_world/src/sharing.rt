@@ -11,13 +11,28 @@ use std::alloc::Global;
 /// makes some three observations, and each replica two.
 const LOOKED_IN: usize = 64;
 
-/// A copy of the history of an observation, if it has this one.
+/// A copy of the history of an observation, or of the entries that its list has not forgotten, if it has
+/// this one.
 fn copy_from(alloc: Global, what: &Seen, h: &History) -> Option<History>
     ensures { IfSome result (λ copy. copy ≡ h.now) }
 {
     let earlier = match what {
         Seen::Init { i: _, r: _, h } => h,
         Seen::Cert { i: _, p: _, h } => h,
+        Seen::TrimmedInit {
+            i: _,
+            r: _,
+            start: _,
+            digest: _,
+            rest,
+        } => rest,
+        Seen::TrimmedCert {
+            i: _,
+            p: _,
+            start: _,
+            digest: _,
+            rest,
+        } => rest,
         Seen::Invoked { .. } => return None,
         Seen::Committed { .. } => return None,
     };
@@ -57,6 +72,20 @@ pub(crate) fn share_seen(alloc: Global, noted: &[Noted], what: &mut Seen)
     match what {
         Seen::Init { i: _, r: _, h } => share(alloc, noted, h),
         Seen::Cert { i: _, p: _, h } => share(alloc, noted, h),
+        Seen::TrimmedInit {
+            i: _,
+            r: _,
+            start: _,
+            digest: _,
+            rest,
+        } => share(alloc, noted, rest),
+        Seen::TrimmedCert {
+            i: _,
+            p: _,
+            start: _,
+            digest: _,
+            rest,
+        } => share(alloc, noted, rest),
         Seen::Invoked { .. } => {}
         Seen::Committed { .. } => {}
     }
