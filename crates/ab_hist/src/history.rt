@@ -238,6 +238,10 @@ impl History {
         ensures found { IfSome result (λ n. (1 ≤ n) × (slice_get self.now (n - 1) ≡ Some m.now)) }
         ensures none { IfNone result (¬ Contains self.now m.now) }
     {
+        // One of the last chunks knows a client that goes on, so its new requests are not looked for in all the others.
+        if self.is_later(m) {
+            return None;
+        }
         'chunks: for n in (0..self.parts.len()).rev() {
             let part = &self.parts[n];
             if let Some(place) = part.place_of(m) {
