@@ -27,8 +27,9 @@ const SEEDED: &str =
 const OTHERWISE: &str =
     "abstract 4\nf 1\nplan quorum\nclients 1\nservice kv\nlms 5\ncheckpoint 0\nseed 0102030405060708090a0b0c0d0e0f101112131415161718191a1b1c1d1e1f20\nfaulty r3 1\n";
 
-/// One client, and checkpoints.
-const CHECKED: &str = "abstract 3\nf 1\nplan quorum\nclients 1\nservice kv\nlms 5\ncheckpoint 64\n";
+/// One client of a plan that has no checkpoints yet.
+const NOT_BUILT: &str =
+    "abstract 3\nf 1\nplan aliph\nclients 1\nservice kv\nlms 5\ncheckpoint 64\n";
 
 /// Two clients of a chain whose head is faulty and has two cores.
 const TWINS: &str = "abstract 1\nf 1\nplan chain\nclients 2\nservice kv\nlms 5\nfaulty r0 2\n";
@@ -149,7 +150,7 @@ fn other_lines_are_refused(rt: HostRuntime) -> Result<(), Fail> {
             "run\ninvoke c0 put a 1\ninvoke c0 get a\nend\n",
             "line 9: busy\n",
         ),
-        refused_behind(CHECKED, "run\nend\n", "line 7: not built\n"),
+        refused_behind(NOT_BUILT, "run\nend\n", "line 7: not built\n"),
         refused_behind(SEEDED, "run\ndeliver 9\nend\n", "line 11: no packet\n"),
     ];
     Ok(expect_each(&rt, rt.alloc(), &cases)?)

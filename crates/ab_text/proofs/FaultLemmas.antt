@@ -1,6 +1,6 @@
 -- A fault stays whatever comes after its line, so no schedule begins with the lines up to it.
-use Rattle.std.proofs.Common.{◌≡◌, ℕ, suc, ◌+◌, ◌≤◌, List, [], ◌∷◌, ◌++◌, Bool, true, false, Option, Some, None, Result, Ok, Err, length, take, codes, refl, sym, ap, ◌∙◌, subst, append_assoc, arith, inl, inr, ◌⊎◌, if◌then◌else◌, nat_le, ◌&&◌, zero}
-use Rattle.std.specs.Prelude.{nat_eq}
+use Rattle.std.proofs.Common.{◌≡◌, ℕ, suc, ◌+◌, ◌<◌, ◌≤◌, List, [], ◌∷◌, ◌++◌, Bool, true, false, Option, Some, None, Result, Ok, Err, length, take, codes, refl, sym, ap, ◌∙◌, subst, append_assoc, arith, inl, inr, ◌⊎◌, if◌then◌else◌, nat_le, ◌&&◌}
+use Rattle.std.proofs.lemmas.Bool.{cases_Bool, leb-false, leb-true}
 use Rattle.ab_num.specs.Bounds.{IsInBounds}
 use Rattle.ab_num.specs.declared.plan.Plan.{Plan}
 use Rattle.ab_num.specs.declared.plan.ServiceName.{ServiceName}
@@ -10,9 +10,9 @@ use Rattle.ab_text.specs.declared.fault.TextFault.TheVariants.{BadLine, NoEnd, N
 use Rattle.ab_text.specs.declared.version.Version.{Version}
 use Rattle.ab_text.specs.declared.version.Version.TheVariants.{One, Two, Three, Four}
 use Rattle.ab_text.specs.Lines.{lines_of}
-use Rattle.ab_text.specs.Heads.{◌>>=◌, Front, Script, number_at, number_after, within, spelled_in, taken, name_at, abstract_line, versions, plan_line, plans, service_line, services, lms_line, schemes_of, no_seed, seed_line, built, most_every, checkpoint_line, checkpoint_at, seed_in, seed_at, head_count, head_at}
+use Rattle.ab_text.specs.Heads.{◌>>=◌, Front, Script, number_at, number_after, within, spelled_in, taken, name_at, abstract_line, versions, plan_line, plans, service_line, services, lms_line, schemes_of, no_seed, seed_line, built, most_built, most_every, checkpoint_line, checkpoint_at, seed_in, seed_at, head_count, head_at}
 use Rattle.ab_text.specs.Schedules.{ReadsEvents, ReadsFaulty, ReadsText, Continues, Ends, with_event, with_faulty}
-use Rattle.ab_text.specs.Spelling.{Allows, IsSpelled, Spell}
+use Rattle.ab_text.specs.Spelling.{Allows, IsBuilt, IsSpelled, Spell}
 use Rattle.ab_text.specs.Faults.{BeginsNone, BeginsUnbuilt}
 use Rattle.ab_text.proofs.HeadLemmas.{IsSeed-none, first_lines, front, script, from2, from3, from4, from5, from6, from7, from8, unbuilt_head}
 use Rattle.ab_text.proofs.SpellingLemmas.{lines_read, lines_refused}
@@ -121,20 +121,20 @@ taken_decided n (Some a) = inl (a, λ ls. refl)
 pub name_step : {A : Type 0} (spell : A → List ℕ) (all : List A) (n : ℕ) → IsStep n (name_at spell all n)
 name_step spell all n = record { none = refl; each = λ l. taken_decided n (spelled_in spell all l) }
 
-built_decided : (most : ℕ) (o : Option ℕ) → Decided 7 (λ ls. within 0 most 7 ls o >>= built 7)
-built_decided most None = inr (BadLine 7, refl, λ ls. refl)
-built_decided most (Some k) = by (nat_le 0 k && nat_le k most)
+built_decided : (p : Plan) (o : Option ℕ) → Decided 7 (λ ls. within 0 (most_every p) 7 ls o >>= built p 7)
+built_decided p None = inr (BadLine 7, refl, λ ls. refl)
+built_decided p (Some k) = by (nat_le 0 k && nat_le k (most_every p))
   where
     asked : (b : Bool) → Decided 7 (λ ls. if b then Ok (k, ls) else Err (NotBuilt 7))
     asked true = inl (k, λ ls. refl)
     asked false = inr (NotBuilt 7, refl, λ ls. refl)
 
-    by : (b : Bool) → Decided 7 (λ ls. (if b then Ok (k, ls) else Err (BadLine 7)) >>= built 7)
-    by true = asked (nat_eq k 0)
+    by : (b : Bool) → Decided 7 (λ ls. (if b then Ok (k, ls) else Err (BadLine 7)) >>= built p 7)
+    by true = asked (nat_le k (most_built p))
     by false = inr (BadLine 7, refl, λ ls. refl)
 
 pub checkpoint_step : (p : Plan) → IsStep 7 (checkpoint_at p)
-checkpoint_step p = record { none = refl; each = λ l. built_decided (most_every p) (number_after (codes "checkpoint ") l) }
+checkpoint_step p = record { none = refl; each = λ l. built_decided p (number_after (codes "checkpoint ") l) }
 
 pub seed_step : IsStep 8 seed_at
 seed_step = record { none = refl; each = λ l. taken_decided 8 (seed_in l) }
@@ -273,15 +273,17 @@ bad_at ls e n at h =
       stays = λ more. subst (λ x. Continues (head_at x) (Err e)) (sym (ap (λ x. x ++ more) front ∙ append_assoc stuck.front (stuck.line ∷ []) more)) (stuck.stays more);
     }
 
-none_or_some : (n : ℕ) → (n ≡ 0) ⊎ (1 ≤ n)
-none_or_some zero = inl refl
-none_or_some (suc n) = inr (omega arith)
+built_or_more : (s : Script) → IsBuilt s ⊎ (most_built s.plan < s.every)
+built_or_more s = elim (cases_Bool (nat_le s.every (most_built s.plan))) [
+  | inl few ↦ inl (leb-true s.every (most_built s.plan) few)
+  | inr more ↦ inr (leb-false s.every (most_built s.plan) more)
+]
 
 -- another fault than that of checkpoints: the lines are no schedule's
 spell_none : (ls : Rest) (e : TextFault) (s : Script) → (failed e ≡ failed (NotBuilt 7) → ⊥) → Continues (head_at ls) (Err e) → Spell ls s → ⊥
-spell_none ls e s other h spell = elim (none_or_some s.every) [
+spell_none ls e s other h spell = elim (built_or_more s) [
   | inl built ↦ not_ok e s (lines_once ls (Err e) (Ok s) h (lines_read ls s spell built))
-  | inr some ↦ other (lines_once ls (Err e) (Err (NotBuilt 7)) h (lines_refused ls s spell some))
+  | inr more ↦ other (lines_once ls (Err e) (Err (NotBuilt 7)) h (lines_refused ls s spell more))
 ]
 
 bad_differs : (m n : ℕ) → failed (BadLine m) ≡ failed (NotBuilt n) → ⊥
@@ -370,9 +372,9 @@ unbuilt_line text n h =
         schedule = script six.f six.plan six.clients six.service six.lms asks.every no_seed;
         more = all.0;
         spell = subst (λ t. Spell (t ++ all.0) (script six.f six.plan six.clients six.service six.lms asks.every no_seed)) (sym front) all.1;
-        each = λ s more spell. elim (none_or_some s.every) [
+        each = λ s more spell. elim (built_or_more s) [
           | inl built ↦ absurd (not_ok (NotBuilt n) s (lines_once (take n ls ++ more) (Err (NotBuilt n)) (Ok s) (bad.stays more) (lines_read (take n ls ++ more) s spell built)))
-          | inr some ↦ some
+          | inr much ↦ much
         ];
       },
     )

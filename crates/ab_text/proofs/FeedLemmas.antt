@@ -14,7 +14,6 @@ use Rattle.ab_num.specs.declared.plan.ServiceName.TheVariants.{Echo, Kv}
 use Rattle.ab_num.specs.declared.plan.Height.TheVariants.{Five, Ten}
 use Rattle.ab_num.specs.declared.plan.Scheme.{Scheme}
 use Rattle.ab_num.specs.declared.plan.Scheme.TheVariants.{Lms, Hss}
-use Rattle.ab_num.specs.Bounds.{IsInBounds}
 use Rattle.ab_text.specs.declared.event.Core.{Core}
 use Rattle.ab_text.specs.declared.event.Event.{Event}
 use Rattle.ab_text.specs.declared.event.Event.TheVariants.{Invoke, Deliver, Timeout, Inject}

@@ -18,11 +18,11 @@ use Rattle.ab_text.specs.declared.version.Version.{Version}
 use Rattle.ab_text.specs.declared.version.Version.TheVariants.{One, Two, Three, Four}
 use Rattle.ab_text.specs.Lines.{lines_of}
 use Rattle.ab_text.specs.EventLines.{event_line, IsEvent}
-use Rattle.ab_text.specs.Heads.{◌>>=◌, Front, Script, number_at, name_at, abstract_line, versions, plan_line, plans, service_line, services, lms_line, schemes_of, no_seed, seed_line, checkpoint_line, checkpoint_at, seed_at, head_count, head_at}
+use Rattle.ab_text.specs.Heads.{◌>>=◌, Front, Script, number_at, name_at, abstract_line, versions, plan_line, plans, service_line, services, lms_line, schemes_of, no_seed, seed_line, checkpoint_line, most_built, checkpoint_at, seed_at, head_count, head_at}
 use Rattle.ab_text.specs.Schedules.{ReadsEvents, ReadsFaulty, ReadsText, Continues, with_event, with_faulty}
 use Rattle.ab_text.specs.Spelling.{Allows, IsBuilt, IsSeed, Omits, head_lines, later_lines, event_lines, faulty_lines, AreFaulty, Spell}
 use Rattle.ab_text.specs.Faults.{BeginsSome}
-use Rattle.ab_text.proofs.HeadLemmas.{Rest, IsSeed-none, allows_one, checkpoint_is, from2, from3, from4, from5, from6, from7, from8, front, name_is, number_is, omits_none, scheme_allowed, script, seed_is}
+use Rattle.ab_text.proofs.HeadLemmas.{Rest, IsSeed-none, allows_one, built_dense, checkpoint_is, from2, from3, from4, from5, from6, from7, from8, front, name_is, number_is, omits_none, scheme_allowed, script, seed_is}
 use Rattle.ab_text.proofs.FaultLemmas.{failed, not_ok, err_is, IsWrong, IsStep, checkpoint_step, number_step, name_step, seed_step}
 
 -- the fault is that of line n, which is there or missing
@@ -121,7 +121,7 @@ body_front (l ∷ ls) n s e m at (inr (inr (bad, h))) = at_once n m (l ∷ ls) l
 
 -- ---- the head
 
--- these lines and then the rest are those of a schedule without checkpoints
+-- these lines and then the rest are those of a schedule that is built
 abbrev Completes : Rest → Rest → Type 0
 Completes before rest = (s : Script) × IsBuilt s × Spell (before ++ rest) s
 
@@ -136,7 +136,7 @@ bare f p c v h = script f p c v h 0 no_seed
 bare_schedule : (w : Version) (f : ℕ) (p : Plan) (c : ℕ) (v : ServiceName) (h : Scheme) (ls : Rest) → IsInBounds f c → Allows w h → ls ≡ head_lines w (bare f p c v h) ++ last → Completes [] ls
 bare_schedule w f p c v h ls bounds allows is = (
   bare f p c v h,
-  refl,
+  omega arith,
   record {
     schedule = record { bounds = bounds; dense = omega arith; seed = IsSeed-none; faulty = tt; events = tt };
     version = w;
@@ -199,6 +199,20 @@ before7 w f p c v h = abstract_line w ∷ f_line f ∷ plan_line p ∷ clients_l
 abbrev before8 : Version → ℕ → Plan → ℕ → ServiceName → Scheme → ℕ → Rest
 before8 w f p c v h k = abstract_line w ∷ f_line f ∷ plan_line p ∷ clients_line c ∷ service_line v ∷ lms_line h ∷ checkpoint_line k ∷ []
 
+-- a head of version 4 with checkpoints and without a seed, and the last lines
+with_checkpoints : (f : ℕ) (p : Plan) (c : ℕ) (v : ServiceName) (h : Scheme) (k : ℕ) → IsInBounds f c → Allows Four h → k ≤ most_built p → Completes (before8 Four f p c v h k) (seed_line no_seed ∷ last)
+with_checkpoints f p c v h k bounds allows built = (
+  script f p c v h k no_seed,
+  built,
+  record {
+    schedule = record { bounds = bounds; dense = built_dense p k built; seed = IsSeed-none; faulty = tt; events = tt };
+    version = Four;
+    allows = allows;
+    omits = tt;
+    lines = refl;
+  },
+)
+
 omits_so : (w : Version) (s : Script) (faulty : List (Party × ℕ)) (events : List Event) → Omits w s → Omits w (record s { faulty = faulty; events = events })
 omits_so One s faulty events omits = omits
 omits_so Two s faulty events omits = omits
@@ -206,7 +220,7 @@ omits_so Three s faulty events omits = omits
 omits_so Four s faulty events omits = omits
 
 -- behind the head
-body_fronts : (w : Version) (f : ℕ) (p : Plan) (c : ℕ) (v : ServiceName) (h : Scheme) (k : ℕ) (x : List ℕ) → IsInBounds f c → Allows w h → Omits w (script f p c v h k x) → k ≡ 0 → IsSeed x
+body_fronts : (w : Version) (f : ℕ) (p : Plan) (c : ℕ) (v : ServiceName) (h : Scheme) (k : ℕ) (x : List ℕ) → IsInBounds f c → Allows w h → Omits w (script f p c v h k x) → k ≤ most_built p → IsSeed x
     → Fronts (head_count w + 1) (λ ls. Ok (front w (script f p c v h k x) ls)) (head_lines w (script f p c v h k x))
 body_fronts w f p c v h k x bounds allows omits built good ls e m at r =
     let s = script f p c v h k x in
@@ -222,7 +236,7 @@ body_fronts w f p c v h k x bounds allows omits built good ls e m at r =
         record s { faulty = whole.faulty; events = whole.events },
         built,
         record {
-          schedule = record { bounds = bounds; dense = omega (arith, built); seed = good; faulty = whole.next; events = whole.good };
+          schedule = record { bounds = bounds; dense = built_dense p k built; seed = good; faulty = whole.next; events = whole.good };
           version = w;
           allows = allows;
           omits = omits_so w s whole.faulty whole.events omits;
@@ -231,14 +245,14 @@ body_fronts w f p c v h k x bounds allows omits built good ls e m at r =
       );
     }
 
-fronts8 : (f : ℕ) (p : Plan) (c : ℕ) (v : ServiceName) (h : Scheme) (k : ℕ) → IsInBounds f c → Allows Four h → k ≡ 0 → Fronts 8 (from8 Four f p c v h k) (before8 Four f p c v h k)
+fronts8 : (f : ℕ) (p : Plan) (c : ℕ) (v : ServiceName) (h : Scheme) (k : ℕ) → IsInBounds f c → Allows Four h → k ≤ most_built p → Fronts 8 (from8 Four f p c v h k) (before8 Four f p c v h k)
 fronts8 f p c v h k bounds allows built = step_front seed_line 8 seed_at (λ x ls. Ok (front Four (script f p c v h k x) ls)) (before8 Four f p c v h k) (seed_line no_seed ∷ last) seed_step
-    (subst (λ n. Completes (before8 Four f p c v h n) (seed_line no_seed ∷ last)) (sym built) (bare_schedule Four f p c v h _ bounds allows refl))
+    (with_checkpoints f p c v h k bounds allows built)
     (λ ls rest x is. let said = seed_is ls rest x is in (said.0, body_fronts Four f p c v h k x bounds allows tt built said.1))
 
 fronts7 : (w : Version) (f : ℕ) (p : Plan) (c : ℕ) (v : ServiceName) (h : Scheme) → IsInBounds f c → Allows w h → Fronts 7 (from7 w f p c v h) (before7 w f p c v h)
-fronts7 One f p c v h bounds allows = body_fronts One f p c v h 0 no_seed bounds allows (refl, refl) refl IsSeed-none
-fronts7 Two f p c v h bounds allows = body_fronts Two f p c v h 0 no_seed bounds allows (refl, refl) refl IsSeed-none
+fronts7 One f p c v h bounds allows = body_fronts One f p c v h 0 no_seed bounds allows (refl, refl) (omega arith) IsSeed-none
+fronts7 Two f p c v h bounds allows = body_fronts Two f p c v h 0 no_seed bounds allows (refl, refl) (omega arith) IsSeed-none
 fronts7 Three f p c v h bounds allows = step_front checkpoint_line 7 (checkpoint_at p) (from8 Three f p c v h) (before7 Three f p c v h) (checkpoint_line 0 ∷ last) (checkpoint_step p)
     (bare_schedule Three f p c v h _ bounds allows refl)
     (λ ls rest k is. let said = checkpoint_is p ls rest k is in (said.0, body_fronts Three f p c v h k no_seed bounds allows refl said.1 IsSeed-none))

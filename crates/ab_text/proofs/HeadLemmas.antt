@@ -1,11 +1,11 @@
 -- The head of a schedule, read and spelled.
-use Rattle.std.proofs.Common.{◌≡◌, ℕ, ◌+◌, ◌<◌, ◌≤◌, ◌^◌, List, [], ◌∷◌, ◌++◌, Bool, true, false, Option, Some, None, Result, Ok, Err, find, codes, decimal, refl, sym, ap, ◌∙◌, inl, inr, nat_le, ◌&&◌, if◌then◌else◌, eqb, arith, subst, ◌⊎◌, zero, suc, length, All, replicate, get_or}
+use Rattle.std.proofs.Common.{◌≡◌, ℕ, ◌+◌, ◌<◌, ◌≤◌, ◌^◌, List, [], ◌∷◌, ◌++◌, Bool, true, false, Option, Some, None, Result, Ok, Err, find, codes, decimal, refl, sym, ap, ◌∙◌, inl, inr, nat_le, ◌&&◌, if◌then◌else◌, eqb, arith, subst, ◌⊎◌, zero, suc, All, replicate}
 use Rattle.std.specs.List.{AllByRecursion}
 use Rattle.std.specs.Option.{option_and_then}
 use Rattle.std.specs.Prelude.{nat_eq}
 use Rattle.std.specs.Str.{bytes_eq}
 use Rattle.std.specs.Str.Parse.{digits_value}
-use Rattle.std.proofs.lemmas.Bool.{cases_Bool, and_parts, false_from_ne_true, leb-true, le-leb}
+use Rattle.std.proofs.lemmas.Bool.{cases_Bool, and_parts, leb-false, leb-true, le-leb, lt-leb}
 use Rattle.std.proofs.lemmas.Bool.Decides.{Decides-eqb}
 use Rattle.std.proofs.lemmas.List.Elements.{All-cons}
 use Rattle.std.proofs.lemmas.Slice.Eq.{bytes_eq-Decides}
@@ -26,7 +26,7 @@ use Rattle.ab_text.specs.declared.version.Version.{Version}
 use Rattle.ab_text.specs.declared.version.Version.TheVariants.{One, Two, Three, Four}
 use Rattle.ab_text.specs.HexBytes.{bytes_in}
 use Rattle.ab_text.specs.Numbers.{number_of, is_number}
-use Rattle.ab_text.specs.Heads.{◌>>=◌, Front, Script, number_at, number_after, number_in, stripped, within, spelled_in, taken, name_at, abstract_line, versions, plan_line, plans, service_line, services, lms_line, schemes_of, checkpoint_line, seed_line, no_seed, version_with, version_of, head_count, built, most_every, checkpoint_at, seed_in, seed_at, every_at, seed_with, head_at}
+use Rattle.ab_text.specs.Heads.{◌>>=◌, Front, Script, number_at, number_after, number_in, stripped, within, spelled_in, taken, name_at, abstract_line, versions, plan_line, plans, service_line, services, lms_line, schemes_of, checkpoint_line, seed_line, no_seed, version_with, version_of, head_count, built, most_built, most_every, checkpoint_at, seed_in, seed_at, every_at, seed_with, head_at}
 use Rattle.ab_text.specs.Spelling.{Allows, IsBuilt, IsSeed, Omits, head_lines, later_lines}
 use Rattle.ab_text.proofs.HexLemmas.{bytes_were, read_bytes}
 use Rattle.ab_text.proofs.WordLemmas.{stripped-is}
@@ -268,46 +268,44 @@ has_six o ls passes e =
 
 -- ---- the later lines
 
-built_says : (n : ℕ) (p q : ℕ × Rest) → built n p ≡ Ok q → (p ≡ q) × (q.0 ≡ 0)
-built_says n p q h =
-    let both = chosen (nat_eq p.0 0) p q (NotBuilt n) h in
-    let none : p.0 ≡ 0 = (Decides-eqb p.0 0).0 both.0 in
-    (both.1, ap (λ (x : ℕ × Rest). x.0) (sym both.1) ∙ none)
+built_says : (plan : Plan) (n : ℕ) (p q : ℕ × Rest) → built plan n p ≡ Ok q → (p ≡ q) × (q.0 ≤ most_built plan)
+built_says plan n p q h =
+    let both = chosen (nat_le p.0 (most_built plan)) p q (NotBuilt n) h in
+    (both.1, subst (λ (x : ℕ × Rest). x.0 ≤ most_built plan) both.1 (leb-true p.0 (most_built plan) both.0))
 
-unbuilt_says : (n m : ℕ) (p : ℕ × Rest) → built n p ≡ Err (NotBuilt m) → (p.0 ≡ 0 → ⊥) × (m ≡ n)
-unbuilt_says n m p h = elim (cases_Bool (nat_eq p.0 0)) [
-  | inl none ↦ absurd (let e : ◌≡◌ {A = Result (ℕ × Rest) TextFault} (Ok p) (Err (NotBuilt m)) = sym (ap (λ b. if b then Ok p else Err (NotBuilt n)) none) ∙ h in cc)
+unbuilt_says : (plan : Plan) (n m : ℕ) (p : ℕ × Rest) → built plan n p ≡ Err (NotBuilt m) → (most_built plan < p.0) × (m ≡ n)
+unbuilt_says plan n m p h = elim (cases_Bool (nat_le p.0 (most_built plan))) [
+  | inl few ↦ absurd (let e : ◌≡◌ {A = Result (ℕ × Rest) TextFault} (Ok p) (Err (NotBuilt m)) = sym (ap (λ b. if b then Ok p else Err (NotBuilt n)) few) ∙ h in cc)
   | inr some ↦ (
-    λ z. let e : true ≡ false = sym ((Decides-eqb p.0 0).1 z) ∙ some in cc,
+    leb-false p.0 (most_built plan) some,
     let e : ◌≡◌ {A = Result (ℕ × Rest) TextFault} (Err (NotBuilt n)) (Err (NotBuilt m)) = sym (ap (λ b. if b then Ok p else Err (NotBuilt n)) some) ∙ h in (let k : m ≡ n = cc in k),
   )
 ]
 
--- the line of checkpoints, which says that none is due
-pub checkpoint_is : (p : Plan) (ls rest : Rest) (e : ℕ) → checkpoint_at p ls ≡ Ok (e, rest) → (ls ≡ checkpoint_line e ∷ rest) × (e ≡ 0)
+-- the line of checkpoints, which asks for what is built
+pub checkpoint_is : (p : Plan) (ls rest : Rest) (e : ℕ) → checkpoint_at p ls ≡ Ok (e, rest) → (ls ≡ checkpoint_line e ∷ rest) × (e ≤ most_built p)
 checkpoint_is p ls rest e h =
-    let b = bind_ok (number_at (codes "checkpoint ") 0 (most_every p) 7 ls) (built 7) (e, rest) h in
-    let said = built_says 7 b.0 (e, rest) b.2 in
+    let b = bind_ok (number_at (codes "checkpoint ") 0 (most_every p) 7 ls) (built p 7) (e, rest) h in
+    let said = built_says p 7 b.0 (e, rest) b.2 in
     ((number_is (codes "checkpoint ") 0 (most_every p) 7 ls rest e (b.1 ∙ ap (λ (x : ℕ × Rest). let r : Result (ℕ × Rest) TextFault = Ok x in r) said.0)).0, said.1)
 
--- the line of checkpoints, which says that some are due
+-- the line of checkpoints, which asks for more than what is built
 pub record AsksCheckpoints (p : Plan) (n : ℕ) (ls : Rest) : Type 0 where
   pub every : ℕ
   pub rest : Rest
   pub lines : ls ≡ checkpoint_line every ∷ rest
-  pub some : 1 ≤ every
+  pub more : most_built p < every
   pub few : every ≤ most_every p
   pub seventh : n ≡ 7
 
 checkpoints_asked : (p : Plan) (ls : Rest) (n : ℕ) → checkpoint_at p ls ≡ Err (NotBuilt n) → AsksCheckpoints p n ls
 checkpoints_asked p ls n h = by (number_at (codes "checkpoint ") 0 (most_every p) 7 ls) refl (plain_number (codes "checkpoint ") 0 (most_every p) 7 ls) h
   where
-    by : (r : Result (ℕ × Rest) TextFault) → number_at (codes "checkpoint ") 0 (most_every p) 7 ls ≡ r → IsPlain r → (r >>= built 7) ≡ Err (NotBuilt n) → AsksCheckpoints p n ls
+    by : (r : Result (ℕ × Rest) TextFault) → number_at (codes "checkpoint ") 0 (most_every p) 7 ls ≡ r → IsPlain r → (r >>= built p 7) ≡ Err (NotBuilt n) → AsksCheckpoints p n ls
     by (Ok (e, rest)) is plain k =
-        let said = unbuilt_says 7 n (e, rest) k in
+        let said = unbuilt_says p 7 n (e, rest) k in
         let asks = number_is (codes "checkpoint ") 0 (most_every p) 7 ls rest e is in
-        let some = said.0 in
-        record { every = e; rest = rest; lines = asks.0; some = omega (arith, some); few = asks.2; seventh = said.1 }
+        record { every = e; rest = rest; lines = asks.0; more = said.0; few = asks.2; seventh = said.1 }
     by (Err (NotBuilt m)) is plain k = absurd plain
     by (Err (BadLine m)) is plain k = absurd (cc)
     by (Err (NoEnd m)) is plain k = absurd (cc)
@@ -379,7 +377,7 @@ whole_head x ls six = by six.version six.allows six.lines six.gives
       omits = omits;
       lines = lines ∙ ap (λ t. first_lines w f p c v h (t ++ rest)) (sym none);
       bounds = six.bounds;
-      built = refl;
+      built = omega arith;
       seed = IsSeed-none;
       faulty = refl;
       events = refl;
@@ -571,16 +569,24 @@ pub most_few : (p : Plan) → most_every p ≤ 128
 most_few ZCert = omega arith
 most_few p = omega arith
 
-checkpoint_read : (p : Plan) (e : ℕ) (ls : Rest) → e ≤ most_every p → checkpoint_at p (checkpoint_line e ∷ ls) ≡ built 7 (e, ls)
+-- what is built is among what may be asked for
+pub built_dense : (p : Plan) (e : ℕ) → e ≤ most_built p → e ≤ most_every p
+built_dense ZCert e few = few
+built_dense Quorum e few = few
+built_dense ZLight e few = few
+built_dense Chain e few = few
+built_dense p e few = omega (arith, few)
+
+checkpoint_read : (p : Plan) (e : ℕ) (ls : Rest) → e ≤ most_every p → checkpoint_at p (checkpoint_line e ∷ ls) ≡ built p 7 (e, ls)
 checkpoint_read p e ls few =
     let most = most_few p in
-    ap (λ (r : Result (ℕ × Rest) TextFault). r >>= built 7) (number_reads (codes "checkpoint ") 0 (most_every p) 7 ls e (omega arith) few (omega (arith, few, most)))
+    ap (λ (r : Result (ℕ × Rest) TextFault). r >>= built p 7) (number_reads (codes "checkpoint ") 0 (most_every p) 7 ls e (omega arith) few (omega (arith, few, most)))
 
-none_read : (p : Plan) (e : ℕ) (ls : Rest) → e ≡ 0 → checkpoint_at p (checkpoint_line e ∷ ls) ≡ Ok (e, ls)
-none_read p e ls none = checkpoint_read p e ls (omega (arith, none)) ∙ ap (λ b. if b then Ok (e, ls) else Err (NotBuilt 7)) ((Decides-eqb e 0).1 none)
+built_read : (p : Plan) (e : ℕ) (ls : Rest) → e ≤ most_built p → checkpoint_at p (checkpoint_line e ∷ ls) ≡ Ok (e, ls)
+built_read p e ls few = checkpoint_read p e ls (built_dense p e few) ∙ ap (λ b. if b then Ok (e, ls) else Err (NotBuilt 7)) (le-leb e (most_built p) few)
 
-some_refused : (p : Plan) (e : ℕ) (ls : Rest) → 1 ≤ e → e ≤ most_every p → checkpoint_at p (checkpoint_line e ∷ ls) ≡ Err (NotBuilt 7)
-some_refused p e ls some few = checkpoint_read p e ls few ∙ ap (λ b. if b then Ok (e, ls) else Err (NotBuilt 7)) (false_from_ne_true (nat_eq e 0) (λ t. let none = (Decides-eqb e 0).0 t in omega (arith, none, some)))
+unbuilt_refused : (p : Plan) (e : ℕ) (ls : Rest) → most_built p < e → e ≤ most_every p → checkpoint_at p (checkpoint_line e ∷ ls) ≡ Err (NotBuilt 7)
+unbuilt_refused p e ls more few = checkpoint_read p e ls few ∙ ap (λ b. if b then Ok (e, ls) else Err (NotBuilt 7)) (lt-leb e (most_built p) more)
 
 seed_read : (x : List ℕ) (ls : Rest) → IsSeed x → seed_at (seed_line x ∷ ls) ≡ Ok (x, ls)
 seed_read x ls good = ap (λ o. taken 8 ls (option_and_then (bytes_in 32) o)) (stripped-is (codes "seed ") (seed_line x) (encode_lower x) refl) ∙ ap (taken 8 ls) (read_bytes 32 x good.long good.small)
@@ -598,10 +604,10 @@ later_read Two s rest omits built good =
     let zeros = omits.1 in
     λ j. Ok (front Two (script s.f s.plan s.clients s.service s.lms (sym none j) (sym zeros j)) rest)
 later_read Three s rest omits built good =
-    ap (λ (r : Result (ℕ × Rest) TextFault). r >>= λ (x : ℕ × Rest). from8 Three s.f s.plan s.clients s.service s.lms x.0 x.1) (none_read s.plan s.every rest built)
+    ap (λ (r : Result (ℕ × Rest) TextFault). r >>= λ (x : ℕ × Rest). from8 Three s.f s.plan s.clients s.service s.lms x.0 x.1) (built_read s.plan s.every rest built)
     ∙ ap (λ x. let r : Read = Ok (front Three (script s.f s.plan s.clients s.service s.lms s.every x) rest) in r) (sym omits)
 later_read Four s rest omits built good =
-    ap (λ (r : Result (ℕ × Rest) TextFault). r >>= λ (x : ℕ × Rest). from8 Four s.f s.plan s.clients s.service s.lms x.0 x.1) (none_read s.plan s.every (seed_line s.seed ∷ rest) built)
+    ap (λ (r : Result (ℕ × Rest) TextFault). r >>= λ (x : ℕ × Rest). from8 Four s.f s.plan s.clients s.service s.lms x.0 x.1) (built_read s.plan s.every (seed_line s.seed ∷ rest) built)
     ∙ ap (λ (r : Result (List ℕ × Rest) TextFault). r >>= λ (x : List ℕ × Rest). Ok (front Four (script s.f s.plan s.clients s.service s.lms s.every x.0) x.1)) (seed_read s.seed rest good)
 
 pub head_reads : (w : Version) (s : Script) (rest : Rest) → IsInBounds s.f s.clients → Allows w s.lms → Omits w s → IsBuilt s → IsSeed s.seed
@@ -609,15 +615,15 @@ pub head_reads : (w : Version) (s : Script) (rest : Rest) → IsInBounds s.f s.c
 head_reads w s rest bounds allows omits built good =
     six_read w s.f s.plan s.clients s.service s.lms (later_lines w s.every s.seed ++ rest) bounds allows ∙ later_read w s rest omits built good
 
-later_asks : (w : Version) (s : Script) (rest : Rest) → Omits w s → 1 ≤ s.every → s.every ≤ most_every s.plan → from7 w s.f s.plan s.clients s.service s.lms (later_lines w s.every s.seed ++ rest) ≡ Err (NotBuilt 7)
-later_asks One s rest omits some few = (let none = omits.0 in absurd (omega (arith, none, some)))
-later_asks Two s rest omits some few = (let none = omits.0 in absurd (omega (arith, none, some)))
-later_asks Three s rest omits some few =
-    ap (λ (r : Result (ℕ × Rest) TextFault). r >>= λ (x : ℕ × Rest). from8 Three s.f s.plan s.clients s.service s.lms x.0 x.1) (some_refused s.plan s.every rest some few)
-later_asks Four s rest omits some few =
-    ap (λ (r : Result (ℕ × Rest) TextFault). r >>= λ (x : ℕ × Rest). from8 Four s.f s.plan s.clients s.service s.lms x.0 x.1) (some_refused s.plan s.every (seed_line s.seed ∷ rest) some few)
+later_asks : (w : Version) (s : Script) (rest : Rest) → Omits w s → most_built s.plan < s.every → s.every ≤ most_every s.plan → from7 w s.f s.plan s.clients s.service s.lms (later_lines w s.every s.seed ++ rest) ≡ Err (NotBuilt 7)
+later_asks One s rest omits more few = (let none = omits.0 in absurd (omega (arith, none, more)))
+later_asks Two s rest omits more few = (let none = omits.0 in absurd (omega (arith, none, more)))
+later_asks Three s rest omits more few =
+    ap (λ (r : Result (ℕ × Rest) TextFault). r >>= λ (x : ℕ × Rest). from8 Three s.f s.plan s.clients s.service s.lms x.0 x.1) (unbuilt_refused s.plan s.every rest more few)
+later_asks Four s rest omits more few =
+    ap (λ (r : Result (ℕ × Rest) TextFault). r >>= λ (x : ℕ × Rest). from8 Four s.f s.plan s.clients s.service s.lms x.0 x.1) (unbuilt_refused s.plan s.every (seed_line s.seed ∷ rest) more few)
 
--- with checkpoints that is what is wrong
-pub head_asks : (w : Version) (s : Script) (rest : Rest) → IsInBounds s.f s.clients → Allows w s.lms → Omits w s → 1 ≤ s.every → s.every ≤ most_every s.plan → head_at (head_lines w s ++ rest) ≡ Err (NotBuilt 7)
-head_asks w s rest bounds allows omits some few =
-    six_read w s.f s.plan s.clients s.service s.lms (later_lines w s.every s.seed ++ rest) bounds allows ∙ later_asks w s rest omits some few
+-- with checkpoints that aren't built that is what is wrong
+pub head_asks : (w : Version) (s : Script) (rest : Rest) → IsInBounds s.f s.clients → Allows w s.lms → Omits w s → most_built s.plan < s.every → s.every ≤ most_every s.plan → head_at (head_lines w s ++ rest) ≡ Err (NotBuilt 7)
+head_asks w s rest bounds allows omits more few =
+    six_read w s.f s.plan s.clients s.service s.lms (later_lines w s.every s.seed ++ rest) bounds allows ∙ later_asks w s rest omits more few

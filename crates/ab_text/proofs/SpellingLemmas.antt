@@ -1,5 +1,5 @@
 -- What is read is spelled so, and what is spelled so is read.
-use Rattle.std.proofs.Common.{◌≡◌, ℕ, ◌+◌, ◌≤◌, List, [], ◌∷◌, ◌++◌, Result, Ok, Err, refl, sym, ap, ◌∙◌, subst, append_assoc, append-nil, arith, inl, inr}
+use Rattle.std.proofs.Common.{◌≡◌, ℕ, ◌+◌, ◌<◌, List, [], ◌∷◌, ◌++◌, Result, Ok, Err, refl, sym, ap, ◌∙◌, subst, append_assoc, append-nil, inl, inr}
 use Rattle.std.specs.List.{AllByRecursion}
 use Rattle.ab_num.specs.declared.party.Party.{Party}
 use Rattle.ab_text.specs.declared.event.Event.{Event}
@@ -9,10 +9,10 @@ use Rattle.ab_text.specs.declared.version.Version.{Version}
 use Rattle.ab_text.specs.declared.version.Version.TheVariants.{One, Two, Three, Four}
 use Rattle.ab_text.specs.Lines.{lines_of}
 use Rattle.ab_text.specs.EventLines.{IsEvent}
-use Rattle.ab_text.specs.Heads.{Front, Script, head_at, head_count}
+use Rattle.ab_text.specs.Heads.{Front, Script, head_at, head_count, most_built}
 use Rattle.ab_text.specs.Schedules.{ReadsEvents, ReadsFaulty, ReadsText, Continues, with_event, with_faulty}
-use Rattle.ab_text.specs.Spelling.{head_lines, event_lines, faulty_lines, schedule_lines, AreFaulty, IsBuilt, IsSchedule, IsSpelled, Omits, Spell}
-use Rattle.ab_text.proofs.HeadLemmas.{front, head_asks, head_is, head_reads, script}
+use Rattle.ab_text.specs.Spelling.{head_lines, event_lines, faulty_lines, AreFaulty, IsBuilt, IsSpelled, Omits, Spell}
+use Rattle.ab_text.proofs.HeadLemmas.{built_dense, front, head_asks, head_is, head_reads, script}
 
 abbrev Rest : Type 0
 Rest = List (List ℕ)
@@ -137,7 +137,7 @@ text_spelled text s (Ok x) is h =
     let built = head.built in
     subst (λ t. IsSpelled text t × IsBuilt t) (sym whole) (
       record {
-        schedule = record { bounds = head.bounds; dense = omega (arith, built); seed = head.seed; faulty = next; events = body.events_have_lines };
+        schedule = record { bounds = head.bounds; dense = built_dense head'.plan head'.every built; seed = head.seed; faulty = next; events = body.events_have_lines };
         version = head.version;
         allows = head.allows;
         omits = omits_so head.version head' r.0 r.1 head.omits;
@@ -150,11 +150,11 @@ text_spelled text s (Ok x) is h =
 pub read_spelled : (text : List ℕ) (s : Script) → ReadsText text (Ok s) → IsSpelled text s
 read_spelled text s h = (text_spelled text s (head_at (lines_of text)) refl h).0
 
--- and has no checkpoints
+-- and its checkpoints are built
 pub read_built : (text : List ℕ) (s : Script) → ReadsText text (Ok s) → IsBuilt s
 read_built text s h = (text_spelled text s (head_at (lines_of text)) refl h).1
 
--- the lines of a schedule without checkpoints are read
+-- the lines of a schedule that is built are read
 pub lines_read : (ls : Rest) (s : Script) → Spell ls s → IsBuilt s → Continues (head_at ls) (Ok s)
 lines_read ls s spell built =
     let schedule = spell.schedule in
@@ -165,12 +165,12 @@ lines_read ls s spell built =
     subst (λ o. Continues o (Ok s)) (sym read)
     (body_read s.faulty s.events (head_count spell.version + 1) (record s { faulty = []; events = [] }) schedule.faulty schedule.events)
 
--- with checkpoints that is what is wrong
-pub lines_refused : (ls : Rest) (s : Script) → Spell ls s → 1 ≤ s.every → Continues (head_at ls) (Err (NotBuilt 7))
-lines_refused ls s spell some =
+-- with checkpoints that aren't built that is what is wrong
+pub lines_refused : (ls : Rest) (s : Script) → Spell ls s → most_built s.plan < s.every → Continues (head_at ls) (Err (NotBuilt 7))
+lines_refused ls s spell more =
     let schedule = spell.schedule in
     let rest = faulty_lines s.faulty s.events in
-    let refused : head_at ls ≡ Err (NotBuilt 7) = ap head_at spell.lines ∙ head_asks spell.version s rest schedule.bounds spell.allows spell.omits some schedule.dense in
+    let refused : head_at ls ≡ Err (NotBuilt 7) = ap head_at spell.lines ∙ head_asks spell.version s rest schedule.bounds spell.allows spell.omits more schedule.dense in
     let none : ◌≡◌ {A = Outcome} (Err (NotBuilt 7)) (Err (NotBuilt 7)) = refl in
     subst (λ o. Continues o (Err (NotBuilt 7))) (sym refused) none
 
@@ -178,5 +178,5 @@ lines_refused ls s spell some =
 pub spelled_read : (text : List ℕ) (s : Script) → IsSpelled text s → IsBuilt s → ReadsText text (Ok s)
 spelled_read text s spelled built = lines_read (lines_of text) s spelled built
 
-pub spelled_refused : (text : List ℕ) (s : Script) → IsSpelled text s → 1 ≤ s.every → ReadsText text (Err (NotBuilt 7))
-spelled_refused text s spelled some = lines_refused (lines_of text) s spelled some
+pub spelled_refused : (text : List ℕ) (s : Script) → IsSpelled text s → most_built s.plan < s.every → ReadsText text (Err (NotBuilt 7))
+spelled_refused text s spelled more = lines_refused (lines_of text) s spelled more

@@ -12,7 +12,7 @@ pub record IsDeclared (f clients : ℕ) (x : Party × ℕ) : Type 0 where
   pub some : 1 ≤ x.1
   pub few : x.1 ≤ 4
 
--- No checkpoint is due, the seed has 32 bytes, no party is declared twice, and each event has a line: so commands, injected bytes and
+-- Checkpoints are due as the plan has them built, the seed has 32 bytes, no party is declared twice, and each event has a line: so commands, injected bytes and
 -- the numbers of twins have their bounds
 pub record IsInForm (s : Script) : Type 0 where
   pub built : IsBuilt s

@@ -160,18 +160,25 @@ number_at word low high n (l ∷ ls) = within low high n ls (number_after word l
 abbrev pub seed_in : List ℕ → Option (List ℕ)
 seed_in l = option_and_then (bytes_in 32) (stripped (codes "seed ") l)
 
--- checkpoints are not built yet: line n may say that none is due
-abbrev pub built : ℕ → ℕ × List (List ℕ) → Result (ℕ × List (List ℕ)) TextFault
-built n p = if nat_eq p.0 0 then Ok p else Err (NotBuilt n)
-
 -- after how many requests a checkpoint may be due at most: with certificates of answers none ever is
 abbrev pub most_every : Plan → ℕ
 most_every ZCert = 0
 most_every plan = 128
 
+-- what of this is built: Backup doesn't forget yet, so plans with it have no checkpoints
+abbrev pub most_built : Plan → ℕ
+most_built Quorum = 128
+most_built ZLight = 128
+most_built Chain = 128
+most_built plan = 0
+
+-- line n asks for no more than what is built
+abbrev pub built : Plan → ℕ → ℕ × List (List ℕ) → Result (ℕ × List (List ℕ)) TextFault
+built plan n p = if nat_le p.0 (most_built plan) then Ok p else Err (NotBuilt n)
+
 -- line 7 is that of checkpoints
 abbrev pub checkpoint_at : Plan → List (List ℕ) → Result (ℕ × List (List ℕ)) TextFault
-checkpoint_at plan ls = number_at (codes "checkpoint ") 0 (most_every plan) 7 ls >>= built 7
+checkpoint_at plan ls = number_at (codes "checkpoint ") 0 (most_every plan) 7 ls >>= built plan 7
 
 -- line 8 is that of the seed
 abbrev pub seed_at : List (List ℕ) → Result (List ℕ × List (List ℕ)) TextFault

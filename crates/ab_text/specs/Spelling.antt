@@ -10,7 +10,7 @@ use Rattle.ab_text.specs.declared.version.Version.{Version}
 use Rattle.ab_text.specs.declared.version.Version.TheVariants.{One, Two, Three, Four}
 use Rattle.ab_text.specs.Lines.{lines_of}
 use Rattle.ab_text.specs.EventLines.{event_line, IsEvent}
-use Rattle.ab_text.specs.Heads.{Script, abstract_line, plan_line, service_line, lms_line, checkpoint_line, most_every, seed_line, no_seed}
+use Rattle.ab_text.specs.Heads.{Script, abstract_line, plan_line, service_line, lms_line, checkpoint_line, most_every, most_built, seed_line, no_seed}
 use Rattle.ab_text.specs.Schedules.{faulty_line, IsNextFaulty}
 
 -- the lines of a head that only later versions have
@@ -52,9 +52,9 @@ pub record IsSchedule (s : Script) : Type 0 where
   pub faulty : AreFaulty s.f s.clients [] s.faulty
   pub events : AllByRecursion IsEvent s.events
 
--- checkpoints are not built yet
+-- checkpoints of this plan are built, if there are any
 abbrev pub IsBuilt : Script → Type 0
-IsBuilt s = s.every ≡ 0
+IsBuilt s = s.every ≤ most_built s.plan
 
 -- a first line goes with each scheme of one level, and those after the first one with all
 abbrev pub Allows : Version → Scheme → Type 0

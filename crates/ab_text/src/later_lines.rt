@@ -1,7 +1,7 @@
 //! The lines of the head that only later versions have.
 
 ghost use Rattle.std.specs.Prelude.{◌≡◌, ◌≤◌, [], IfOk, length};
-ghost use Rattle.ab_text.specs.Heads.{Gives, checkpoint_at, every_at, head_count, head_count_in, most_every, no_seed, seed_at, seed_in, seed_with, version_of as least_version};
+ghost use Rattle.ab_text.specs.Heads.{Gives, checkpoint_at, every_at, head_count, head_count_in, most_built, most_every, no_seed, seed_at, seed_in, seed_with, version_of as least_version};
 ghost use Rattle.ab_text.specs.Lines.{lines_of};
 ghost use Rattle.ab_text.specs.Schedules.{script_of};
 
@@ -55,15 +55,26 @@ fn most_every(plan: Plan) -> u64
     }
 }
 
+/// After how many requests a checkpoint may be due at most in what is built.
+pub fn most_built(plan: Plan) -> u64
+    ensures most { result ≡ most_built plan }
+    ensures few { result ≤ 128 }
+{
+    match plan {
+        Plan::Quorum | Plan::ZLight | Plan::Chain => 128,
+        Plan::AZyzzyva | Plan::Aliph | Plan::Backup | Plan::ZCert => 0,
+    }
+}
+
 /// After how many requests a checkpoint is due, by line 7, and what comes after that line.
 fn checkpoint_at(plan: Plan, text: &[u8]) -> Result<(u16, &[u8]), TextFault>
     ensures reads { Gives (λ p. (p.0, lines_of p.1.now)) result (checkpoint_at plan (lines_of text.now)) }
-    ensures none { IfOk result (λ p. p.0 ≡ 0) }
+    ensures few { IfOk result (λ p. p.0 ≤ 128) }
     ensures shorter { IfOk result (λ p. length p.1.now ≤ length text.now) }
 {
     let (every, rest) = numbered(text, b"checkpoint ", 0, most_every(plan), 7)?;
-    if every == 0 {
-        Ok((0, rest))
+    if every <= most_built(plan) {
+        Ok((every as u16, rest))
     } else {
         Err(TextFault::NotBuilt(7))
     }
@@ -72,7 +83,7 @@ fn checkpoint_at(plan: Plan, text: &[u8]) -> Result<(u16, &[u8]), TextFault>
 /// After how many requests a checkpoint is due, and what comes after the line that says it, if the version has one.
 pub(crate) fn every_at(version: Version, plan: Plan, text: &[u8]) -> Result<(u16, &[u8]), TextFault>
     ensures reads { Gives (λ p. (p.0, lines_of p.1.now)) result (every_at version plan (lines_of text.now)) }
-    ensures none { IfOk result (λ p. p.0 ≡ 0) }
+    ensures few { IfOk result (λ p. p.0 ≤ 128) }
     ensures shorter { IfOk result (λ p. length p.1.now ≤ length text.now) }
 {
     match version {

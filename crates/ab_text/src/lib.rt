@@ -37,7 +37,7 @@ pub use head::{
 pub use head_lines::cluster_of;
 pub use hex_bytes::bytes_in;
 pub use items::Items;
-pub use later_lines::lines_of_head;
+pub use later_lines::{lines_of_head, most_built};
 pub use laws::{written_is_read, written_is_spelled};
 pub use line::{Breach, Line, OpenCause, Premise};
 pub use lines::next_line;

@@ -73,7 +73,7 @@ pub enum Breach {
     Faulty,
     /// A claim names a correct party that didn't make it.
     Forged,
-    /// Two histories or requests have one digest.
+    /// Two links of lists, which is what a history's digest is made of, or two requests have one digest.
     Collision,
 }
 

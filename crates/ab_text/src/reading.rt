@@ -3,7 +3,7 @@
 ghost use Rattle.std.specs.Prelude.{◌≡◌, ℕ, List, Result, ◌+◌, ◌-◌, ◌<◌, ◌≤◌, ◌^◌, [], length, take, MatchResult, Ok, Err, IsTrue, ◌↔◌, codes};
 ghost use Rattle.ab_text.specs.Lines.{lines_of};
 ghost use Rattle.ab_text.specs.declared.fault.TextFault.{TextFault as TheFault};
-ghost use Rattle.ab_text.specs.Heads.{Script};
+ghost use Rattle.ab_text.specs.Heads.{Script, most_built};
 ghost use Rattle.ab_text.specs.Settings.{set_up};
 ghost use Rattle.ab_text.specs.Faults.{BeginsNone, BeginsSome, BeginsUnbuilt};
 ghost use Rattle.ab_text.specs.Spelling.{IsBuilt, IsSpelled};
@@ -117,22 +117,22 @@ pub fn read_schedule(alloc: Global, text: &[u8]) -> Result<Schedule, TextFault>
     faulty_after(alloc, setting, rest, setting.next)
 }
 
-/// What is read as a schedule is spelled so, and has no checkpoints.
+/// What is read as a schedule is spelled so, and its checkpoints are built.
 pub fn read_is_spelled()
     ensures spelled { (text : List ℕ) (s : Script) → ReadsText text (Ok s) → IsSpelled text s }
     ensures built { (text : List ℕ) (s : Script) → ReadsText text (Ok s) → IsBuilt s }
 {}
 
-/// What is read as a schedule has no checkpoints, a seed of 32 bytes, faulty parties of the cluster, each once with 1 to 4 twins,
-/// and events in form.
+/// What is read as a schedule has no checkpoints but those that are built, a seed of 32 bytes, faulty parties of the cluster, each
+/// once with 1 to 4 twins, and events in form.
 pub fn read_is_in_form()
     ensures { (text : List ℕ) (s : Script) → ReadsText text (Ok s) → IsInForm s }
 {}
 
-/// What is spelled so is read, if it has no checkpoints. If it has, that is what is wrong with it.
+/// What is spelled so is read, if its checkpoints are built. If they aren't, that is what is wrong with it.
 pub fn spelled_is_read()
     ensures built { (text : List ℕ) (s : Script) → IsSpelled text s → IsBuilt s → ReadsText text (Ok s) }
-    ensures not_built { (text : List ℕ) (s : Script) → IsSpelled text s → 1 ≤ s.every → ReadsText text (Err (TextFault.NotBuilt 7)) }
+    ensures not_built { (text : List ℕ) (s : Script) → IsSpelled text s → most_built s.plan < s.every → ReadsText text (Err (TextFault.NotBuilt 7)) }
 {}
 
 /// A text gives one result.
@@ -140,9 +140,9 @@ pub fn one_reading()
     ensures { (text : List ℕ) (r q : Result Script TheFault) → ReadsText text r → ReadsText text q → r ≡ q }
 {}
 
-/// A fault names the first line that is out of form, missing or not built: the lines before it begin a schedule without
-/// checkpoints. With a line that is out of form they begin none. With one that isn't built they begin only schedules with
-/// checkpoints.
+/// A fault names the first line that is out of form, missing or not built: the lines before it begin a schedule that is
+/// built. With a line that is out of form they begin none. With one that isn't built they begin only schedules whose
+/// checkpoints aren't built.
 pub fn fault_is_first()
     ensures before_bad { (text : List ℕ) (n : ℕ) → ReadsText text (Err (TextFault.BadLine n))
         → BeginsSome (take (n - 1) (lines_of text)) }

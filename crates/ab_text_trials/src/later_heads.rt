@@ -61,10 +61,9 @@ fn checkpoints(rt: HostRuntime) {
             "checkpoint 18446744073709551616\n",
             TextFault::BadLine(7),
         ),
-        ("3", "checkpoint 1\n", TextFault::NotBuilt(7)),
-        ("3", "checkpoint 128\nrun\nend\n", TextFault::NotBuilt(7)),
-        ("4", "checkpoint 64", TextFault::NotBuilt(7)),
-        ("3", "checkpoint 64\nfoo\n", TextFault::NotBuilt(7)),
+        ("3", "checkpoint 1\n", TextFault::NoEnd(8)),
+        ("4", "checkpoint 64", TextFault::NoEnd(8)),
+        ("3", "checkpoint 64\nfoo\n", TextFault::BadLine(8)),
         ("1", "checkpoint 0\nrun\nend\n", TextFault::BadLine(6)),
         ("2", "checkpoint 0\nrun\nend\n", TextFault::BadLine(7)),
         ("3", "checkpoint 0\n", TextFault::NoEnd(8)),
@@ -83,6 +82,29 @@ fn checkpoints(rt: HostRuntime) {
         ("3", "checkpoint 0\nrun\nend\nend\n", TextFault::BadLine(10)),
     ];
     refused(&rt, rt.alloc(), &cases).expect(&rt, "memory");
+}
+
+#[test]
+fn plans_with_checkpoints(rt: HostRuntime) {
+    let alloc = rt.alloc();
+    for plan in ["quorum", "zlight", "chain"] {
+        let read = head_of(alloc, "3", plan, "checkpoint 128\nrun\nend\n").expect(&rt, "memory");
+        let head = read.expect(&rt, "a schedule");
+        assert!(rt; head.cluster.every == 128, "{plan}");
+    }
+}
+
+#[test]
+fn plans_whose_checkpoints_are_not_built(rt: HostRuntime) {
+    let alloc = rt.alloc();
+    for plan in ["azyzzyva", "aliph", "backup"] {
+        let read = head_of(alloc, "3", plan, "checkpoint 1\nrun\nend\n").expect(&rt, "memory");
+        let fault = read.err().expect(&rt, "a fault");
+        assert!(rt; fault == TextFault::NotBuilt(7), "{plan}");
+        let read = head_of(alloc, "3", plan, "checkpoint 129\n").expect(&rt, "memory");
+        let fault = read.err().expect(&rt, "a fault");
+        assert!(rt; fault == TextFault::BadLine(7), "{plan}");
+    }
 }
 
 #[test]
