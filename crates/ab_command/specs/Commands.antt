@@ -65,4 +65,4 @@ TakesInput words = IsReplay words ⊎ (IsNode words ⊎ (IsAudit words ⊎ IsClu
 
 -- the text of the keys that are asked for
 abbrev pub key_text : KeysCommand → List ℕ
-key_text k = text_of (key_lines (keys_of k.f k.clients k.plan k.service k.lms k.seed k.party))
+key_text k = text_of (key_lines (keys_of k.f k.clients k.plan k.every k.service k.lms k.seed k.party))

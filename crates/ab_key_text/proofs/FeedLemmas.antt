@@ -5,6 +5,7 @@ use Rattle.std.specs.List.{AllByRecursion, filter, range_with_len}
 use Rattle.std.proofs.lemmas.Bool.{leb-true}
 use Rattle.std.proofs.lemmas.Bool.Decides.{Decides-ltb}
 use Rattle.hex.specs.Hex.{encode_lower}
+use Rattle.ab_num.specs.declared.plan.Plan.{Plan}
 use Rattle.ab_num.specs.declared.party.Party.{Party}
 use Rattle.ab_num.specs.declared.party.Party.TheVariants.{Replica, Client}
 use Rattle.ab_num.specs.Bounds.{IsInBounds}
@@ -12,18 +13,19 @@ use Rattle.ab_keys.specs.Keys.{exchanges, is_party}
 use Rattle.ab_keys.specs.Rings.{Peer, parties}
 use Rattle.ab_scheme.specs.Schemes.{public_length}
 use Rattle.ab_key_text.specs.declared.version.KeyVersion.{KeyVersion}
-use Rattle.ab_key_text.specs.declared.version.KeyVersion.TheVariants.{One, Two}
+use Rattle.ab_key_text.specs.declared.version.KeyVersion.TheVariants.{One, Two, Three}
 use Rattle.ab_text.specs.Cores.{party_text, IsParty}
+use Rattle.ab_text.specs.Heads.{most_built}
 use Rattle.ab_text.specs.Lines.{lines_of}
 use Rattle.ab_text.proofs.PartLemmas.{Lacks-append, Lacks-cons, Lacks-decimal}
 use Rattle.ab_text.proofs.CoreLemmas.{Lacks-party}
 use Rattle.ab_key_text.specs.Keys.{Secret, PartyKeys, IsBytes, IsSecretOf, IsPartyKeys, peers_in}
 use Rattle.ab_key_text.specs.Nodes.{AreCommandsOf, IsNodeText, NodeText, command_line, command_lines, is_command, is_printable, node_in, node_lines}
 use Rattle.ab_key_text.specs.Reading.{keys_in}
-use Rattle.ab_key_text.specs.Spelling.{key_line, keys_line, peer_lines, public_lines, secret_lines, cluster_lines, name_lines, key_lines}
+use Rattle.ab_key_text.specs.Spelling.{checkpoint_lines, key_line, keys_line, peer_lines, public_lines, secret_lines, cluster_lines, name_lines, key_lines}
 use Rattle.ab_key_text.specs.Versions.{key_version_of}
 use Rattle.ab_key_text.proofs.ReadLemmas.{nodes_are_read}
-use Rattle.ab_key_text.proofs.RoundLemmas.{spelled_reads}
+use Rattle.ab_key_text.proofs.RoundLemmas.{few_built, lines_due, spelled_reads}
 use Rattle.ab_text.proofs.FeedLemmas.{lines_of-text_of, both, tested, no_feed_in_digits, no_feed_in_plan, no_feed_in_service, no_feed_in_scheme, HasNoFeed, HaveNoFeed}
 use Rattle.ab_text.specs.Texts.{text_of}
 
@@ -94,6 +96,14 @@ small_party f clients (Client c) bounds inside = let lt : c < clients = (Decides
 no_feed_in_version : (w : KeyVersion) → HasNoFeed (keys_line w)
 no_feed_in_version One = tested (codes "keys 1") refl
 no_feed_in_version Two = tested (codes "keys 2") refl
+no_feed_in_version Three = tested (codes "keys 3") refl
+
+no_feed_in_checkpoints : (k : ℕ) (p : Plan) → k ≤ most_built p → HaveNoFeed (checkpoint_lines k)
+no_feed_in_checkpoints zero p dense = tt
+no_feed_in_checkpoints (suc k) p dense =
+    let few = few_built p in
+    subst HaveNoFeed (sym (lines_due (suc k) (omega arith)))
+    (Lacks-append 10 (codes "checkpoint ") (decimal (suc k)) (tested (codes "checkpoint ") refl) (Lacks-decimal 10 (suc k) (omega arith) (omega (arith, dense, few))), tt)
 
 no_feed : (k : PartyKeys) → IsPartyKeys k → HaveNoFeed (key_lines k)
 no_feed k good =
@@ -105,9 +115,9 @@ no_feed k good =
     let f = Lacks-append 10 (codes "f ") (decimal k.f) (tested (codes "f ") refl) (Lacks-decimal 10 k.f (omega arith) (omega (arith, fs))) in
     let clients = Lacks-append 10 (codes "clients ") (decimal k.clients) (tested (codes "clients ") refl) (Lacks-decimal 10 k.clients (omega arith) (omega (arith, cs))) in
     both (cluster_lines k) (name_lines k ++ (secret_lines k.secret ++ (flat_map peer_lines k.peers ++ public_lines 0 k.publics)))
-    (no_feed_in_version (key_version_of k.lms), (me, (f, (clients, tt))))
+    (no_feed_in_version (key_version_of k.every k.lms), (me, (f, (clients, tt))))
     (both (name_lines k) (secret_lines k.secret ++ (flat_map peer_lines k.peers ++ public_lines 0 k.publics))
-    (no_feed_in_plan k.plan, (no_feed_in_service k.service, (no_feed_in_scheme k.lms, tt)))
+    (no_feed_in_plan k.plan, (no_feed_in_service k.service, (no_feed_in_scheme k.lms, no_feed_in_checkpoints k.every k.plan good.dense)))
     (both (secret_lines k.secret) (flat_map peer_lines k.peers ++ public_lines 0 k.publics) (no_feed_in_secret k.me k.secret good.secret)
     (both (flat_map peer_lines k.peers) (public_lines 0 k.publics)
     (no_feed_in_peers k.peers (subst AreSmall (sym good.peers) (small_peers k.f k.clients k.me bounds)) good.keys)

@@ -13,19 +13,20 @@ use Rattle.ab_keys.specs.Keys.{is_party}
 use Rattle.ab_keys.specs.Rings.{Peer}
 use Rattle.ab_scheme.specs.Schemes.{public_length}
 use Rattle.ab_key_text.specs.declared.version.KeyVersion.{KeyVersion}
-use Rattle.ab_text.specs.Heads.{spelled_in, stripped, plan_line, plans, service_line, services, lms_line}
+use Rattle.ab_key_text.specs.declared.version.KeyVersion.TheVariants.{One, Two, Three}
+use Rattle.ab_text.specs.Heads.{spelled_in, stripped, plan_line, plans, service_line, services, lms_line, most_built}
 use Rattle.ab_key_text.specs.declared.fault.NodeFault.{NodeFault}
 use Rattle.ab_key_text.specs.declared.fault.NodeFault.TheVariants.{BadLine, NoEnd}
 use Rattle.ab_key_text.specs.Faults.{seen}
 use Rattle.ab_key_text.specs.Keys.{Secret, PartyKeys, IsPartyKeys, peers_in, replicas}
 use Rattle.ab_key_text.specs.Lines.{◌>>=◌, found_at, line_at, own_schemes, number_in, party_in, key_in}
 use Rattle.ab_key_text.specs.Nodes.{AreCommandsOf, IsNodeText, NodeText, command_in, command_lines, commands_at, commands_in, node_in, node_lines, node_of}
-use Rattle.ab_key_text.specs.Reading.{Read, KeyLines, ended, keys_after, keys_at, keys_in, member, peers_at, publics_at, put_together, secret_at, secret_in, setting_at}
+use Rattle.ab_key_text.specs.Reading.{Read, KeyLines, ended, every_at, keys_after, keys_at, keys_in, member, peers_at, publics_at, put_together, secret_at, secret_in, setting_at}
 use Rattle.ab_key_text.specs.Spelling.{key_lines, keys_line}
 use Rattle.ab_key_text.specs.Versions.{key_versions}
 use Rattle.ab_key_text.proofs.CommandLemmas.{in_middle}
 use Rattle.ab_key_text.proofs.ReadLemmas.{commands_are_read, nodes_are_read}
-use Rattle.ab_key_text.proofs.RoundLemmas.{setting, from2, from3, from4, from5, from6, from7, inside, spelled_reads}
+use Rattle.ab_key_text.proofs.RoundLemmas.{setting, head_end, from2, from3, from4, from5, from6, from7, from8, inside, spelled_reads}
 
 abbrev Lines : Type 0
 Lines = List (List ℕ)
@@ -123,10 +124,20 @@ member_first false r first = record {
   before = λ ls m k e le. absurd (let same = same_line 2 m e in omega (arith, same, le));
 }
 
-module _ {B : Type 0} (C : KeyLines × Lines → Result B NodeFault) (behind : (s : KeyLines) → IsFirst (λ ls. C (s, ls)) 8) where
+-- whatever was read before a line with this number, what is read from it on
+abbrev Behind : {A B : Type 0} → (Read A → Result B NodeFault) → Type 0
+Behind {A} K = (a : A) (n : ℕ) → IsFirst (λ ls. K (record { value = a; next = n; rest = ls })) n
+
+module _ {B : Type 0} (C : Read KeyLines → Result B NodeFault) (behind : Behind C) where
+  first8 : (w : KeyVersion) (me : Party) (f c : ℕ) (p : Plan) (v : ServiceName) (h : Scheme) → IsFirst (λ ls. from8 w me f c p v h ls >>= C) 8
+  first8 One me f c p v h = behind (setting me f c p v h 0) 8
+  first8 Two me f c p v h = behind (setting me f c p v h 0) 8
+  first8 Three me f c p v h = first_as _ _ 8 (λ ls. assoc (every_at Three p ls) (λ (x : ℕ × Lines). let r : Result (Read KeyLines) NodeFault = Ok (head_end Three (setting me f c p v h x.0) x.1) in r) C)
+      (line_first (number_in (codes "checkpoint ") 1 (most_built p)) 8 (λ k ls. C (head_end Three (setting me f c p v h k) ls)) (λ k. behind (setting me f c p v h k) 9))
+
   first7 : (w : KeyVersion) (me : Party) (f c : ℕ) (p : Plan) (v : ServiceName) → IsFirst (λ ls. from7 w me f c p v ls >>= C) 7
-  first7 w me f c p v = first_as _ _ 7 (λ ls. assoc (line_at (spelled_in lms_line (own_schemes w)) 7 ls) (λ (x : Scheme × Lines). let r : Result (KeyLines × Lines) NodeFault = Ok (setting me f c p v x.0, x.1) in r) C)
-      (line_first (spelled_in lms_line (own_schemes w)) 7 (λ h ls. C (setting me f c p v h, ls)) (λ h. behind (setting me f c p v h)))
+  first7 w me f c p v = first_as _ _ 7 (λ ls. assoc (line_at (spelled_in lms_line (own_schemes w)) 7 ls) (λ (x : Scheme × Lines). from8 w me f c p v x.0 x.1) C)
+      (line_first (spelled_in lms_line (own_schemes w)) 7 (λ h ls. from8 w me f c p v h ls >>= C) (λ h. first8 w me f c p v h))
 
   first6 : (w : KeyVersion) (me : Party) (f c : ℕ) (p : Plan) → IsFirst (λ ls. from6 w me f c p ls >>= C) 6
   first6 w me f c p = first_as _ _ 6 (λ ls. assoc (line_at (spelled_in service_line services) 6 ls) (λ (x : ServiceName × Lines). from7 w me f c p x.0 x.1) C)
@@ -156,15 +167,11 @@ module _ {B : Type 0} (C : KeyLines × Lines → Result B NodeFault) (behind : (
   setting_first = first_as _ _ 1 (λ ls. assoc (line_at (spelled_in keys_line key_versions) 1 ls) (λ (x : KeyVersion × Lines). from2 x.0 x.1) C)
       (line_first (spelled_in keys_line key_versions) 1 (λ w ls. from2 w ls >>= C) (λ w. first2 w))
 
--- whatever was read before a line with this number, what is read from it on
-abbrev Behind : {A B : Type 0} → (Read A → Result B NodeFault) → Type 0
-Behind {A} K = (a : A) (n : ℕ) → IsFirst (λ ls. K (record { value = a; next = n; rest = ls })) n
-
-secret_first : {B : Type 0} (K : Read (Option Secret) → Result B NodeFault) → Behind K → (me : Party) → IsFirst (λ ls. secret_at me ls >>= K) 8
-secret_first K behind (Client c) = behind None 8
-secret_first K behind (Replica r) =
-    first_as _ _ 8 (λ ls. assoc (line_at secret_in 8 ls) (λ (y : Secret × Lines). let r : Result (Read (Option Secret)) NodeFault = Ok (record { value = Some y.0; next = 9; rest = y.1 }) in r) K)
-    (line_first secret_in 8 (λ s ls. K (record { value = Some s; next = 9; rest = ls })) (λ s. behind (Some s) 9))
+secret_first : {B : Type 0} (K : Read (Option Secret) → Result B NodeFault) → Behind K → (me : Party) (n : ℕ) → IsFirst (λ ls. secret_at me n ls >>= K) n
+secret_first K behind (Client c) n = behind None n
+secret_first K behind (Replica r) n =
+    first_as _ _ n (λ ls. assoc (line_at secret_in n ls) (λ (y : Secret × Lines). let r : Result (Read (Option Secret)) NodeFault = Ok (record { value = Some y.0; next = n + 1; rest = y.1 }) in r) K)
+    (line_first secret_in n (λ s ls. K (record { value = Some s; next = n + 1; rest = ls })) (λ s. behind (Some s) (n + 1)))
 
 peers_first : {B : Type 0} (K : Read (List Peer) → Result B NodeFault) → Behind K → (ps : List Party) (done : List Peer) (n : ℕ) → IsFirst (λ ls. peers_at ps done n ls >>= K) n
 peers_first K behind [] done n = behind done n
@@ -189,18 +196,18 @@ module _ {B : Type 0} (K : Read PartyKeys → Result B NodeFault) (behind : Behi
   abbrev with_peers : KeyLines → Read (Option Secret) → Result (Read PartyKeys) NodeFault
   with_peers s a = peers_at (peers_in s.f s.clients s.me) [] a.next a.rest >>= λ (b : Read (List Peer)). with_publics s a.value b
 
-  after_first : (s : KeyLines) → IsFirst (λ ls. keys_after s ls >>= K) 8
+  after_first : (s : KeyLines) (i : ℕ) → IsFirst (λ ls. keys_after s i ls >>= K) i
   unfolding keys_after
-  after_first s =
-      first_as _ _ 8 (λ ls. assoc (secret_at s.me ls) (with_peers s) K)
+  after_first s i =
+      first_as _ _ i (λ ls. assoc (secret_at s.me i ls) (with_peers s) K)
       (secret_first (λ a. with_peers s a >>= K) (λ secret n. first_as _ _ n (λ ls. assoc (peers_at (peers_in s.f s.clients s.me) [] n ls) (with_publics s secret) K)
       (peers_first (λ b. with_publics s secret b >>= K) (λ peers e. first_as _ _ e (λ ls. assoc (publics_at (public_length s.lms) (replicas s.f) [] e ls) (λ (c : Read Lines). let r : Result (Read PartyKeys) NodeFault = Ok (record { value = put_together s secret peers c.value; next = c.next; rest = c.rest }) in r) K)
-      (publics_first (public_length s.lms) (λ c. K (record { value = put_together s secret peers c.value; next = c.next; rest = c.rest })) (λ publics i. behind (put_together s secret peers publics) i) (replicas s.f) [] e))
-      (peers_in s.f s.clients s.me) [] n)) s.me)
+      (publics_first (public_length s.lms) (λ c. K (record { value = put_together s secret peers c.value; next = c.next; rest = c.rest })) (λ publics m. behind (put_together s secret peers publics) m) (replicas s.f) [] e))
+      (peers_in s.f s.clients s.me) [] n)) s.me i)
 
   keys_first : IsFirst (λ ls. keys_at ls >>= K) 1
   unfolding keys_at
-  keys_first = first_as _ _ 1 (λ ls. assoc (setting_at ls) (λ (s : KeyLines × Lines). keys_after s.0 s.1) K) (setting_first (λ s. keys_after s.0 s.1 >>= K) (λ s. after_first s))
+  keys_first = first_as _ _ 1 (λ ls. assoc (setting_at ls) (λ (s : Read KeyLines). keys_after s.value s.next s.rest) K) (setting_first (λ s. keys_after s.value s.next s.rest >>= K) (λ s n. after_first s n))
 
 ended_first : {A : Type 0} (a : A) (n : ℕ) → IsFirst (λ ls. ended a n ls) n
 ended_first {A} a n = record { late = late_at; sure = sure_at; before = before_at } where

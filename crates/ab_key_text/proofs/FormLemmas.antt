@@ -1,5 +1,5 @@
 -- The keys that a seed gives are in form.
-use Rattle.std.proofs.Common.{◌≡◌, ℕ, zero, suc, ◌+◌, ◌*◌, ◌<◌, IsTrue, List, [], ◌∷◌, ◌++◌, map, take, length, refl, sym, ap, subst, arith, lit<, length-append}
+use Rattle.std.proofs.Common.{◌≡◌, ℕ, zero, suc, ◌+◌, ◌*◌, ◌<◌, ◌≤◌, IsTrue, List, [], ◌∷◌, ◌++◌, map, take, length, refl, sym, ap, subst, arith, lit<, length-append}
 use Rattle.std.specs.List.{AllByRecursion, filter, range_with_len}
 use Rattle.std.specs.Int.{w32, to_be_bytes}
 use Rattle.std.proofs.lemmas.Grind.{get_or_default_zero}
@@ -18,6 +18,7 @@ use Rattle.ab_mac.proofs.Sha256Lemmas.{IsBytes as AreBytes, IsBytes-append, IsBy
 use Rattle.ab_lms.specs.Nodes.{inner_node, leaf_node, levels, node, root, type_of}
 use Rattle.ab_lms.specs.Signatures.{public_key, u32_bytes}
 use Rattle.ab_scheme.specs.Schemes.{public_length}
+use Rattle.ab_text.specs.Heads.{most_built}
 use Rattle.ab_keys.specs.Keys.{exchanges, is_party, key_of}
 use Rattle.ab_keys.specs.Rings.{parties, peer_of, peers_of}
 use Rattle.ab_keys.specs.Secrets.{tree_name, tree_seed}
@@ -118,10 +119,12 @@ publics_form : (lms : Scheme) (seed : List ℕ) (rs : List ℕ) → AllByRecursi
 publics_form lms seed [] = tt
 publics_form lms seed (r ∷ rs) = (public_form lms seed r, publics_form lms seed rs)
 
-pub derived_form : (f clients : ℕ) (plan : Plan) (service : ServiceName) (lms : Scheme) (seed : List ℕ) (me : Party) → IsInBounds f clients → IsTrue (is_party f clients me) → IsPartyKeys (keys_of f clients plan service lms seed me)
+pub derived_form : (f clients : ℕ) (plan : Plan) (every : ℕ) (service : ServiceName) (lms : Scheme) (seed : List ℕ) (me : Party)
+    → IsInBounds f clients → every ≤ most_built plan → IsTrue (is_party f clients me) → IsPartyKeys (keys_of f clients plan every service lms seed me)
 unfolding peers_of
-derived_form f clients plan service lms seed me bounds party = record {
+derived_form f clients plan every service lms seed me bounds dense party = record {
   bounds = bounds;
+  dense = dense;
   party = party;
   secret = secret_form seed me;
   peers = peers_are seed me (filter (exchanges me) (parties f clients));

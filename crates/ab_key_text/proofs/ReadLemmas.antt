@@ -1,5 +1,5 @@
 -- What is read of a key text, and of a node's text, is spelled there, and is in form; and what is spelled as a node's text is read.
-use Rattle.std.proofs.Common.{◌≡◌, ℕ, zero, suc, ◌+◌, ◌*◌, ◌≤◌, List, [], ◌∷◌, ◌++◌, map, Bool, true, false, Option, None, Some, Result, Ok, Err, IsTrue, codes, decimal, get_or, take, drop, length, refl, sym, ap, ◌∙◌, subst, nat_le, ◌&&◌, eqb, inl, inr, if◌then◌else◌, append-nil, append_assoc}
+use Rattle.std.proofs.Common.{◌≡◌, ℕ, zero, suc, ◌+◌, ◌*◌, ◌≤◌, List, [], ◌∷◌, ◌++◌, map, Bool, true, false, Option, None, Some, Result, Ok, Err, IsTrue, codes, decimal, get_or, take, drop, length, refl, sym, ap, ◌∙◌, subst, arith, nat_le, ◌&&◌, eqb, inl, inr, if◌then◌else◌, append-nil, append_assoc}
 use Rattle.std.specs.Prelude.{flat_map}
 use Rattle.std.specs.List.{AllByRecursion, range_with_len}
 use Rattle.std.specs.Option.{option_and_then}
@@ -22,9 +22,9 @@ use Rattle.ab_scheme.specs.Schemes.{public_length}
 use Rattle.ab_text.specs.declared.fault.TextFault.{TextFault}
 use Rattle.ab_text.specs.declared.fault.TextFault.TheVariants.{BadLine as BadText}
 use Rattle.ab_key_text.specs.declared.version.KeyVersion.{KeyVersion}
-use Rattle.ab_key_text.specs.declared.version.KeyVersion.TheVariants.{One, Two}
+use Rattle.ab_key_text.specs.declared.version.KeyVersion.TheVariants.{One, Two, Three}
 use Rattle.ab_text.specs.Cores.{party_text}
-use Rattle.ab_text.specs.Heads.{number_after, spelled_in, stripped, taken, within, plan_line, plans, service_line, services, lms_line}
+use Rattle.ab_text.specs.Heads.{number_after, spelled_in, stripped, taken, within, plan_line, plans, service_line, services, lms_line, checkpoint_line, most_built}
 use Rattle.ab_text.proofs.HeadLemmas.{name_is, number_is, spelled_has}
 use Rattle.ab_text.proofs.HexLemmas.{bytes_were as spelled_bytes}
 use Rattle.ab_text.proofs.WordLemmas.{stripped-is}
@@ -34,11 +34,11 @@ use Rattle.ab_text.specs.HexBytes.{bytes_in}
 use Rattle.ab_key_text.specs.Keys.{Secret, PartyKeys, IsBytes, IsSecretOf, IsPartyKeys, peers_in, replicas}
 use Rattle.ab_key_text.specs.Lines.{◌>>=◌, found_at, line_at, own_schemes, bounded, number_in, numbered, or_else, party_in, bytes_after, key_in}
 use Rattle.ab_key_text.specs.Nodes.{NodeText, AreCommandsOf, IsNodeText, command_in, command_line, command_lines, commands_at, commands_in, checked_command, is_command, node_in, node_lines, node_of}
-use Rattle.ab_key_text.specs.Reading.{Read, KeyLines, member, ended, keys_after, keys_at, keys_in, peers_at, publics_at, put_together, secret_at, secret_in, secret_of_parts, secret_text_in, setting_at}
-use Rattle.ab_key_text.specs.Spelling.{cluster_lines, key_line, keys_line, key_lines, name_lines, peer_lines, public_lines, secret_line, secret_lines}
-use Rattle.ab_key_text.specs.Versions.{key_versions, key_version_of}
+use Rattle.ab_key_text.specs.Reading.{Read, KeyLines, every_at, member, ended, keys_after, keys_at, keys_in, peers_at, publics_at, put_together, secret_at, secret_in, secret_of_parts, secret_text_in, setting_at}
+use Rattle.ab_key_text.specs.Spelling.{checkpoint_lines, cluster_lines, key_line, keys_line, key_lines, name_lines, peer_lines, public_lines, secret_line, secret_lines}
+use Rattle.ab_key_text.specs.Versions.{key_versions, key_version_of, key_version_with}
 use Rattle.ab_key_text.proofs.CommandLemmas.{in_middle}
-use Rattle.ab_key_text.proofs.RoundLemmas.{setting, from2, from3, from4, from5, from6, from7, inside, whole_read}
+use Rattle.ab_key_text.proofs.RoundLemmas.{setting, head_end, behind_head, from2, from3, from4, from5, from6, from7, from8, inside, lines_due, version_due, whole_read}
 use Rattle.ab_key_text.proofs.SpelledLemmas.{after_secret}
 use Rattle.ab_key_text.proofs.WholeLemmas.{bound}
 
@@ -144,30 +144,110 @@ line_said read said says n ls rest a h = let line = line_was read n ls rest a h 
 
 -- ---- the head
 
-own_versions : (w : KeyVersion) → AllByRecursion (λ h. key_version_of h ≡ w) (own_schemes w)
+-- a version without checkpoints goes with its schemes
+abbrev Goes : KeyVersion → Scheme → Type 0
+Goes One h = key_version_with h ≡ One
+Goes Two h = key_version_with h ≡ Two
+Goes Three h = Unit {0}
+
+own_versions : (w : KeyVersion) → AllByRecursion (Goes w) (own_schemes w)
 own_versions One = (refl, (refl, tt))
 own_versions Two = (refl, tt)
+own_versions Three = (tt, (tt, (tt, tt)))
 
--- the scheme was read where this is its least version
-version_was : (w : KeyVersion) (n : ℕ) (ls rest : Lines) (h : Scheme) → line_at (spelled_in lms_line (own_schemes w)) n ls ≡ Ok (h, rest) → key_version_of h ≡ w
-version_was w n ls rest h is =
+scheme_goes : (w : KeyVersion) (n : ℕ) (ls rest : Lines) (h : Scheme) → line_at (spelled_in lms_line (own_schemes w)) n ls ≡ Ok (h, rest) → Goes w h
+scheme_goes w n ls rest h is =
     let line = line_was (spelled_in lms_line (own_schemes w)) n ls rest h is in
-    spelled_has (λ x. key_version_of x ≡ w) lms_line (own_schemes w) line.0 h (own_versions w) line.2
+    spelled_has (Goes w) lms_line (own_schemes w) line.0 h (own_versions w) line.2
+
+-- what was read of checkpoints: this is the least version, and the lines are those that are written
+record IsEvery (w : KeyVersion) (p : Plan) (h : Scheme) (ls rest : Lines) (k : ℕ) : Type 0 where
+  least : key_version_of k h ≡ w
+  dense : k ≤ most_built p
+  lines : ls ≡ checkpoint_lines k ++ rest
+
+none_due : (w : KeyVersion) (p : Plan) (h : Scheme) (ls rest : Lines) (k : ℕ) → key_version_with h ≡ w → ◌≡◌ {A = Result (ℕ × Lines) NodeFault} (Ok (0, ls)) (Ok (k, rest)) → IsEvery w p h ls rest k
+none_due w p h ls rest k least e =
+    let made : ℕ × Lines = (0, ls) in
+    let out : ℕ × Lines = (k, rest) in
+    subst (λ (x : ℕ × Lines). IsEvery w p h ls x.1 x.0) (same_ok made out e) (record { least = least; dense = omega arith; lines = refl })
+
+some_due : (p : Plan) (h : Scheme) (rest : Lines) (k : ℕ) → 1 ≤ k → k ≤ most_built p → IsEvery Three p h (checkpoint_line k ∷ rest) rest k
+some_due p h rest k some dense = record { least = version_due k h some; dense = dense; lines = ap (λ (t : Lines). t ++ rest) (sym (lines_due k some)) }
+
+every_was : (w : KeyVersion) (p : Plan) (h : Scheme) (ls rest : Lines) (k : ℕ) → Goes w h → every_at w p ls ≡ Ok (k, rest) → IsEvery w p h ls rest k
+every_was One p h ls rest k goes e = none_due One p h ls rest k goes e
+every_was Two p h ls rest k goes e = none_due Two p h ls rest k goes e
+every_was Three p h ls rest k goes e =
+    let line = line_was (number_in (codes "checkpoint ") 1 (most_built p)) 8 ls rest k e in
+    let is = number_was (codes "checkpoint ") 1 (most_built p) line.0 k line.2 in
+    subst (λ (t : Lines). IsEvery Three p h t rest k) (sym (line.1 ∙ ap (λ l. l ∷ rest) is.0)) (some_due p h rest k is.1 is.2)
 
 member_was : (b : Bool) (u : Unit {0}) → (let r : Result (Unit {0}) NodeFault = if b then Ok tt else Err (BadLine 2) in r) ≡ Ok u → b ≡ true
 member_was true u h = refl
 member_was false u h = absurd (cc)
 
+-- three lines, and those behind them
+lines_joined : (x y z : List ℕ) (ls a b c d : Lines) → ls ≡ x ∷ a → a ≡ y ∷ b → b ≡ z ∷ c → c ≡ d → ls ≡ x ∷ y ∷ z ∷ d
+lines_joined x y z ls a b c d one two three rest = one ∙ ap (λ t. x ∷ t) (two ∙ ap (λ t. y ∷ t) (three ∙ ap (λ t. z ∷ t) rest))
+
 record IsFront (s : KeyLines) (ls rest : Lines) : Type 0 where
-  lines : ls ≡ keys_line (key_version_of s.lms) ∷ (codes "party " ++ party_text s.me) ∷ (codes "f " ++ decimal s.f) ∷ (codes "clients " ++ decimal s.clients)
-      ∷ plan_line s.plan ∷ service_line s.service ∷ lms_line s.lms ∷ rest
+  lines : ls ≡ keys_line (key_version_of s.every s.lms) ∷ (codes "party " ++ party_text s.me) ∷ (codes "f " ++ decimal s.f) ∷ (codes "clients " ++ decimal s.clients)
+      ∷ plan_line s.plan ∷ service_line s.service ∷ lms_line s.lms ∷ (checkpoint_lines s.every ++ rest)
   bounds : IsInBounds s.f s.clients
+  dense : s.every ≤ most_built s.plan
   party : is_party s.f s.clients s.me ≡ true
 
-setting_was : (ls rest : Lines) (s : KeyLines) → setting_at ls ≡ Ok (s, rest) → IsFront s ls rest
+-- what was read from line 5 on
+record AreNames (w : KeyVersion) (me : Party) (f n : ℕ) (ls : Lines) (out : Read KeyLines) : Type 0 where
+  plan : Plan
+  service : ServiceName
+  lms : Scheme
+  every : ℕ
+  rest : Lines
+  made : head_end w (setting me f n plan service lms every) rest ≡ out
+  least : key_version_of every lms ≡ w
+  dense : every ≤ most_built plan
+  lines : ls ≡ plan_line plan ∷ service_line service ∷ lms_line lms ∷ (checkpoint_lines every ++ rest)
+
+names_were : (w : KeyVersion) (me : Party) (f n : ℕ) (ls : Lines) (out : Read KeyLines) → from5 w me f n ls ≡ Ok out → AreNames w me f n ls out
+names_were w me f n ls out e =
+    let p = bound (line_at (spelled_in plan_line plans) 5 ls) (λ (x : Plan × Lines). from6 w me f n x.0 x.1) out e in
+    let v = bound (line_at (spelled_in service_line services) 6 p.0.1) (λ (x : ServiceName × Lines). from7 w me f n p.0.0 x.0 x.1) out p.2 in
+    let h = bound (line_at (spelled_in lms_line (own_schemes w)) 7 v.0.1) (λ (x : Scheme × Lines). from8 w me f n p.0.0 v.0.0 x.0 x.1) out v.2 in
+    let k = bound (every_at w p.0.0 h.0.1) (λ (x : ℕ × Lines). let r : Result (Read KeyLines) NodeFault = Ok (head_end w (setting me f n p.0.0 v.0.0 h.0.0 x.0) x.1) in r) out h.2 in
+    let five = line_said (spelled_in plan_line plans) plan_line (name_was plan_line plans) 5 ls p.0.1 p.0.0 p.1 in
+    let six = line_said (spelled_in service_line services) service_line (name_was service_line services) 6 p.0.1 v.0.1 v.0.0 v.1 in
+    let seven = line_said (spelled_in lms_line (own_schemes w)) lms_line (name_was lms_line (own_schemes w)) 7 v.0.1 h.0.1 h.0.0 h.1 in
+    let eight = every_was w p.0.0 h.0.0 h.0.1 k.0.1 k.0.0 (scheme_goes w 7 v.0.1 h.0.1 h.0.0 h.1) k.1 in
+    record {
+      plan = p.0.0;
+      service = v.0.0;
+      lms = h.0.0;
+      every = k.0.0;
+      rest = k.0.1;
+      made = same_ok (head_end w (setting me f n p.0.0 v.0.0 h.0.0 k.0.0) k.0.1) out k.2;
+      least = eight.least;
+      dense = eight.dense;
+      lines = lines_joined (plan_line p.0.0) (service_line v.0.0) (lms_line h.0.0) ls p.0.1 v.0.1 h.0.1 (checkpoint_lines k.0.0 ++ k.0.1) five six seven eight.lines;
+    }
+
+front_is : (w : KeyVersion) (me : Party) (f n : ℕ) (ls behind : Lines) (out : Read KeyLines)
+    → ls ≡ keys_line w ∷ (codes "party " ++ party_text me) ∷ (codes "f " ++ decimal f) ∷ (codes "clients " ++ decimal n) ∷ behind
+    → IsInBounds f n → is_party f n me ≡ true → AreNames w me f n behind out → IsFront out.value ls out.rest
+front_is w me f n ls behind out begun bounds inside_it names =
+    let least = names.least in
+    let lines = names.lines in
+    subst (λ (x : Read KeyLines). IsFront x.value ls x.rest) names.made (record {
+      lines = begun ∙ (λ j. keys_line (sym least j) ∷ (codes "party " ++ party_text me) ∷ (codes "f " ++ decimal f) ∷ (codes "clients " ++ decimal n) ∷ lines j);
+      bounds = bounds;
+      dense = names.dense;
+      party = inside_it;
+    })
+
+setting_was : (ls : Lines) (out : Read KeyLines) → setting_at ls ≡ Ok out → IsFront out.value ls out.rest
 unfolding setting_at
-setting_was ls rest s e =
-    let out : KeyLines × Lines = (s, rest) in
+setting_was ls out e =
     let read_party : List ℕ → Option Party = λ l. option_and_then party_in (stripped (codes "party ") l) in
     let a = bound (line_at (spelled_in keys_line key_versions) 1 ls) (λ (x : KeyVersion × Lines). from2 x.0 x.1) out e in
     let w = a.0.0 in
@@ -178,28 +258,19 @@ setting_was ls rest s e =
     let d = bound (line_at (number_in (codes "clients ") 1 16) 4 c.0.1) (λ (x : ℕ × Lines). inside w me f x.0 x.1) out c.2 in
     let n = d.0.0 in
     let m = bound (member f n me) (λ (x : Unit {0}). from5 w me f n d.0.1) out d.2 in
-    let p = bound (line_at (spelled_in plan_line plans) 5 d.0.1) (λ (x : Plan × Lines). from6 w me f n x.0 x.1) out m.2 in
-    let v = bound (line_at (spelled_in service_line services) 6 p.0.1) (λ (x : ServiceName × Lines). from7 w me f n p.0.0 x.0 x.1) out p.2 in
-    let h = bound (line_at (spelled_in lms_line (own_schemes w)) 7 v.0.1) (λ (x : Scheme × Lines). let r : Result (KeyLines × Lines) NodeFault = Ok (setting me f n p.0.0 v.0.0 x.0, x.1) in r) out v.2 in
-    let made : KeyLines × Lines = (setting me f n p.0.0 v.0.0 h.0.0, h.0.1) in
-    let same : made ≡ out = same_ok made out h.2 in
     let one = line_said (spelled_in keys_line key_versions) keys_line (name_was keys_line key_versions) 1 ls a.0.1 w a.1 in
-    let least : key_version_of h.0.0 ≡ w = version_was w 7 v.0.1 h.0.1 h.0.0 h.1 in
     let two = line_said read_party (λ q. codes "party " ++ party_text q)
     (λ l q is_read. let behind = then_was party_in (stripped (codes "party ") l) q is_read in word_was (codes "party ") l behind.0 behind.1 ∙ ap (λ t. codes "party " ++ t) (party_was behind.0 q behind.2)) 2 a.0.1 b.0.1 me b.1 in
     let three = line_was (number_in (codes "f ") 1 2) 3 b.0.1 c.0.1 f c.1 in
     let f_is = number_was (codes "f ") 1 2 three.0 f three.2 in
     let four = line_was (number_in (codes "clients ") 1 16) 4 c.0.1 d.0.1 n d.1 in
     let n_is = number_was (codes "clients ") 1 16 four.0 n four.2 in
-    let five = line_said (spelled_in plan_line plans) plan_line (name_was plan_line plans) 5 d.0.1 p.0.1 p.0.0 p.1 in
-    let six = line_said (spelled_in service_line services) service_line (name_was service_line services) 6 p.0.1 v.0.1 v.0.0 v.1 in
-    let seven = line_said (spelled_in lms_line (own_schemes w)) lms_line (name_was lms_line (own_schemes w)) 7 v.0.1 h.0.1 h.0.0 h.1 in
-    subst (λ (x : KeyLines × Lines). IsFront x.0 ls x.1) same (record {
-      lines = one ∙ ap (λ x. keys_line x ∷ a.0.1) (sym least) ∙ ap (λ t. keys_line (key_version_of h.0.0) ∷ t) (two ∙ ap (λ t. (codes "party " ++ party_text me) ∷ t) ((three.1 ∙ (λ j. f_is.0 j ∷ c.0.1)) ∙ ap (λ t. (codes "f " ++ decimal f) ∷ t) ((four.1 ∙ (λ j. n_is.0 j ∷ d.0.1))
-          ∙ ap (λ t. (codes "clients " ++ decimal n) ∷ t) (five ∙ ap (λ t. plan_line p.0.0 ∷ t) (six ∙ ap (λ t. service_line v.0.0 ∷ t) seven)))));
-      bounds = record { some_faulty = f_is.1; few_faulty = f_is.2; some_client = n_is.1; few_clients = n_is.2 };
-      party = member_was (is_party f n me) m.0 m.1;
-    })
+    front_is w me f n ls d.0.1 out
+    (lines_joined (keys_line w) (codes "party " ++ party_text me) (codes "f " ++ decimal f) ls a.0.1 b.0.1 c.0.1 ((codes "clients " ++ decimal n) ∷ d.0.1) one two
+    (three.1 ∙ ap (λ (l : List ℕ). l ∷ c.0.1) f_is.0) (four.1 ∙ ap (λ (l : List ℕ). l ∷ d.0.1) n_is.0))
+    (record { some_faulty = f_is.1; few_faulty = f_is.2; some_client = n_is.1; few_clients = n_is.2 })
+    (member_was (is_party f n me) m.0 m.1)
+    (names_were w me f n d.0.1 out m.2)
 
 -- ---- what comes after it
 
@@ -207,16 +278,16 @@ record IsSecretRead (me : Party) (ls : Lines) (x : Read (Option Secret)) : Type 
   lines : ls ≡ secret_lines x.value ++ x.rest
   secret : IsSecretOf me x.value
 
-secret_read_was : (me : Party) (ls : Lines) (x : Read (Option Secret)) → secret_at me ls ≡ Ok x → IsSecretRead me ls x
-secret_read_was (Client c) ls x e =
-    let made : Read (Option Secret) = record { value = None; next = 8; rest = ls } in
+secret_read_was : (me : Party) (n : ℕ) (ls : Lines) (x : Read (Option Secret)) → secret_at me n ls ≡ Ok x → IsSecretRead me ls x
+secret_read_was (Client c) n ls x e =
+    let made : Read (Option Secret) = record { value = None; next = n; rest = ls } in
     let same : made ≡ x = same_ok made x e in
     subst (IsSecretRead (Client c) ls) same (record { lines = refl; secret = tt })
-secret_read_was (Replica r) ls x e =
-    let a = bound (line_at secret_in 8 ls) (λ (y : Secret × Lines). let r : Result (Read (Option Secret)) NodeFault = Ok (record { value = Some y.0; next = 9; rest = y.1 }) in r) x e in
-    let made : Read (Option Secret) = record { value = Some a.0.0; next = 9; rest = a.0.1 } in
+secret_read_was (Replica r) n ls x e =
+    let a = bound (line_at secret_in n ls) (λ (y : Secret × Lines). let r : Result (Read (Option Secret)) NodeFault = Ok (record { value = Some y.0; next = n + 1; rest = y.1 }) in r) x e in
+    let made : Read (Option Secret) = record { value = Some a.0.0; next = n + 1; rest = a.0.1 } in
     let same : made ≡ x = same_ok made x a.2 in
-    let line = line_was secret_in 8 ls a.0.1 a.0.0 a.1 in
+    let line = line_was secret_in n ls a.0.1 a.0.0 a.1 in
     let said = secret_was line.0 a.0.0 line.2 in
     subst (IsSecretRead (Replica r) ls) same (record { lines = line.1 ∙ ap (λ t. t ∷ a.0.1) said.0; secret = (said.1, said.2) })
 
@@ -286,31 +357,32 @@ joined a b c d e rest =
     ap (λ t. a ++ (b ++ (c ++ t))) (sym (append_assoc d e rest)) ∙ ap (λ t. a ++ (b ++ t)) (sym (append_assoc c (d ++ e) rest))
     ∙ ap (λ t. a ++ t) (sym (append_assoc b (c ++ (d ++ e)) rest)) ∙ sym (append_assoc a (b ++ (c ++ (d ++ e))) rest)
 
-behind_were : (s : KeyLines) (all ls : Lines) (x : Read PartyKeys) → IsFront s all ls → keys_after s ls ≡ Ok x → AreAtFront all x
+behind_were : (s : KeyLines) (n : ℕ) (all ls : Lines) (x : Read PartyKeys) → IsFront s all ls → keys_after s n ls ≡ Ok x → AreAtFront all x
 unfolding keys_after
-behind_were s all ls x front_is e =
+behind_were s n all ls x begins e =
     let T : Type 0 = Result (Read PartyKeys) NodeFault in
-    let secret = bound (secret_at s.me ls) (λ (a : Read (Option Secret)). peers_at (peers_in s.f s.clients s.me) [] a.next a.rest >>= λ (b : Read (List Peer)). publics_at (public_length s.lms) (replicas s.f) [] b.next b.rest >>= λ (c : Read Lines). let r : T = Ok (record { value = put_together s a.value b.value c.value; next = c.next; rest = c.rest }) in r) x e in
+    let secret = bound (secret_at s.me n ls) (λ (a : Read (Option Secret)). peers_at (peers_in s.f s.clients s.me) [] a.next a.rest >>= λ (b : Read (List Peer)). publics_at (public_length s.lms) (replicas s.f) [] b.next b.rest >>= λ (c : Read Lines). let r : T = Ok (record { value = put_together s a.value b.value c.value; next = c.next; rest = c.rest }) in r) x e in
     let peers = bound (peers_at (peers_in s.f s.clients s.me) [] secret.0.next secret.0.rest) (λ (b : Read (List Peer)). publics_at (public_length s.lms) (replicas s.f) [] b.next b.rest >>= λ (c : Read Lines). let r : T = Ok (record { value = put_together s secret.0.value b.value c.value; next = c.next; rest = c.rest }) in r) x secret.2 in
     let publics = bound (publics_at (public_length s.lms) (replicas s.f) [] peers.0.next peers.0.rest) (λ (c : Read Lines). let r : T = Ok (record { value = put_together s secret.0.value peers.0.value c.value; next = c.next; rest = c.rest }) in r) x peers.2 in
     let made : Read PartyKeys = record { value = put_together s secret.0.value peers.0.value publics.0.value; next = publics.0.next; rest = publics.0.rest } in
     let same : made ≡ x = same_ok made x publics.2 in
-    let own = secret_read_was s.me ls secret.0 secret.1 in
+    let own = secret_read_was s.me n ls secret.0 secret.1 in
     let others = peers_were (peers_in s.f s.clients s.me) [] secret.0.next secret.0.rest peers.0 peers.1 in
     let each = publics_were (public_length s.lms) (3 * s.f + 1) 0 [] peers.0.next peers.0.rest publics.0 publics.1 in
     let peers_are : others.0 ≡ peers.0.value = sym others.1.value in
     let publics_are : each.0 ≡ publics.0.value = sym each.1.value in
     subst (AreAtFront all) same (record {
       form = record {
-        bounds = front_is.bounds;
-        party = front_is.party;
+        bounds = begins.bounds;
+        dense = begins.dense;
+        party = begins.party;
         secret = own.secret;
         peers = subst (λ xs. map (λ y. y.party) xs ≡ peers_in s.f s.clients s.me) peers_are others.1.parties;
         keys = subst (λ xs. AllByRecursion (λ y. IsBytes 32 y.to × IsBytes 32 y.from) xs) peers_are others.1.keys;
         public_of_each = subst (λ (keys : Lines). length keys ≡ 3 * s.f + 1) publics_are each.1.many;
         publics = subst (λ (keys : Lines). AllByRecursion (IsBytes (public_length s.lms)) keys) publics_are each.1.each;
       };
-      lines = front_is.lines
+      lines = begins.lines
           ∙ ap (λ t. cluster_lines made.value ++ (name_lines made.value ++ t)) (own.lines
           ∙ ap (λ t. secret_lines secret.0.value ++ t) ((others.1.lines ∙ ap (λ xs. flat_map peer_lines xs ++ peers.0.rest) peers_are)
           ∙ ap (λ t. flat_map peer_lines peers.0.value ++ t) (each.1.lines ∙ ap (λ keys. public_lines 0 keys ++ publics.0.rest) publics_are)))
@@ -320,8 +392,8 @@ behind_were s all ls x front_is e =
 front_were : (ls : Lines) (x : Read PartyKeys) → keys_at ls ≡ Ok x → AreAtFront ls x
 unfolding keys_at
 front_were ls x e =
-    let s = bound (setting_at ls) (λ (s : KeyLines × Lines). keys_after s.0 s.1) x e in
-    behind_were s.0.0 ls s.0.1 x (setting_was ls s.0.1 s.0.0 s.1) s.2
+    let s = bound (setting_at ls) (λ (s : Read KeyLines). keys_after s.value s.next s.rest) x e in
+    behind_were s.0.value s.0.next ls s.0.rest x (setting_was ls s.0 s.1) s.2
 
 pub ended_was : {A : Type 0} (a : A) (n : ℕ) (ls : Lines) (b : A) → ended a n ls ≡ Ok b → (ls ≡ []) × (a ≡ b)
 ended_was a n [] b e = (refl, same_ok a b e)
@@ -430,7 +502,7 @@ unfolding node_in
 nodes_are_read n good =
     let k = n.keys in
     let tail : Lines = command_lines n.commands in
-    let last = after_secret k.secret + 2 * length k.peers + length k.publics in
+    let last = after_secret (behind_head k) k.secret + 2 * length k.peers + length k.publics in
     let all : node_lines n ≡ cluster_lines k ++ (name_lines k ++ (secret_lines k.secret ++ (flat_map peer_lines k.peers ++ (public_lines 0 k.publics ++ tail)))) =
     sym (joined (cluster_lines k) (name_lines k) (secret_lines k.secret) (flat_map peer_lines k.peers) (public_lines 0 k.publics) tail) in
     let behind : Read PartyKeys → Result NodeText NodeFault = λ x. commands_at x.value.me [] x.next x.rest >>= λ (cs : Lines). Ok (node_of x.value cs) in

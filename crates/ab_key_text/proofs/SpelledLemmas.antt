@@ -91,17 +91,17 @@ secret_read s id seed =
     ap (option_and_then secret_text_in) (stripped-is (codes "secret ") (secret_line s) text refl)
     ∙ (λ j. secret_of_parts (front j) (back j))
 
-abbrev pub after_secret : Option Secret → ℕ
-after_secret None = 8
-after_secret (Some s) = 9
+abbrev pub after_secret : ℕ → Option Secret → ℕ
+after_secret n None = n
+after_secret n (Some s) = n + 1
 
-pub secret_at_read : (me : Party) (s : Option Secret) (rest : Rest) → IsSecretOf me s → secret_at me (secret_lines s ++ rest) ≡ Ok (record { value = s; next = after_secret s; rest = rest })
-secret_at_read (Client c) None rest good = refl
-secret_at_read (Client c) (Some s) rest good = absurd good
-secret_at_read (Replica r) None rest good = absurd good
-secret_at_read (Replica r) (Some s) rest good =
-    ap (λ (x : Result (Secret × Rest) NodeFault). x >>= λ secret. Ok (record { value = Some secret.0; next = 9; rest = secret.1 }))
-    (line_read secret_in 8 (secret_line s) rest s (secret_read s good.0 good.1))
+pub secret_at_read : (me : Party) (n : ℕ) (s : Option Secret) (rest : Rest) → IsSecretOf me s → secret_at me n (secret_lines s ++ rest) ≡ Ok (record { value = s; next = after_secret n s; rest = rest })
+secret_at_read (Client c) n None rest good = refl
+secret_at_read (Client c) n (Some s) rest good = absurd good
+secret_at_read (Replica r) n None rest good = absurd good
+secret_at_read (Replica r) n (Some s) rest good =
+    ap (λ (x : Result (Secret × Rest) NodeFault). x >>= λ secret. Ok (record { value = Some secret.0; next = n + 1; rest = secret.1 }))
+    (line_read secret_in n (secret_line s) rest s (secret_read s good.0 good.1))
 
 -- ---- the head
 

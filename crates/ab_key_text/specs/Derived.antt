@@ -24,11 +24,12 @@ unfoldable pub public_of : Scheme → List ℕ → ℕ → List ℕ
 public_of lms seed r = public_by lms (tree_name seed r) (tree_seed seed r)
 
 -- what me keeps
-abbrev pub keys_of : ℕ → ℕ → Plan → ServiceName → Scheme → List ℕ → Party → PartyKeys
-keys_of f clients plan service lms seed me = record {
+abbrev pub keys_of : ℕ → ℕ → Plan → ℕ → ServiceName → Scheme → List ℕ → Party → PartyKeys
+keys_of f clients plan every service lms seed me = record {
   f = f;
   clients = clients;
   plan = plan;
+  every = every;
   service = service;
   lms = lms;
   me = me;

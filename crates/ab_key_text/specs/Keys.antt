@@ -1,5 +1,5 @@
 -- What one party of a cluster keeps: its keys, and the public keys of the replicas.
-use Rattle.std.specs.Prelude.{◌≡◌, ℕ, ◌+◌, ◌*◌, ◌<◌, List, map, Option, None, Some, All, IsTrue, length}
+use Rattle.std.specs.Prelude.{◌≡◌, ℕ, ◌+◌, ◌*◌, ◌<◌, ◌≤◌, List, map, Option, None, Some, All, IsTrue, length}
 use Rattle.std.specs.List.{AllByRecursion, filter, range_with_len}
 use Rattle.ab_num.specs.declared.party.Party.{Party}
 use Rattle.ab_num.specs.declared.party.Party.TheVariants.{Replica, Client}
@@ -10,17 +10,19 @@ use Rattle.ab_num.specs.Bounds.{IsInBounds}
 use Rattle.ab_keys.specs.Keys.{is_party, exchanges}
 use Rattle.ab_keys.specs.Rings.{Peer, Ring, parties}
 use Rattle.ab_scheme.specs.Schemes.{public_length}
+use Rattle.ab_text.specs.Heads.{most_built}
 
 -- the name of a signer's tree, and the seed of its private values
 pub record Secret : Type 0 where
   pub id : List ℕ
   pub seed : List ℕ
 
--- the cluster of a party, its service and how its replicas sign, the party, its secret, what it shares with each of its peers, and the public key of each replica
+-- the cluster of a party, in which a checkpoint is due after `every` requests (0: never), its service and how its replicas sign, the party, its secret, what it shares with each of its peers, and the public key of each replica
 pub record PartyKeys : Type 0 where
   pub f : ℕ
   pub clients : ℕ
   pub plan : Plan
+  pub every : ℕ
   pub service : ServiceName
   pub lms : Scheme
   pub me : Party
@@ -52,9 +54,10 @@ IsSecretOf (Replica r) (Some s) = IsBytes 16 s.id × IsBytes 32 s.seed
 IsSecretOf (Client c) None = Unit {0}
 IsSecretOf (Client c) (Some s) = ⊥
 
--- a party of the cluster, with two keys for each of its peers and a public key of each replica, as long as the scheme has it
+-- a party of a cluster whose checkpoints are built, with two keys for each of its peers and a public key of each replica, as long as the scheme has it
 pub record IsPartyKeys (k : PartyKeys) : Type 0 where
   pub bounds : IsInBounds k.f k.clients
+  pub dense : k.every ≤ most_built k.plan
   pub party : IsTrue (is_party k.f k.clients k.me)
   pub secret : IsSecretOf k.me k.secret
   pub peers : map (λ x. x.party) k.peers ≡ peers_in k.f k.clients k.me

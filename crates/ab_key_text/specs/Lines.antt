@@ -5,9 +5,9 @@ use Rattle.ab_num.specs.declared.party.Party.{Party}
 use Rattle.ab_num.specs.declared.party.Party.TheVariants.{Replica, Client}
 use Rattle.ab_num.specs.declared.plan.Scheme.{Scheme}
 use Rattle.ab_key_text.specs.declared.version.KeyVersion.{KeyVersion}
-use Rattle.ab_key_text.specs.declared.version.KeyVersion.TheVariants.{One, Two}
+use Rattle.ab_key_text.specs.declared.version.KeyVersion.TheVariants.{One, Two, Three}
 use Rattle.ab_text.specs.Cores.{party_text}
-use Rattle.ab_text.specs.Heads.{stripped, number_after, one_level, two_levels}
+use Rattle.ab_text.specs.Heads.{stripped, number_after, one_level, two_levels, schemes}
 use Rattle.ab_key_text.specs.declared.fault.NodeFault.{NodeFault}
 use Rattle.ab_key_text.specs.declared.fault.NodeFault.TheVariants.{BadLine, NoEnd, OutOfMemory}
 use Rattle.ab_text.specs.HexBytes.{bytes_in}
@@ -27,10 +27,11 @@ abbrev pub line_at : {A : Type 0} → (List ℕ → Option A) → ℕ → List (
 line_at read n [] = Err (NoEnd n)
 line_at read n (l ∷ ls) = found_at n ls (read l)
 
--- the schemes of which this is the least version
+-- the schemes that a text of this version may name
 abbrev pub own_schemes : KeyVersion → List Scheme
 own_schemes One = one_level
 own_schemes Two = two_levels
+own_schemes Three = schemes
 
 abbrev pub bounded : ℕ → ℕ → Option ℕ → Option ℕ
 bounded low high None = None

@@ -9,7 +9,9 @@ use Rattle.ab_num.specs.declared.plan.Scheme.{Scheme}
 use Rattle.ab_keys.specs.Keys.{is_party}
 use Rattle.ab_keys.specs.Rings.{Peer}
 use Rattle.ab_scheme.specs.Schemes.{public_length}
-use Rattle.ab_text.specs.Heads.{spelled_in, stripped, plan_line, plans, service_line, services, lms_line}
+use Rattle.ab_text.specs.Heads.{spelled_in, stripped, plan_line, plans, service_line, services, lms_line, most_built}
+use Rattle.ab_key_text.specs.declared.version.KeyVersion.{KeyVersion}
+use Rattle.ab_key_text.specs.declared.version.KeyVersion.TheVariants.{One, Two, Three}
 use Rattle.ab_key_text.specs.declared.fault.KeyFault.{KeyFault}
 use Rattle.ab_key_text.specs.declared.fault.KeyFault.TheVariants as key_fault
 use Rattle.ab_key_text.specs.declared.fault.NodeFault.{NodeFault}
@@ -18,14 +20,15 @@ use Rattle.ab_text.specs.HexBytes.{bytes_in}
 use Rattle.ab_key_text.specs.Keys.{Secret, PartyKeys, peers_in, replicas}
 use Rattle.ab_key_text.specs.Lines.{◌>>=◌, line_at, own_schemes, number_in, party_in, bytes_after, key_in}
 use Rattle.ab_key_text.specs.Spelling.{keys_line}
-use Rattle.ab_key_text.specs.Versions.{key_versions}
+use Rattle.ab_key_text.specs.Versions.{key_versions, key_head_count}
 
--- lines 1 to 7
+-- the lines before the keys
 pub record KeyLines : Type 0 where
   pub me : Party
   pub f : ℕ
   pub clients : ℕ
   pub plan : Plan
+  pub every : ℕ
   pub service : ServiceName
   pub lms : Scheme
 
@@ -33,7 +36,19 @@ pub record KeyLines : Type 0 where
 abbrev pub member : ℕ → ℕ → Party → Result (Unit {0}) NodeFault
 member f clients me = if is_party f clients me then Ok tt else Err (BadLine 2)
 
-unfoldable pub setting_at : List (List ℕ) → Result (KeyLines × List (List ℕ)) NodeFault
+-- after how many requests a checkpoint is due: version 3 has a line for it, with no more than what is built of the plan
+abbrev pub every_at : KeyVersion → Plan → List (List ℕ) → Result (ℕ × List (List ℕ)) NodeFault
+every_at One plan ls = Ok (0, ls)
+every_at Two plan ls = Ok (0, ls)
+every_at Three plan ls = line_at (number_in (codes "checkpoint ") 1 (most_built plan)) 8 ls
+
+-- what was read, the number of the next line, and the lines from it on
+pub record Read (A : Type 0) : Type 0 where
+  pub value : A
+  pub next : ℕ
+  pub rest : List (List ℕ)
+
+unfoldable pub setting_at : List (List ℕ) → Result (Read KeyLines) NodeFault
 setting_at ls = do
   version ← line_at (spelled_in keys_line key_versions) 1 ls
   me ← line_at (λ l. option_and_then party_in (stripped (codes "party ") l)) 2 version.1
@@ -43,7 +58,12 @@ setting_at ls = do
   plan ← line_at (spelled_in plan_line plans) 5 clients.1
   service ← line_at (spelled_in service_line services) 6 plan.1
   lms ← line_at (spelled_in lms_line (own_schemes version.0)) 7 service.1
-  Ok (record { me = me.0; f = f.0; clients = clients.0; plan = plan.0; service = service.0; lms = lms.0 }, lms.1)
+  every ← every_at version.0 plan.0 lms.1
+  Ok (record {
+    value = record { me = me.0; f = f.0; clients = clients.0; plan = plan.0; every = every.0; service = service.0; lms = lms.0 };
+    next = key_head_count version.0 + 1;
+    rest = every.1;
+  })
 
 -- 16 bytes, a space and 32 bytes
 abbrev pub secret_of_parts : Option (List ℕ) → Option (List ℕ) → Option Secret
@@ -57,18 +77,12 @@ secret_text_in text = secret_of_parts (bytes_in 16 (take 32 text)) (bytes_after 
 abbrev pub secret_in : List ℕ → Option Secret
 secret_in l = option_and_then secret_text_in (stripped (codes "secret ") l)
 
--- what was read, the number of the next line, and the lines from it on
-pub record Read (A : Type 0) : Type 0 where
-  pub value : A
-  pub next : ℕ
-  pub rest : List (List ℕ)
-
--- a replica's secret stands in line 8, and a client has none
-abbrev pub secret_at : Party → List (List ℕ) → Result (Read (Option Secret)) NodeFault
-secret_at (Client c) ls = Ok (record { value = None; next = 8; rest = ls })
-secret_at (Replica r) ls = do
-  secret ← line_at secret_in 8 ls
-  Ok (record { value = Some secret.0; next = 9; rest = secret.1 })
+-- a replica's secret stands in line n, and a client has none
+abbrev pub secret_at : Party → ℕ → List (List ℕ) → Result (Read (Option Secret)) NodeFault
+secret_at (Client c) n ls = Ok (record { value = None; next = n; rest = ls })
+secret_at (Replica r) n ls = do
+  secret ← line_at secret_in n ls
+  Ok (record { value = Some secret.0; next = n + 1; rest = secret.1 })
 
 -- from line n on the keys of these parties, after those that were read
 abbrev pub peers_at : List Party → List Peer → ℕ → List (List ℕ) → Result (Read (List Peer)) NodeFault
@@ -90,6 +104,7 @@ put_together s secret peers publics = record {
   f = s.f;
   clients = s.clients;
   plan = s.plan;
+  every = s.every;
   service = s.service;
   lms = s.lms;
   me = s.me;
@@ -98,10 +113,10 @@ put_together s secret peers publics = record {
   publics = publics;
 }
 
--- the lines after those of the head
-unfoldable pub keys_after : KeyLines → List (List ℕ) → Result (Read PartyKeys) NodeFault
-keys_after s ls = do
-  secret ← secret_at s.me ls
+-- from line n on what comes after the head
+unfoldable pub keys_after : KeyLines → ℕ → List (List ℕ) → Result (Read PartyKeys) NodeFault
+keys_after s n ls = do
+  secret ← secret_at s.me n ls
   peers ← peers_at (peers_in s.f s.clients s.me) [] secret.next secret.rest
   publics ← publics_at (public_length s.lms) (replicas s.f) [] peers.next peers.rest
   Ok (record { value = put_together s secret.value peers.value publics.value; next = publics.next; rest = publics.rest })
@@ -110,7 +125,7 @@ keys_after s ls = do
 unfoldable pub keys_at : List (List ℕ) → Result (Read PartyKeys) NodeFault
 keys_at ls = do
   setting ← setting_at ls
-  keys_after setting.0 setting.1
+  keys_after setting.value setting.next setting.rest
 
 -- nothing comes after them
 abbrev pub ended : {A : Type 0} → A → ℕ → List (List ℕ) → Result A NodeFault

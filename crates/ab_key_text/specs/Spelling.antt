@@ -1,13 +1,13 @@
 -- The lines of a key text.
-use Rattle.std.specs.Prelude.{ℕ, ◌+◌, List, [], ◌∷◌, ◌++◌, Option, None, Some, codes, decimal, flat_map}
+use Rattle.std.specs.Prelude.{ℕ, ◌+◌, List, [], ◌∷◌, ◌++◌, Option, None, Some, codes, decimal, flat_map, nat_eq, if◌then◌else◌}
 use Rattle.ab_num.specs.declared.party.Party.{Party}
 use Rattle.ab_num.specs.declared.party.Party.TheVariants.{Replica}
 use Rattle.hex.specs.Hex.{encode_lower}
 use Rattle.ab_keys.specs.Rings.{Peer}
 use Rattle.ab_text.specs.Cores.{party_text}
 use Rattle.ab_key_text.specs.declared.version.KeyVersion.{KeyVersion}
-use Rattle.ab_key_text.specs.declared.version.KeyVersion.TheVariants.{One, Two}
-use Rattle.ab_text.specs.Heads.{plan_line, service_line, lms_line}
+use Rattle.ab_key_text.specs.declared.version.KeyVersion.TheVariants.{One, Two, Three}
+use Rattle.ab_text.specs.Heads.{plan_line, service_line, lms_line, checkpoint_line}
 use Rattle.ab_key_text.specs.Keys.{Secret, PartyKeys}
 use Rattle.ab_key_text.specs.Versions.{key_version_of}
 
@@ -34,13 +34,18 @@ public_lines r (key ∷ keys) = key_line (codes "public ") (Replica r) key ∷ p
 abbrev pub keys_line : KeyVersion → List ℕ
 keys_line One = codes "keys 1"
 keys_line Two = codes "keys 2"
+keys_line Three = codes "keys 3"
 
--- the first line is the least that has the scheme
+-- the first line is the least that has the scheme and the checkpoints
 abbrev pub cluster_lines : PartyKeys → List (List ℕ)
-cluster_lines k = keys_line (key_version_of k.lms) ∷ (codes "party " ++ party_text k.me) ∷ (codes "f " ++ decimal k.f) ∷ (codes "clients " ++ decimal k.clients) ∷ []
+cluster_lines k = keys_line (key_version_of k.every k.lms) ∷ (codes "party " ++ party_text k.me) ∷ (codes "f " ++ decimal k.f) ∷ (codes "clients " ++ decimal k.clients) ∷ []
+
+-- where a checkpoint is never due, no line says so
+abbrev pub checkpoint_lines : ℕ → List (List ℕ)
+checkpoint_lines every = if nat_eq every 0 then [] else checkpoint_line every ∷ []
 
 abbrev pub name_lines : PartyKeys → List (List ℕ)
-name_lines k = plan_line k.plan ∷ service_line k.service ∷ lms_line k.lms ∷ []
+name_lines k = plan_line k.plan ∷ service_line k.service ∷ lms_line k.lms ∷ checkpoint_lines k.every
 
 abbrev pub key_lines : PartyKeys → List (List ℕ)
 key_lines k = cluster_lines k ++ (name_lines k ++ (secret_lines k.secret ++ (flat_map peer_lines k.peers ++ public_lines 0 k.publics)))

@@ -13,7 +13,6 @@ use crate::shared::Shared;
 use ab_keys::{key_of, tree_name, tree_seed};
 use ab_num::{Cluster, OutOfMemory, Party, Scheme, ServiceName};
 use ab_scheme::PublicKey;
-use ab_text::cluster_of;
 use std::alloc::Global;
 
 /// The secret that a seed gives to replica `r`.
@@ -75,7 +74,8 @@ fn peers_of(
 }
 
 impl PartyKeys {
-    /// The keys that a seed gives to the party `me`. It computes the tree of each replica.
+    /// The keys that a seed gives to the party `me`. It computes the tree of each replica. If `c.every` is above
+    /// `ab_text::most_built` of the plan, the text of these keys isn't read.
     pub fn derive(
         alloc: Global,
         c: &Cluster,
@@ -85,12 +85,12 @@ impl PartyKeys {
         me: Party,
     ) -> Result<PartyKeys, OutOfMemory>
         requires { IsTrue (is_party c.now.f c.now.clients me) }
-        ensures { IfOk result (λ k. k ≡ keys_of c.now.f c.now.clients c.now.plan service lms seed.now me) }
+        ensures { IfOk result (λ k. k ≡ keys_of c.now.f c.now.clients c.now.plan c.now.every service lms seed.now me) }
     {
         let peers = peers_of(alloc, c, seed, me)?;
         let publics = publics_of(alloc, c, lms, seed)?;
         Ok(PartyKeys {
-            cluster: cluster_of(c.f, c.clients, c.plan, 0),
+            cluster: *c,
             service,
             lms,
             me,
@@ -99,6 +99,7 @@ impl PartyKeys {
             publics,
         })
     }
+
     /// The keys that the seed of these keys gives to another party of the cluster. The public keys are the same, and no tree
     /// is computed.
     pub fn for_party(

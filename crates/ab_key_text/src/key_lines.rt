@@ -1,4 +1,4 @@
-//! Lines 1 to 7 of a key text.
+//! The lines of a key text that come before the keys.
 
 ghost use Rattle.std.specs.Prelude.{◌≡◌, ◌≤◌, IfOk, length};
 ghost use Rattle.ab_keys.specs.Keys.{is_party};
@@ -11,10 +11,11 @@ ghost use Rattle.ab_key_text.specs.Versions.{key_versions};
 
 use crate::fault::NodeFault;
 use crate::keys::PartyKeys;
-use crate::lines::{number_at, party_at, plan_at, scheme_at, service_at};
+use crate::lines::{every_at, number_at, party_at, plan_at, scheme_at, service_at};
+use crate::reading::Read;
 use crate::secret::Secret;
 use crate::shared::Shared;
-use crate::version::KeyVersion;
+use crate::version::{KeyVersion, head_count};
 use ab_keys::is_party;
 use ab_num::{Cluster, Party, Plan, Scheme, ServiceName};
 use ab_scheme::PublicKey;
@@ -31,7 +32,7 @@ pub(crate) struct KeyLines {
 }
 
 impl Model for KeyLines {
-    ghost use Rattle.std.specs.Prelude.{IsTrue, ◌≡◌};
+    ghost use Rattle.std.specs.Prelude.{IsTrue};
     ghost use Rattle.ab_keys.specs.Keys.{is_party as is_member};
     ghost use Rattle.ab_key_text.specs.Reading.{KeyLines as SettingValue};
 
@@ -42,11 +43,12 @@ impl Model for KeyLines {
       f = s.cluster.f;
       clients = s.cluster.clients;
       plan = s.cluster.plan;
+      every = s.cluster.every;
       service = s.service;
       lms = s.lms;
     } };
 
-    ghost invariant = { λ s. IsTrue (is_member s.cluster.f s.cluster.clients s.me) × (s.cluster.every ≡ 0) };
+    ghost invariant = { λ s. IsTrue (is_member s.cluster.f s.cluster.clients s.me) };
 }
 
 /// The version that a first line names.
@@ -59,6 +61,9 @@ fn version_in(line: &[u8]) -> Option<KeyVersion>
     }
     if line == b"keys 2".as_slice() {
         return Some(KeyVersion::Two);
+    }
+    if line == b"keys 3".as_slice() {
+        return Some(KeyVersion::Three);
     }
     None
 }
@@ -77,11 +82,12 @@ fn version_at(text: &[u8]) -> Result<(KeyVersion, &[u8]), NodeFault>
     }
 }
 
-/// What seven lines set up, and what comes after them.
+/// What the lines before the keys set up, and what comes after them.
 #[tactic(auto, unfolding(crate::specs::Reading::setting_at))]
-pub(crate) fn setting_of(text: &[u8]) -> Result<(KeyLines, &[u8]), NodeFault>
-    ensures reads { Gives (λ p. (p.0, lines_of p.1.now)) result (setting_at (lines_of text.now)) }
-    ensures shorter { IfOk result (λ p. length p.1.now ≤ length text.now) }
+pub(crate) fn setting_of(text: &[u8]) -> Result<Read<'_, KeyLines>, NodeFault>
+    ensures reads { Gives (λ p. record { value = p.value; next = p.next; rest = lines_of p.rest.now }) result (setting_at (lines_of text.now)) }
+    ensures few { IfOk result (λ p. p.next ≤ 9) }
+    ensures shorter { IfOk result (λ p. length p.rest.now ≤ length text.now) }
 {
     let (version, rest) = version_at(text)?;
     let (me, rest) = party_at(rest, 2)?;
@@ -94,16 +100,18 @@ pub(crate) fn setting_of(text: &[u8]) -> Result<(KeyLines, &[u8]), NodeFault>
     let (plan, rest) = plan_at(rest, 5)?;
     let (service, rest) = service_at(rest, 6)?;
     let (lms, rest) = scheme_at(rest, version, 7)?;
-    let cluster = cluster_of(f as u8, clients as u16, plan, 0);
-    Ok((
-        KeyLines {
+    let (every, rest) = every_at(rest, version, plan)?;
+    let cluster = cluster_of(f as u8, clients as u16, plan, every);
+    Ok(Read {
+        value: KeyLines {
             me,
             cluster,
             service,
             lms,
         },
+        next: head_count(version) + 1,
         rest,
-    ))
+    })
 }
 
 impl KeyLines {

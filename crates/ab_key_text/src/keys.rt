@@ -27,7 +27,7 @@ pub struct PartyKeys {
 }
 
 impl Model for PartyKeys {
-    ghost use Rattle.std.specs.Prelude.{IsTrue, ◌≡◌};
+    ghost use Rattle.std.specs.Prelude.{IsTrue};
     ghost use Rattle.ab_keys.specs.Keys.{is_party as is_member};
     ghost use Rattle.ab_key_text.specs.Keys.{PartyKeys as KeysValue};
 
@@ -37,6 +37,7 @@ impl Model for PartyKeys {
       f = k.cluster.f;
       clients = k.cluster.clients;
       plan = k.cluster.plan;
+      every = k.cluster.every;
       service = k.service;
       lms = k.lms;
       me = k.me;
@@ -45,16 +46,16 @@ impl Model for PartyKeys {
       publics = k.publics.items;
     } };
 
-    ghost invariant = { λ k. IsTrue (is_member k.cluster.f k.cluster.clients k.me) × (k.cluster.every ≡ 0) };
+    ghost invariant = { λ k. IsTrue (is_member k.cluster.f k.cluster.clients k.me) };
 }
 
 impl PartyKeys {
-    /// The cluster, in which no checkpoint is due.
+    /// The cluster.
     pub fn cluster(&self) -> &Cluster
         ensures f { result.now.f ≡ self.now.f }
         ensures clients { result.now.clients ≡ self.now.clients }
         ensures plan { result.now.plan ≡ self.now.plan }
-        ensures every { result.now.every ≡ 0 }
+        ensures every { result.now.every ≡ self.now.every }
     {
         &self.cluster
     }

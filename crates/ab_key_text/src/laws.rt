@@ -9,6 +9,7 @@ ghost use Rattle.ab_num.specs.declared.plan.ServiceName.{ServiceName as Service}
 ghost use Rattle.ab_num.specs.declared.plan.Scheme.{Scheme as TheScheme};
 ghost use Rattle.ab_num.specs.Bounds.{IsInBounds};
 ghost use Rattle.ab_keys.specs.Keys.{is_party};
+ghost use Rattle.ab_text.specs.Heads.{most_built};
 ghost use Rattle.ab_text.specs.Lines.{lines_of};
 ghost use Rattle.ab_key_text.specs.Derived.{keys_of};
 ghost use Rattle.ab_key_text.specs.Keys.{IsWhole, IsPartyKeys, PartyKeys as TheKeys};
@@ -66,12 +67,12 @@ pub fn written_nodes_are_read()
 /// key of each replica.
 pub fn keys_are_whole()
     ensures read { (ls : List (List ℕ)) (n : NodeText) → node_in ls ≡ Ok n → IsWhole n.keys }
-    ensures derived { (f clients : ℕ) (plan : ThePlan) (service : Service) (lms : TheScheme) (seed : List ℕ) (me : TheParty) → IsWhole (keys_of f clients plan service lms seed me) }
+    ensures derived { (f clients : ℕ) (plan : ThePlan) (every : ℕ) (service : Service) (lms : TheScheme) (seed : List ℕ) (me : TheParty) → IsWhole (keys_of f clients plan every service lms seed me) }
 {}
 
-/// The keys that a seed gives to a party of a cluster are in form. So what is written of them is read as
-/// these keys.
+/// The keys that a seed gives to a party of a cluster are in form, if its checkpoints are built. So what is
+/// written of them is read as these keys.
 pub fn derived_keys_are_in_form()
-    ensures { (f clients : ℕ) (plan : ThePlan) (service : Service) (lms : TheScheme) (seed : List ℕ) (me : TheParty) → IsInBounds f clients → IsTrue (is_party f clients me)
-        → IsPartyKeys (keys_of f clients plan service lms seed me) }
+    ensures { (f clients : ℕ) (plan : ThePlan) (every : ℕ) (service : Service) (lms : TheScheme) (seed : List ℕ) (me : TheParty)
+        → IsInBounds f clients → every ≤ most_built plan → IsTrue (is_party f clients me) → IsPartyKeys (keys_of f clients plan every service lms seed me) }
 {}

@@ -5,7 +5,7 @@ ghost use Rattle.std.specs.Option.{option_and_then};
 ghost use Rattle.ab_text.specs.Heads.{lms_line, plan_line, plans, service_line, services, spelled_in, stripped};
 ghost use Rattle.ab_text.specs.Lines.{lines_of};
 ghost use Rattle.ab_key_text.specs.Lines.{Gives, key_in, line_at, number_in, own_schemes, party_in};
-ghost use Rattle.ab_key_text.specs.Reading.{secret_in};
+ghost use Rattle.ab_key_text.specs.Reading.{every_at, secret_in};
 ghost use Rattle.ab_scheme.specs.Schemes.{public_length};
 
 use crate::fault::NodeFault;
@@ -14,7 +14,7 @@ use crate::secret::Secret;
 use crate::version::KeyVersion;
 use ab_num::{Party, Plan, Scheme, ServiceName};
 use ab_scheme::PublicKey;
-use ab_text::{next_line, one_level_in, plan_in, service_in, two_levels_in};
+use ab_text::{most_built, next_line, one_level_in, plan_in, scheme_in, service_in, two_levels_in};
 
 /// The number of line `n`, after its word, and what comes after that line.
 pub fn number_at<'a>(
@@ -80,17 +80,18 @@ pub(crate) fn service_at<'a>(text: &'a [u8], n: u32) -> Result<(ServiceName, &'a
     }
 }
 
-/// The scheme that a line names, where this is the least version that has it.
+/// The scheme that a line names, where a text of this version may name it.
 fn own_scheme_in(version: KeyVersion, line: &[u8]) -> Option<Scheme>
     ensures { result ≡ spelled_in lms_line (own_schemes version) line.now }
 {
     match version {
         KeyVersion::One => one_level_in(line),
         KeyVersion::Two => two_levels_in(line),
+        KeyVersion::Three => scheme_in(line),
     }
 }
 
-/// The scheme of line `n`, of which this is the least version, and what comes after that line.
+/// The scheme of line `n` in a text of this version, and what comes after that line.
 pub(crate) fn scheme_at<'a>(
     text: &'a [u8],
     version: KeyVersion,
@@ -105,6 +106,26 @@ pub(crate) fn scheme_at<'a>(
             None => Err(NodeFault::BadLine(n)),
             Some(found) => Ok((found, rest)),
         },
+    }
+}
+
+/// After how many requests a checkpoint is due (0: never), and what comes after line 8, which says it if the version has
+/// such a line.
+pub(crate) fn every_at(
+    text: &[u8],
+    version: KeyVersion,
+    plan: Plan,
+) -> Result<(u16, &[u8]), NodeFault>
+    ensures reads { Gives (λ p. (p.0, lines_of p.1.now)) result (every_at version plan (lines_of text.now)) }
+    ensures few { IfOk result (λ p. p.0 ≤ 128) }
+    ensures shorter { IfOk result (λ p. length p.1.now ≤ length text.now) }
+{
+    match version {
+        KeyVersion::One | KeyVersion::Two => Ok((0, text)),
+        KeyVersion::Three => {
+            let (every, rest) = number_at(text, b"checkpoint ", 1, most_built(plan), 8)?;
+            Ok((every as u16, rest))
+        }
     }
 }
 

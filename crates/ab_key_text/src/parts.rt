@@ -123,7 +123,7 @@ fn secret_text_in(text: &[u8]) -> Option<Secret>
     }
 }
 
-/// The secret of line 8.
+/// The secret of a line.
 pub(crate) fn secret_in(line: &[u8]) -> Option<Secret>
     ensures { result ≡ secret_in line.now }
 {

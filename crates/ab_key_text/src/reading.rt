@@ -27,23 +27,24 @@ pub struct Read<'a, T> {
     pub rest: &'a [u8],
 }
 
-/// The secret of a replica, from line 8 on.
-fn secret_of(text: &[u8], me: Party) -> Result<Read<'_, Option<Secret>>, NodeFault>
-    ensures reads { Gives (λ p. record { value = p.value; next = p.next; rest = lines_of p.rest.now }) result (secret_at me (lines_of text.now)) }
-    ensures few { IfOk result (λ p. p.next ≤ 9) }
+/// The secret of a replica, from line `first` on.
+fn secret_of(text: &[u8], me: Party, first: u32) -> Result<Read<'_, Option<Secret>>, NodeFault>
+    requires { first ≤ 9 }
+    ensures reads { Gives (λ p. record { value = p.value; next = p.next; rest = lines_of p.rest.now }) result (secret_at me first (lines_of text.now)) }
+    ensures few { IfOk result (λ p. p.next ≤ 10) }
     ensures shorter { IfOk result (λ p. length p.rest.now ≤ length text.now) }
 {
     match me {
         Party::Client(_) => Ok(Read {
             value: None,
-            next: 8,
+            next: first,
             rest: text,
         }),
         Party::Replica(_) => {
-            let (secret, rest) = secret_line_at(text, 8)?;
+            let (secret, rest) = secret_line_at(text, first)?;
             Ok(Read {
                 value: Some(secret),
-                next: 9,
+                next: first + 1,
                 rest,
             })
         }
@@ -111,20 +112,22 @@ pub fn publics_of<'a>(
     })
 }
 
-/// The keys of a party, from line 8 on.
+/// The keys of a party, from line `first` on.
 #[tactic(auto, unfolding(crate::specs::Reading::keys_after))]
 fn keys_after(
     alloc: Global,
     setting: KeyLines,
     text: &[u8],
+    first: u32,
 ) -> Result<Read<'_, PartyKeys>, NodeFault>
-    ensures reads { Gives (λ p. record { value = p.value; next = p.next; rest = lines_of p.rest.now }) result (keys_after setting (lines_of text.now)) }
+    requires { first ≤ 9 }
+    ensures reads { Gives (λ p. record { value = p.value; next = p.next; rest = lines_of p.rest.now }) result (keys_after setting first (lines_of text.now)) }
     ensures few { IfOk result (λ p. p.next < 2 ^ 16) }
     ensures shorter { IfOk result (λ p. length p.rest.now ≤ length text.now) }
 {
     let replicas = replicas(alloc, setting.cluster())?;
     let others = peers_in(alloc, setting.cluster(), setting.me())?;
-    let secret = secret_of(text, setting.me())?;
+    let secret = secret_of(text, setting.me(), first)?;
     let shared = peers_of(alloc, secret.rest, &others, secret.next)?;
     let publics = publics_of(alloc, shared.rest, setting.scheme(), &replicas, shared.next)?;
     Ok(Read {
@@ -141,8 +144,8 @@ pub(crate) fn keys_at(alloc: Global, text: &[u8]) -> Result<Read<'_, PartyKeys>,
     ensures few { IfOk result (λ p. p.next < 2 ^ 16) }
     ensures shorter { IfOk result (λ p. length p.rest.now ≤ length text.now) }
 {
-    let (setting, rest) = setting_of(text)?;
-    keys_after(alloc, setting, rest)
+    let setting = setting_of(text)?;
+    keys_after(alloc, setting.value, setting.rest, setting.next)
 }
 
 /// The keys that a text spells, to its end.

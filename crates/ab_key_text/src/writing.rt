@@ -2,7 +2,8 @@
 
 ghost use Rattle.std.specs.Prelude.{◌≡◌, ◌+◌, ◌++◌, ◌∷◌, [], IfOk, OnOk, flat_map, string_bytes};
 ghost use Rattle.ab_num.specs.declared.party.Party.TheVariants.{Replica};
-ghost use Rattle.ab_key_text.specs.Spelling.{cluster_lines, key_line, key_lines, keys_line, name_lines, peer_lines, public_lines, secret_line, secret_lines};
+ghost use Rattle.ab_key_text.specs.Spelling.{checkpoint_lines, cluster_lines, key_line, key_lines, keys_line, name_lines, peer_lines, public_lines, secret_line, secret_lines};
+ghost use Rattle.ab_text.specs.Heads.{checkpoint_line};
 ghost use Rattle.ab_text.specs.Texts.{text_of};
 
 use crate::keys::PartyKeys;
@@ -40,6 +41,13 @@ fn secret_string(alloc: Global, secret: &Secret) -> Result<String, AllocError>
     format!(in alloc; "secret {id} {seed}")
 }
 
+/// The line of checkpoints.
+fn checkpoint_string(alloc: Global, every: u16) -> Result<String, AllocError>
+    ensures { IfOk result (λ s. string_bytes s ≡ checkpoint_line every) }
+{
+    format!(in alloc; "checkpoint {every}")
+}
+
 /// The first line of a key text.
 fn keys_text(version: KeyVersion) -> &'static str
     ensures { result.now ≡ keys_line version }
@@ -47,6 +55,7 @@ fn keys_text(version: KeyVersion) -> &'static str
     match version {
         KeyVersion::One => "keys 1",
         KeyVersion::Two => "keys 2",
+        KeyVersion::Three => "keys 3",
     }
 }
 
@@ -80,20 +89,32 @@ impl PartyKeys {
         let party = format!(in alloc; "party {me}")?;
         let faulty = format!(in alloc; "f {f}")?;
         let count = format!(in alloc; "clients {clients}")?;
-        add_line(out, keys_text(key_version_of(self.lms)))?;
+        add_line(out, keys_text(key_version_of(self.cluster.every, self.lms)))?;
         add_line(out, party.as_str())?;
         add_line(out, faulty.as_str())?;
         add_line(out, count.as_str())?;
         Ok(())
     }
 
-    /// Adds the next three.
-    fn add_names(&self, out: &mut Vec<u8>) -> Result<(), OutOfMemory>
+    /// Adds the line of checkpoints, if any are due.
+    fn add_checkpoint(&self, out: &mut Vec<u8>, alloc: Global) -> Result<(), OutOfMemory>
+        ensures { OnOk result (out.new.items ≡ out.old.items ++ text_of (checkpoint_lines self.now.every)) }
+    {
+        if self.cluster.every == 0 {
+            return Ok(());
+        }
+        let line = checkpoint_string(alloc, self.cluster.every)?;
+        add_line(out, line.as_str())
+    }
+
+    /// Adds the next three, and the line of checkpoints.
+    fn add_names(&self, out: &mut Vec<u8>, alloc: Global) -> Result<(), OutOfMemory>
         ensures { OnOk result (out.new.items ≡ out.old.items ++ text_of (name_lines self.now)) }
     {
         add_line(out, plan_text(self.cluster.plan))?;
         add_line(out, service_text(self.service))?;
-        add_line(out, scheme_text(self.lms))
+        add_line(out, scheme_text(self.lms))?;
+        self.add_checkpoint(out, alloc)
     }
 
     /// Adds the line of a replica's secret.
@@ -136,7 +157,7 @@ impl PartyKeys {
     {
         let mut out = Vec::new(alloc);
         self.add_cluster(&mut out, alloc)?;
-        self.add_names(&mut out)?;
+        self.add_names(&mut out, alloc)?;
         self.add_secret(&mut out, alloc)?;
         self.add_peers(&mut out, alloc)?;
         self.add_publics(&mut out, alloc)?;

@@ -113,14 +113,14 @@ does m keys same cue now outs seen spent own hears drafts = record {
 
 -- ---- before the first event
 
-ring_of_party : (k : PartyKeys) (c : Cluster) → IsSized c k.f k.clients k.plan 0 → IsTrue (is_party k.f k.clients k.me) → IsPartyRing (credentials_in k).ring
+ring_of_party : (k : PartyKeys) (c : Cluster) → IsSized c k.f k.clients k.plan k.every → IsTrue (is_party k.f k.clients k.me) → IsPartyRing (credentials_in k).ring
 ring_of_party k c of party = record {
   bounds = subst (λ f. IsInBounds f k.clients) of.f (subst (λ n. IsInBounds c.f n) of.clients c.in_bounds);
   party = party;
 }
 
 module _ {P : Type 0} (proto : Proto P) (serves : Kind → Bool) (form : KeepsForm proto serves) where
-  pub first_replica_is : (k : PartyKeys) (c : Cluster) (r : ℕ) → IsSized c k.f k.clients k.plan 0 → IsWhole k → k.me ≡ Replica r → IsTrue (is_party k.f k.clients k.me) → ServesAll serves c
+  pub first_replica_is : (k : PartyKeys) (c : Cluster) (r : ℕ) → IsSized c k.f k.clients k.plan k.every → IsWhole k → k.me ≡ Replica r → IsTrue (is_party k.f k.clients k.me) → ServesAll serves c
       → IsReplicaOf proto serves (credentials_in k) (first_replica proto c k r).site
   first_replica_is k c r of whole me party served =
       let m : ReplicaMember P = first_replica proto c k r in

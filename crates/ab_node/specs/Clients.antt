@@ -92,7 +92,7 @@ first_client c k n = record { seat = record { me = n; cluster = c; cli = first_c
 -- client n of these keys before its first event
 pub record IsFirstClient (k : PartyKeys) (n : ℕ) (m : ClientMember) : Type 0 where
   pub cluster : Cluster
-  pub of_keys : IsSized cluster k.f k.clients k.plan 0
+  pub of_keys : IsSized cluster k.f k.clients k.plan k.every
   pub is : m ≡ first_client cluster k n
 
 -- ---- what it does

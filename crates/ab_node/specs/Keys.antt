@@ -20,9 +20,8 @@ with_own (Replica r) (Some own) keys = slice_set keys r own
 with_own (Replica r) None keys = keys
 with_own (Client c) own keys = keys
 
--- in its cluster no checkpoint is due
 abbrev pub credentials_in : PartyKeys → Credentials
-credentials_in k = record { ring = ring_in k; keys = with_own k.me (option_map (own_key k.lms) k.secret) (map key.Public k.publics); every = 0 }
+credentials_in k = record { ring = ring_in k; keys = with_own k.me (option_map (own_key k.lms) k.secret) (map key.Public k.publics); every = k.every }
 
 -- the message that bytes are to the party, if they open by its keys
 abbrev pub opened : Credentials → List ℕ → Option Msg

@@ -81,5 +81,5 @@ first_replica proto c k r = record { site = first_site proto c r (leaves_of (cre
 -- replica r of these keys before its first event
 pub record IsFirstReplica {P : Type 0} (proto : Proto P) (k : PartyKeys) (r : ℕ) (m : ReplicaMember P) : Type 0 where
   pub cluster : Cluster
-  pub of_keys : IsSized cluster k.f k.clients k.plan 0
+  pub of_keys : IsSized cluster k.f k.clients k.plan k.every
   pub is : m ≡ first_replica proto cluster k r

@@ -26,7 +26,7 @@ use std::alloc::Global;
 /// The keys of a party of a cluster of four replicas and one client.
 fn keys_for(alloc: Global, me: Party) -> Result<PartyKeys, OutOfMemory>
     requires { IsTrue (is_party 1 1 me) }
-    ensures { IfOk result (λ k. k ≡ keys_of 1 1 QuorumPlan KvService (Lms Five) (replicate 32 0) me) }
+    ensures { IfOk result (λ k. k ≡ keys_of 1 1 QuorumPlan 0 KvService (Lms Five) (replicate 32 0) me) }
 {
     let cluster = Cluster {
         f: 1,

@@ -171,7 +171,8 @@ fn bad_lines_in_two_levels(rt: HostRuntime) {
     let alloc = rt.alloc();
     let text = two_levels(alloc).expect(&rt, "memory");
     let cases = [
-        ("keys 2\n", "keys 3\n", 1),
+        ("keys 2\n", "keys 4\n", 1),
+        ("keys 2\n", "keys 3\n", 8),
         ("keys 2\n", "keys 1\n", 7),
         ("lms 20\n", "lms 10\n", 7),
         ("lms 20\n", "lms 5\n", 7),
@@ -202,6 +203,105 @@ fn bad_lines_in_two_levels(rt: HostRuntime) {
         "lms 20\n",
         Some(KeyFault::BadLine(7)),
     );
+}
+
+/// A text of version three, from one of an earlier version: line 8 says after how many requests a checkpoint is due.
+fn with_checkpoints(
+    alloc: Global,
+    text: &str,
+    first: &str,
+    lms: &str,
+    line: &str,
+) -> Option<String> {
+    let longer = format!(in alloc; "{lms}{line}").ok()?;
+    all_altered(alloc, text, &[(first, "keys 3\n"), (lms, longer.as_str())])
+}
+
+/// The keys of r6 in a cluster of plan `chain`: of the plan only line 5 tells.
+fn of_chain(alloc: Global) -> Option<String> {
+    altered(alloc, OF_R6, "plan aliph\n", "plan chain\n")
+}
+
+#[test]
+fn derived_with_checkpoints(rt: HostRuntime) {
+    let alloc = rt.alloc();
+    let c = Cluster::new(2, 3, Plan::Chain, 128).expect(&rt, "in bounds");
+    let me = Party::Replica(6);
+    if !is_party(&c, me) {
+        panic!(rt; "a party");
+    }
+    let five = Scheme::Lms(Height::Five);
+    let keys = PartyKeys::derive(alloc, &c, ServiceName::Kv, five, &SEED, me).expect(&rt, "memory");
+    assert!(rt; *keys.cluster() == c);
+    let front = of_chain(alloc).expect(&rt, "memory");
+    let text = with_checkpoints(
+        alloc,
+        front.as_str(),
+        "keys 1\n",
+        "lms 5\n",
+        "checkpoint 128\n",
+    )
+    .expect(&rt, "memory");
+    expect_text(&rt, alloc, &keys, text.as_str());
+}
+
+#[test]
+fn checkpoints(rt: HostRuntime) {
+    let alloc = rt.alloc();
+    let two = two_levels(alloc).expect(&rt, "memory");
+    let chain = of_chain(alloc).expect(&rt, "memory");
+    let cases = [
+        (OF_C0, "keys 1\n", "lms 10\n", "checkpoint 1\n"),
+        (OF_C0, "keys 1\n", "lms 10\n", "checkpoint 128\n"),
+        (two.as_str(), "keys 2\n", "lms 20\n", "checkpoint 64\n"),
+        (chain.as_str(), "keys 1\n", "lms 5\n", "checkpoint 7\n"),
+    ];
+    for (text, first, lms, line) in cases {
+        let later = with_checkpoints(alloc, text, first, lms, line).expect(&rt, "memory");
+        expect_read(&rt, alloc, later.as_str());
+    }
+}
+
+#[test]
+fn bad_checkpoints(rt: HostRuntime) {
+    let alloc = rt.alloc();
+    let lines = [
+        "",
+        "checkpoint 0\n",
+        "checkpoint 01\n",
+        "checkpoint 129\n",
+        "checkpoint\n",
+        "checkpoint 18446744073709551616\n",
+    ];
+    for line in lines {
+        let text = with_checkpoints(alloc, OF_C0, "keys 1\n", "lms 10\n", line).expect(
+            &rt, "memory",
+        );
+        assert!(rt; fault_of(alloc, text.as_str()) == Some(KeyFault::BadLine(8)));
+    }
+    let of_aliph = with_checkpoints(alloc, OF_R6, "keys 1\n", "lms 5\n", "checkpoint 1\n").expect(
+        &rt, "memory",
+    );
+    assert!(rt; fault_of(alloc, of_aliph.as_str()) == Some(KeyFault::BadLine(8)));
+    let two = two_levels(alloc).expect(&rt, "memory");
+    let of_two = altered(alloc, two.as_str(), "lms 20\n", "lms 20\ncheckpoint 64\n").expect(
+        &rt, "memory",
+    );
+    assert!(rt; fault_of(alloc, of_two.as_str()) == Some(KeyFault::BadLine(8)));
+    expect_fault(
+        &rt,
+        alloc,
+        "lms 10\n",
+        "lms 10\ncheckpoint 64\n",
+        Some(KeyFault::BadLine(8)),
+    );
+    let head = "keys 3\nparty c0\nf 1\nclients 1\nplan quorum\nservice kv\nlms 10\n";
+    assert!(rt; fault_of(alloc, head) == Some(KeyFault::BadLine(8)));
+    let later = with_checkpoints(alloc, OF_C0, "keys 1\n", "lms 10\n", "checkpoint 64\n").expect(
+        &rt, "memory",
+    );
+    let other = altered(alloc, later.as_str(), "public r3 0", "public r4 0").expect(&rt, "memory");
+    assert!(rt; fault_of(alloc, other.as_str()) == Some(KeyFault::BadLine(20)));
 }
 
 /// The text is read, and written as it was.

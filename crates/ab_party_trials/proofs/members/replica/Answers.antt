@@ -8,4 +8,4 @@ use Rattle.ab_key_text.specs.Keys.{IsWhole}
 use Rattle.ab_party_trials.proofs.members.replica.Goals as goal
 
 pub new-made-requires-clause-whole : goal.new-made-requires-clause-whole
-new-made-requires-clause-whole c = subst IsWhole (sym c.in_ok-keys.ensures) (c.keys_are_whole.ensures.derived 1 1 Quorum Kv (Lms Five) (replicate 32 0) (Replica c.args.r))
+new-made-requires-clause-whole c = subst IsWhole (sym c.in_ok-keys.ensures) (c.keys_are_whole.ensures.derived 1 1 Quorum 0 Kv (Lms Five) (replicate 32 0) (Replica c.args.r))

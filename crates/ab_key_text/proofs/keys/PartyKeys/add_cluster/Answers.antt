@@ -8,7 +8,7 @@ use Rattle.ab_key_text.proofs.keys.PartyKeys.add_cluster.Goals as goal
 
 pub returns : goal.returns
 returns c =
-    let version = keys_line (key_version_of c.args.self.now.lms) in
+    let version = keys_line (key_version_of c.args.self.now.every c.args.self.now.lms) in
     let begun : c.keys_text.result.now ≡ version = search rules in
     let party : c.as_str.result.now ≡ codes "party " ++ party_text c.args.self.now.me = search rules in
     let faulty : c.as_str-2.result.now ≡ codes "f " ++ decimal c.args.self.now.f = search rules in

@@ -15,7 +15,7 @@ invariant_of-result g c =
     let form = g.met.P.Protocol.formed in
     let k = c.args.keys.now in
     let cl = c.cluster.result.now in
-    let of : IsSized cl k.f k.clients k.plan 0 = record { f = c.cluster.ensures.f; clients = c.cluster.ensures.clients; plan = c.cluster.ensures.plan; every = c.cluster.ensures.every } in
+    let of : IsSized cl k.f k.clients k.plan k.every = record { f = c.cluster.ensures.f; clients = c.cluster.ensures.clients; plan = c.cluster.ensures.plan; every = c.cluster.ensures.every } in
     let served : ServesAll serves cl = λ i one. subst (λ (p : Plan). IsTrue (serves (kind_of p i))) (sym of.plan) (c.requires.served i one) in
     subst (λ (m : ReplicaMember g.row.P.Denot). IsReplicaOf proto serves m.credentials m.site)
     (sym (replica_made proto serves form k cl c.args.me c.leaves-signatures.result c.in_ok-replica.replica c.in_ok-own.own c.in_ok-own.ensures c.leaves-signatures.ensures c.in_ok-replica.ensures.site))
