@@ -9,6 +9,7 @@ use Rattle.ab_num.specs.declared.party.Party.TheVariants.{Replica, Client}
 use Rattle.ab_num.specs.Bounds.{IsInBounds}
 use Rattle.ab_keys.specs.Keys.{is_party}
 use Rattle.ab_keys.specs.Rings.{parties}
+use Rattle.ab_text.specs.Heads.{most_built}
 use Rattle.ab_text.specs.Lines.{lines_of}
 use Rattle.ab_text.proofs.NumberLemmas.{is_some_number}
 use Rattle.ab_key_text.specs.Lines.{bounded}
@@ -51,11 +52,11 @@ commands_are : (p : Party) (commands : List (List ℕ)) → AreCommandsOf (Clien
 commands_are (Replica r) commands good = refl
 commands_are (Client c) commands good = good
 
-pub inputs_set_up : (k : ClusterCommand) (commands : List (List ℕ)) (p : Party) → IsInBounds k.f 1 → IsTrue (is_party k.f 1 p) → AreCommandsOf (Client 0) commands
+pub inputs_set_up : (k : ClusterCommand) (commands : List (List ℕ)) (p : Party) → IsInBounds k.f 1 → k.every ≤ most_built k.plan → IsTrue (is_party k.f 1 p) → AreCommandsOf (Client 0) commands
     → node_in (lines_of (job_for k commands p).input) ≡ Ok (node_for k commands p)
-inputs_set_up k commands p bounds inside good =
+inputs_set_up k commands p bounds built inside good =
     written_node_reads (node_for k commands p) (record {
-      keys = derived_form k.f 1 k.plan k.service k.lms k.seed p bounds inside;
+      keys = derived_form k.f 1 k.plan k.every k.service k.lms k.seed p bounds built inside;
       commands = commands_are p commands good;
     })
 

@@ -18,9 +18,9 @@ abbrev pub commands_of : Party → List (List ℕ) → List (List ℕ)
 commands_of (Replica r) commands = []
 commands_of (Client c) commands = commands
 
--- the keys that the seed gives to a party, and its commands
+-- the keys that the seed gives to a party of the cluster, and its commands
 abbrev pub node_for : ClusterCommand → List (List ℕ) → Party → NodeText
-node_for k commands p = node_of (keys_of k.f 1 k.plan k.service k.lms k.seed p) (commands_of p commands)
+node_for k commands p = node_of (keys_of k.f 1 k.plan k.every k.service k.lms k.seed p) (commands_of p commands)
 
 -- its node: all words are the same, and what is secret is in the input
 abbrev pub job_for : ClusterCommand → List (List ℕ) → Party → Job

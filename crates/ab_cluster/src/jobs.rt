@@ -33,7 +33,7 @@ fn node_words(alloc: Global, asked: &ClusterCommand) -> Result<Vec<String>, Allo
 
 /// The keys of replica 0.
 fn first_keys(alloc: Global, asked: &ClusterCommand) -> Result<PartyKeys, OutOfMemory>
-    ensures { IfOk result (λ keys. keys ≡ keys_of asked.now.f 1 asked.now.plan asked.now.service asked.now.lms asked.now.seed (TheParty.Replica 0)) }
+    ensures { IfOk result (λ keys. keys ≡ keys_of asked.now.f 1 asked.now.plan asked.now.every asked.now.service asked.now.lms asked.now.seed (TheParty.Replica 0)) }
 {
     PartyKeys::derive(
         alloc,
@@ -53,7 +53,7 @@ fn job_for(
     first: &PartyKeys,
     p: Party,
 ) -> Result<ChildJob, OutOfMemory>
-    requires first { first.now ≡ keys_of asked.now.f 1 asked.now.plan asked.now.service asked.now.lms asked.now.seed (TheParty.Replica 0) }
+    requires first { first.now ≡ keys_of asked.now.f 1 asked.now.plan asked.now.every asked.now.service asked.now.lms asked.now.seed (TheParty.Replica 0) }
     requires member { IsTrue (is_party asked.now.f 1 p) }
     ensures { IfOk result (λ job. job_of job ≡ job_for asked.now (map (λ c. c.items) commands.now) p) }
 {

@@ -5,6 +5,7 @@ ghost use Rattle.ab_io.specs.Causes.{Rose};
 ghost use Rattle.ab_num.specs.declared.party.Party.{Party as TheParty};
 ghost use Rattle.ab_num.specs.Bounds.{IsInBounds};
 ghost use Rattle.ab_keys.specs.Keys.{is_party};
+ghost use Rattle.ab_text.specs.Heads.{most_built};
 ghost use Rattle.ab_text.specs.Lines.{lines_of};
 ghost use Rattle.ab_key_text.specs.Nodes.{AreCommandsOf, node_in};
 ghost use Rattle.ab_words.specs.Commands.{ClusterCommand as TheCluster};
@@ -22,7 +23,7 @@ ghost use Rattle.ab_cluster.specs.Reports.{conclusion_of};
 pub fn jobs_are_nodes()
     ensures words { (k : TheCluster) → 1 ≤ k.base → k.base ≤ highest_base → 1 ≤ k.wait → k.wait ≤ longest_wait → 1 ≤ k.turns → k.turns ≤ most_turns
         → command_in (node_words k) ≡ Some (TheCommand.Node (record { base = k.base; wait = k.wait; turns = k.turns; trace = false; journal = None })) }
-    ensures input { (k : TheCluster) (commands : List (List ℕ)) (p : TheParty) → IsInBounds k.f 1 → IsTrue (is_party k.f 1 p) → AreCommandsOf (TheParty.Client 0) commands
+    ensures input { (k : TheCluster) (commands : List (List ℕ)) (p : TheParty) → IsInBounds k.f 1 → k.every ≤ most_built k.plan → IsTrue (is_party k.f 1 p) → AreCommandsOf (TheParty.Client 0) commands
         → node_in (lines_of (job_for k commands p).input) ≡ Ok (node_for k commands p) }
 {}
 

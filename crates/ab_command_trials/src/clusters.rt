@@ -107,11 +107,12 @@ fn ends(alloc: Global, statuses: &[u8; 5]) -> Result<Vec<Ended>, AllocError> {
     Ok(all)
 }
 
-fn expect_case(rt: &impl Abort, alloc: Global, case: &Case) -> Result<Told, AllocError> {
+fn expect_case(rt: &impl Abort, alloc: Global, case: &Case) -> Result<(), AllocError> {
     let ends = ends(alloc, &case.statuses)?;
     let told = call_children(alloc, CLUSTER, COMMANDS.as_bytes(), ends, &case.failing)?;
     expect(rt, &told, case.status, case.out, case.err);
-    Ok(told)
+    drop(told);
+    Ok(())
 }
 
 #[test]
@@ -122,8 +123,13 @@ fn clusters_are_gathered(rt: HostRuntime) -> Result<(), Fail> {
     Ok(())
 }
 
-/// The text that sets up the node of a party: its keys, and these lines.
-fn node_text(alloc: Global, party: &'static str, lines: &str) -> Result<Vec<u8>, AllocError> {
+/// The text that sets up the node of a party of the cluster with these checkpoints: its keys, and these lines.
+fn node_text(
+    alloc: Global,
+    every: &'static str,
+    party: &'static str,
+    lines: &str,
+) -> Result<Vec<u8>, AllocError> {
     let words = [
         "keys",
         "--plan=quorum",
@@ -132,6 +138,7 @@ fn node_text(alloc: Global, party: &'static str, lines: &str) -> Result<Vec<u8>,
         "--service=kv",
         "--lms=5",
         "--seed=0000000000000000000000000000000000000000000000000000000000000000",
+        every,
         party,
     ];
     let keys = call(alloc, &words, b"", &NOTHING)?;
@@ -140,11 +147,12 @@ fn node_text(alloc: Global, party: &'static str, lines: &str) -> Result<Vec<u8>,
     Ok(text)
 }
 
-/// The child that was started is the node of this party, and was waited for.
+/// The child that was started is the node of this party of the cluster with these checkpoints, and was waited for.
 fn expect_node(
     rt: &impl Abort,
     alloc: Global,
     child: &Started,
+    every: &'static str,
     party: &'static str,
     lines: &str,
 ) -> Result<(), AllocError> {
@@ -153,7 +161,7 @@ fn expect_node(
     for (word, wanted) in child.job.words.iter().zip(NODE) {
         assert!(rt; word.as_str() == *wanted);
     }
-    let text = node_text(alloc, party, lines)?;
+    let text = node_text(alloc, every, party, lines)?;
     assert!(rt; child.job.input.as_slice() == text.as_slice());
     Ok(())
 }
@@ -166,16 +174,40 @@ const PARTIES: [(&str, &str); 5] = [
     ("--party=c0", COMMANDS),
 ];
 
-#[test]
-fn each_party_is_a_node(rt: HostRuntime) -> Result<(), Fail> {
-    let alloc = rt.alloc();
-    let told = expect_case(&rt, alloc, &CASES[0])?;
-    let started = told.spawner.started();
-    assert!(&rt; started.len() == PARTIES.len());
-    for (child, (party, lines)) in started.iter().zip(&PARTIES) {
-        expect_node(&rt, alloc, child, *party, *lines)?;
+/// The cluster with these checkpoints, none of whose calls fail.
+fn call_cluster(alloc: Global, every: &'static str) -> Result<Told, AllocError> {
+    let mut words = Vec::from_slice(alloc, CLUSTER)?;
+    words.push(every)?;
+    let ends = ends(alloc, &CASES[0].statuses)?;
+    call_children(alloc, &words, COMMANDS.as_bytes(), ends, &NOTHING)
+}
+
+/// The children are the nodes of the parties of that cluster.
+fn expect_nodes(
+    rt: &impl Abort,
+    alloc: Global,
+    children: &[Started],
+    every: &'static str,
+) -> Result<(), AllocError> {
+    assert!(rt; children.len() == PARTIES.len());
+    for (child, (party, lines)) in children.iter().zip(&PARTIES) {
+        expect_node(rt, alloc, child, every, *party, *lines)?;
     }
     Ok(())
+}
+
+fn expect_cluster(rt: &impl Abort, alloc: Global, every: &'static str) -> Result<(), AllocError> {
+    let told = call_cluster(alloc, every)?;
+    expect(rt, &told, 0, CASES[0].out, "");
+    let found = expect_nodes(rt, alloc, told.spawner.started(), every);
+    drop(told);
+    found
+}
+
+#[test]
+fn each_party_is_a_node(rt: HostRuntime) -> Result<(), Fail> {
+    expect_cluster(&rt, rt.alloc(), "--checkpoint=0")?;
+    Ok(expect_cluster(&rt, rt.alloc(), "--checkpoint=64")?)
 }
 
 /// An input that is refused, which calls fail, and the status and what is said.

@@ -100,36 +100,73 @@ fn commands(rt: HostRuntime) {
     }
 }
 
-#[test]
-fn keys_with_a_checkpoint(rt: HostRuntime) {
+/// Commands that say in which cluster a checkpoint is due, but for words that all of them take.
+const OF_CLUSTERS: [&str; 2] = [
+    "keys --clients 1 --party r3",
+    "cluster --base 1 --wait 1 --turns 1",
+];
+
+/// After how many requests a checkpoint is due in the cluster that such a command asks for, if with these words it is one.
+fn every_in(rt: &HostRuntime, command: &str, plan: &str, more: &str) -> Option<Option<u16>> {
     let alloc = rt.alloc();
-    let cases = [
-        ("", true),
-        (" --checkpoint 0", true),
-        (" --checkpoint=0", true),
-        (" --checkpoint 00", false),
-        (" --checkpoint 1", false),
-        (" --checkpoint 64", false),
-        (" --checkpoint 128", false),
-        (" --checkpoint 129", false),
-        (" --checkpoint 18446744073709551616", false),
-        (" --checkpoint -1", false),
-        (" --checkpoint=", false),
-        (" --checkpoint", false),
-        (" --checkpoint 0 --checkpoint 0", false),
-        (" --every 0", false),
-    ];
-    for (more, taken) in cases {
-        let text = format!(in alloc;
-            "keys --plan quorum --f 1 --clients 1 --service kv --lms 10 --seed {ZERO} --party r3{more}"
-        ).expect(&rt, "memory");
-        assert!(rt;
-            is_command(&rt, text.as_str()).expect(&rt, "memory") == taken,
-            "{more}"
-        );
+    let text = format!(in alloc;
+        "{command} --plan {plan} --f 1 --service kv --lms 10 --seed {ZERO}{more}"
+    ).ok()?;
+    let mut words = Vec::new(alloc);
+    for word in text.as_str().split(' ') {
+        words.push(word).ok()?;
     }
-    let other = "node --base 1 --wait 1 --turns 1 --checkpoint 0";
-    assert!(rt; !is_command(&rt, other).expect(&rt, "memory"));
+    match command_in(alloc, &words).ok()? {
+        Some(Command::Keys(asked)) => Some(Some(asked.cluster().every)),
+        Some(Command::Cluster(asked)) => Some(Some(asked.cluster().every)),
+        _ => Some(None),
+    }
+}
+
+#[test]
+fn clusters_with_a_checkpoint(rt: HostRuntime) {
+    let cases = [
+        ("quorum", "", Some(0)),
+        ("quorum", " --checkpoint 0", Some(0)),
+        ("quorum", " --checkpoint=0", Some(0)),
+        ("quorum", " --checkpoint 1", Some(1)),
+        ("quorum", " --checkpoint 64", Some(64)),
+        ("quorum", " --checkpoint 128", Some(128)),
+        ("quorum", " --checkpoint 129", None),
+        ("quorum", " --checkpoint 00", None),
+        ("quorum", " --checkpoint 064", None),
+        ("quorum", " --checkpoint 65536", None),
+        ("quorum", " --checkpoint 18446744073709551616", None),
+        ("quorum", " --checkpoint -1", None),
+        ("quorum", " --checkpoint=", None),
+        ("quorum", " --checkpoint", None),
+        ("quorum", " --checkpoint 0 --checkpoint 0", None),
+        ("quorum", " --every 0", None),
+        ("zlight", " --checkpoint 128", Some(128)),
+        ("zlight", " --checkpoint 129", None),
+        ("chain", " --checkpoint=128", Some(128)),
+        ("chain", " --checkpoint 129", None),
+    ];
+    for command in OF_CLUSTERS {
+        for (plan, more, every) in cases {
+            assert!(rt;
+                every_in(&rt, command, plan, more).expect(&rt, "memory") == every,
+                "{command} {plan}{more}"
+            );
+        }
+        for plan in ["azyzzyva", "aliph", "backup", "zcert"] {
+            let left_out = every_in(&rt, command, plan, "").expect(&rt, "memory");
+            assert!(rt; left_out == Some(0), "{command} {plan}");
+            let never = every_in(&rt, command, plan, " --checkpoint 0").expect(&rt, "memory");
+            assert!(rt; never == Some(0), "{command} {plan}");
+            let often = every_in(&rt, command, plan, " --checkpoint 1").expect(&rt, "memory");
+            assert!(rt; often == None, "{command} {plan}");
+        }
+    }
+    let node = "node --base 1 --wait 1 --turns 1 --checkpoint 0";
+    assert!(rt; !is_command(&rt, node).expect(&rt, "memory"));
+    let storm = "storm --plan quorum --f 1 --clients 1 --seed 1 --events 1 --checkpoint 0";
+    assert!(rt; !is_command(&rt, storm).expect(&rt, "memory"));
 }
 
 #[test]

@@ -12,13 +12,13 @@ use Rattle.ab_num.specs.declared.plan.Plan.{Plan}
 use Rattle.ab_num.specs.declared.plan.ServiceName.{ServiceName}
 use Rattle.ab_num.specs.declared.plan.Scheme.{Scheme}
 use Rattle.ab_text.specs.Cores.{Lacks}
-use Rattle.ab_text.specs.Heads.{spelled_in, plans, services, schemes}
+use Rattle.ab_text.specs.Heads.{most_built, spelled_in, plans, services, schemes}
 use Rattle.ab_text.specs.Numbers.{is_number, number_of as number_text}
 use Rattle.ab_text.proofs.PartLemmas.{Lacks-decimal}
 use Rattle.ab_text.specs.HexBytes.{bytes_in, in_lower_case}
 use Rattle.ab_key_text.specs.Lines.{bounded, party_in}
 use Rattle.ab_words.specs.Uses.{◌>>=◌}
-use Rattle.ab_words.specs.Values.{plan_name, service_name, scheme_name, checkpoint_named, if_never, named, number_in}
+use Rattle.ab_words.specs.Values.{plan_name, service_name, scheme_name, checkpoint_named, named, number_in}
 
 -- what takes no text with a dash in front takes plain texts alone
 plain-by : {B : Type 0} (read : List ℕ → Option B) → ((cs : List ℕ) → read (45 ∷ cs) ≡ None) → (v : List ℕ) (y : B) → read v ≡ Some y → strip_byte 45 v ≡ None
@@ -85,8 +85,8 @@ no-number cs = elim (cases_Bool (is_number (45 ∷ cs))) [
 pub number-plain : (low high : ℕ) (v : List ℕ) (y : ℕ) → number_in low high v ≡ Some y → strip_byte 45 v ≡ None
 number-plain low high = plain-by (number_in low high) (λ cs. ap (bounded low high) (no-number cs))
 
-pub checkpoint-plain : (v : List ℕ) (y : Option ℕ) → checkpoint_named (Some v) ≡ Some y → strip_byte 45 v ≡ None
-checkpoint-plain = plain-by (λ v. checkpoint_named (Some v)) (λ cs. ap (λ o. bounded 0 128 o >>= if_never) (no-number cs))
+pub checkpoint-plain : (plan : Plan) (v : List ℕ) (y : Option ℕ) → checkpoint_named plan (Some v) ≡ Some y → strip_byte 45 v ≡ None
+checkpoint-plain plan = plain-by (λ v. checkpoint_named plan (Some v)) (λ cs. ap (λ o. bounded 0 (most_built plan) o >>= λ k. Some (Some k)) (no-number cs))
 
 no-name : (cs : List ℕ) → named (Some (45 ∷ cs)) ≡ None
 no-name cs = refl

@@ -38,7 +38,7 @@ pub(crate) const WHY: &str = "--why";
 pub(crate) const KEYS: &[&str] = &[PLAN, F, CLIENTS, SERVICE, LMS, SEED, PARTY, CHECKPOINT];
 
 /// The options of the command `cluster`.
-pub(crate) const CLUSTER: &[&str] = &[PLAN, F, SERVICE, LMS, SEED, BASE, WAIT, TURNS];
+pub(crate) const CLUSTER: &[&str] = &[PLAN, F, SERVICE, LMS, SEED, BASE, WAIT, TURNS, CHECKPOINT];
 
 /// The options of the command `storm`.
 pub(crate) const STORM: &[&str] = &[PLAN, F, CLIENTS, SEED, EVENTS];

@@ -34,8 +34,8 @@ fn keys_in(uses: &Uses<'_>) -> Option<KeysCommand>
     let lms = scheme_named(uses.value_of(LMS)?)?;
     let seed = bytes_in(uses.value_of(SEED)?)?;
     let party = party_in(uses.value_of(PARTY)?)?;
-    checkpoint_of(uses)?;
-    let cluster = cluster_of(f, clients, plan, 0);
+    let every = checkpoint_of(uses, plan)?.unwrap_or(0);
+    let cluster = cluster_of(f, clients, plan, every);
     if is_party(&cluster, party) {
         Some(KeysCommand::new(cluster, service, lms, seed, party))
     } else {
@@ -96,7 +96,8 @@ fn cluster_in(uses: &Uses<'_>) -> Option<ClusterCommand>
     let first_port = number_of(uses, BASE, 1, HIGHEST_BASE)? as u16;
     let wait = number_of(uses, WAIT, 1, LONGEST_WAIT)? as u16;
     let turns = number_of(uses, TURNS, 1, MOST_TURNS)? as u32;
-    let cluster = cluster_of(f, 1, plan, 0);
+    let every = checkpoint_of(uses, plan)?.unwrap_or(0);
+    let cluster = cluster_of(f, 1, plan, every);
     Some(ClusterCommand {
         cluster,
         service,
