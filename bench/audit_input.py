@@ -15,7 +15,7 @@ import sys
 def parts(text):
     """The lines of a key text that an audit has too: f, the line `lms` and the public keys."""
     lines = text.splitlines()
-    if lines[:1] not in (["keys 1"], ["keys 2"]):
+    if lines[:1] not in (["keys 1"], ["keys 2"], ["keys 3"]):
         sys.exit("audit_input: the first file is no key text")
     return [line for word in ("f ", "lms ", "public ") for line in lines if line.startswith(word)]
 

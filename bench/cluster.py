@@ -1,11 +1,12 @@
 #!/usr/bin/env python3
 """Runs a cluster of nodes over UDP on this machine, and replays what they did, or times them.
 
-usage: cluster.py [--plan P] [--clients N] [--commands N] [--length L] [--wait W] [--base B] [--lms H] [--stop R@N] [--late R@M] [--noise]
-                  [--quiet]
+usage: cluster.py [--plan P] [--clients N] [--commands N] [--length L] [--wait W] [--base B] [--lms H] [--checkpoint C] [--stop R@N]
+                  [--late R@M] [--noise] [--quiet]
 
 Four replicas of the plan P (quorum) are started. When all of them listen, so are N clients (1), each with so many commands (1,000) of
-L bytes or more (0; 128 at most), one after the other; a cluster takes 1,024 requests in its life. Ports begin at B (where they are free).
+L bytes or more (0; 128 at most), one after the other. A cluster takes 1,024 requests in its life, or 65,535 if a checkpoint is due after
+every C of them. Ports begin at B (where they are free).
 With `--stop r1@100` replica r1 is killed once 100 commands are answered (`r1@0`: at once). With `--late r1@20` it runs for a
 millisecond and sleeps for 20, again and again, once a command is answered. With `--noise` random datagrams go to every port meanwhile.
 It tells how many datagrams the system dropped at each port, since they came faster than they were taken.
@@ -85,10 +86,10 @@ def free_base():
 
 
 @functools.cache
-def keys_of(party, clients, lms, seed):
+def keys_of(party, clients, lms, seed, every=0):
     """The keys of a party under Quorum. They take seconds, and are the same under each plan."""
     words = ["--plan", "quorum", "--f", "1", "--clients", str(clients), "--service", "kv", "--lms", str(lms)]
-    words = [PROGRAM, "keys", *words, "--seed", seed, "--party", party]
+    words = [PROGRAM, "keys", *words, "--seed", seed, "--party", party, "--checkpoint", str(every)]
     return subprocess.run(words, capture_output=True, check=True, timeout=SECONDS).stdout
 
 
@@ -99,6 +100,8 @@ class Cluster:
 
     def __init__(self, folder, asked):
         self.folder, self.asked = pathlib.Path(folder), asked
+        # After how many requests a checkpoint is due.
+        self.every = getattr(asked, "checkpoint", 0)
         self.lines = self.folder / "lines"
         self.lines.touch()
         self.nodes = {}
@@ -131,7 +134,7 @@ class Cluster:
 
     def keys(self, party):
         asked = self.asked
-        text = keys_of(party, asked.clients, asked.lms, self.seed)
+        text = keys_of(party, asked.clients, asked.lms, self.seed, self.every)
         return text.replace(b"plan quorum\n", b"plan %s\n" % asked.plan.encode())
 
     def wait_for_ports(self, seconds):
@@ -193,7 +196,7 @@ class Cluster:
     def replayed(self):
         """The report of all its events, and what is said of them."""
         asked = self.asked
-        lines = [line.encode() for line in head(asked.plan, clients=asked.clients, lms=asked.lms, seed=SEED)]
+        lines = [line.encode() for line in head(asked.plan, clients=asked.clients, lms=asked.lms, seed=SEED, every=self.every)]
         lines += [*self.lines_of(b"invoke", b"inject", b"timeout"), b"end", b""]
         _, report, said = ran(["replay"], b"\n".join(lines))
         return report.decode().splitlines(), said.decode()
@@ -202,8 +205,8 @@ class Cluster:
 class Gathered:
     """A cluster with f 1 that the command `cluster` runs. Its nodes have few turns, so it ends by itself."""
 
-    def __init__(self, base, commands, plan="quorum", wait=50, turns=60):
-        words = ["--plan", plan, "--f", "1", "--service", "kv", "--lms", "5", "--seed", SEED]
+    def __init__(self, base, commands, plan="quorum", wait=50, turns=60, every=0):
+        words = ["--plan", plan, "--f", "1", "--service", "kv", "--lms", "5", "--seed", SEED, "--checkpoint", str(every)]
         self.node_words = ["node", "--base", str(base), "--wait", str(wait), "--turns", str(turns)]
         words = [str(PROGRAM), "cluster", *words, *self.node_words[1:]]
         self.words = spelled(words)
@@ -421,6 +424,7 @@ def options():
     parser.add_argument("--wait", type=int, default=200)
     parser.add_argument("--base", type=int)
     parser.add_argument("--lms", default="10")
+    parser.add_argument("--checkpoint", type=int, default=0)
     parser.add_argument("--stop")
     parser.add_argument("--late")
     parser.add_argument("--noise", action="store_true")

@@ -220,6 +220,12 @@ def gathered_claims():
     yield "the client's replies are those of the commands", good, lines
     yield "nothing is said but by the client", said == ("" if client == "0" else f"turns spent {3 - len(replies)}\n"), said
 
+    with gathered(turns=200, every=1) as run:
+        status, statuses, lines, said = run.ended()
+    replies = [" ".join(line.split(" ")[4:]) for line in lines if line.startswith("reply ")]
+    good = replies == wanted[: len(replies)] and (status == 1 or replies == wanted)
+    yield "with checkpoints the replies are the same", good, (status, statuses, lines, said)
+
     base = cluster.free_base()
     with cluster.bound(base + 2), gathered(base=base) as run:
         status, statuses, lines, said = run.ended()

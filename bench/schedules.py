@@ -8,11 +8,14 @@ from programs import ran
 ZEROS = "0" * 64
 
 
-def head(plan, f=1, clients=1, service="kv", lms=10, faulty=(), seed=ZEROS):
-    """The lines before the events, with some that declare parties faulty. Keys are those of the seed."""
+def head(plan, f=1, clients=1, service="kv", lms=10, faulty=(), seed=ZEROS, every=0):
+    """The lines before the events, with some that declare parties faulty. Keys are those of the seed. A checkpoint is due after `every`
+    requests, or never."""
     settings = [f"f {f}", f"plan {plan}", f"clients {clients}", f"service {service}", f"lms {lms}"]
     if seed != ZEROS:
-        return ["abstract 4", *settings, "checkpoint 0", f"seed {seed}", *faulty, "run"]
+        return ["abstract 4", *settings, f"checkpoint {every}", f"seed {seed}", *faulty, "run"]
+    if every:
+        return ["abstract 3", *settings, f"checkpoint {every}", *faulty, "run"]
     version = 2 if int(lms) == 20 else 1
     return [f"abstract {version}", *settings, *faulty, "run"]
 

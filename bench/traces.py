@@ -1,9 +1,9 @@
 #!/usr/bin/env python3
 """Puts the traces of the nodes of a cluster together as one schedule, which `replay`, `draw` and the others read.
 
-usage: traces.py --plan P --f F --clients N --service V --lms H [--seed X] [--faulty PARTY].. PARTY=FILE..
+usage: traces.py --plan P --f F --clients N --service V --lms H [--checkpoint C] [--seed X] [--faulty PARTY].. PARTY=FILE..
 
-P, F, N, V and H are what the keys of the cluster were made for, and X is its seed (zeros). Each FILE is what the node of PARTY wrote with
+P, F, N, V, H and C (0) are what the keys of the cluster were made for, and X is its seed (zeros). Each FILE is what the node of PARTY wrote with
 `--trace`, or its journal. A node that was started again is told by its journal, since it writes the lines of before again. The schedule
 goes to standard output:
 
@@ -184,7 +184,7 @@ class Cluster:
     def text(self, party, commands):
         """The text that sets up a party."""
         asked = self.asked
-        words = f"--plan {asked.plan} --f {asked.f} --clients {asked.clients} --service {asked.service} --lms {asked.lms}".split()
+        words = f"--plan {asked.plan} --f {asked.f} --clients {asked.clients} --service {asked.service} --lms {asked.lms} --checkpoint {asked.checkpoint}".split()
         status, keys, said = ran(["keys", *words, "--seed", asked.seed, "--party", party])
         if status:
             sys.exit(f"traces: {said.decode().strip()}")
@@ -276,7 +276,8 @@ def merged(asked, files):
         parties = [party for party in cluster.parties if party in files]
         merge = Merge({party: cluster.played(party, lines_of(party, files[party]), player, folder) for party in parties})
     lines = list(merge.lines())
-    begin = head(asked.plan, asked.f, asked.clients, asked.service, asked.lms, [f"faulty {party} 1" for party in faulty], asked.seed)
+    silent = [f"faulty {party} 1" for party in faulty]
+    begin = head(asked.plan, asked.f, asked.clients, asked.service, asked.lms, silent, asked.seed, asked.checkpoint)
     told = f"{len(lines)} events, {merge.injected} messages from outside, declared faulty: {' '.join(faulty) or 'nobody'}"
     return b"\n".join([*(line.encode() for line in begin), *lines, b"end", b""]), told
 
@@ -288,6 +289,7 @@ def options():
     parser.add_argument("--clients", type=int, required=True)
     parser.add_argument("--service", choices=("echo", "kv"), required=True)
     parser.add_argument("--lms", choices=("5", "10", "20"), required=True)
+    parser.add_argument("--checkpoint", type=int, default=0)
     parser.add_argument("--seed", default=ZEROS)
     parser.add_argument("--faulty", action="append", default=[], metavar="PARTY")
     parser.add_argument("files", nargs="+", metavar="PARTY=FILE")
