@@ -415,16 +415,21 @@ def compared(cluster):
             yield f"two replies of number {number} in instance {instance} differ"
 
 
+def add_options(parser, commands, lms, checkpoint):
+    """What is asked of a cluster by each script that runs one, and what it is if nothing is said."""
+    parser.add_argument("--commands", type=int, default=commands)
+    parser.add_argument("--length", type=int, default=0)
+    parser.add_argument("--wait", type=int, default=200)
+    parser.add_argument("--base", type=int)
+    parser.add_argument("--lms", default=lms)
+    parser.add_argument("--checkpoint", type=int, default=checkpoint)
+
+
 def options():
     parser = parser_of(__doc__)
     parser.add_argument("--plan", default="quorum")
     parser.add_argument("--clients", type=int, default=1)
-    parser.add_argument("--commands", type=int, default=1000)
-    parser.add_argument("--length", type=int, default=0)
-    parser.add_argument("--wait", type=int, default=200)
-    parser.add_argument("--base", type=int)
-    parser.add_argument("--lms", default="10")
-    parser.add_argument("--checkpoint", type=int, default=0)
+    add_options(parser, commands=1000, lms="10", checkpoint=0)
     parser.add_argument("--stop")
     parser.add_argument("--late")
     parser.add_argument("--noise", action="store_true")

@@ -51,12 +51,7 @@ class Life:
 def options():
     parser = parser_of(__doc__)
     parser.add_argument("--plan", default="quorum", choices=("quorum", "zlight", "chain"))
-    parser.add_argument("--checkpoint", type=int, default=64)
-    parser.add_argument("--commands", type=int, default=60_000)
-    parser.add_argument("--length", type=int, default=0)
-    parser.add_argument("--wait", type=int, default=200)
-    parser.add_argument("--base", type=int)
-    parser.add_argument("--lms", default="5")
+    cluster.add_options(parser, commands=60_000, lms="5", checkpoint=64)
     parser.add_argument("--every", type=int, default=5_000)
     parser.set_defaults(clients=1, quiet=True, stop=None, late=None, noise=False)
     return parser.parse_args()

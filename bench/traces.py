@@ -184,8 +184,9 @@ class Cluster:
     def text(self, party, commands):
         """The text that sets up a party."""
         asked = self.asked
-        words = f"--plan {asked.plan} --f {asked.f} --clients {asked.clients} --service {asked.service} --lms {asked.lms} --checkpoint {asked.checkpoint}".split()
-        status, keys, said = ran(["keys", *words, "--seed", asked.seed, "--party", party])
+        words = f"--plan {asked.plan} --f {asked.f} --clients {asked.clients} --service {asked.service} --lms {asked.lms}".split()
+        words = ["keys", *words, "--checkpoint", str(asked.checkpoint), "--seed", asked.seed, "--party", party]
+        status, keys, said = ran(words)
         if status:
             sys.exit(f"traces: {said.decode().strip()}")
         return keys + b"".join(b"do %s\n" % command for command in commands) + b"end\n"
