@@ -28,7 +28,7 @@ use Rattle.ab_msg.specs.Messages.{IsMessage}
 use Rattle.ab_check.specs.Checks.{Judge}
 use Rattle.ab_open.specs.Messages.{message_of}
 use Rattle.ab_open.specs.Opening.{judged, opening}
-use Rattle.ab_open.specs.Trimmed.{allowed, any_trimmed, holds_trimmed, is_trimmed, offers_trimmed}
+use Rattle.ab_open.specs.Trimmed.{allowed, any_trimmed, holds_trimmed, is_trimmed, offers_trimmed, shows_trimmed, states_trimmed}
 use Rattle.ab_open.specs.declared.fault.OpenFault.TheVariants as fault
 use Rattle.ab_open.proofs.ContentLemmas.{each, front}
 
@@ -112,26 +112,29 @@ changes-other [] h = All-nil IsOther
 changes-other (v ∷ vs) h =
     All-append IsOther (change_claims v) (flat_map change_claims vs) (change-other v (All-head IsProof v vs h)) (changes-other vs (All-tail IsProof v vs h))
 
-pub held : (f : ℕ) (me : Party) (m : Msg) → IsMessage m → holds_trimmed m ≡ list_any is_trimmed (claims f me m)
-held f me (msg.Req content tags) h = alone content (of-kind IsReq (λ maker i start digest rest g. g) content h.0)
-held f me (msg.Order content client_tag tag) h = none (ordered content ++ content ∷ []) (order-other content h.0)
-held f me (msg.Resp content tag) h = alone content (of-kind IsResp (λ maker i start digest rest g. g) content h.0)
-held f me (msg.Chain i m n d reply tags) h = none (chain_claims f me i m n d reply) (chain-other f me i m n d reply)
-held f me (msg.Panic content tag) h = alone content (of-kind IsPanic (λ maker i start digest rest g. g) content h.0)
-held f me (msg.Abort abort) h = abort-held abort.content
-held f me (msg.Init cert) h = aborts-held cert
-held f me (msg.PrePrepare content tag offer) h =
+stated : (f : ℕ) (me : Party) (m : Msg) → IsMessage m → states_trimmed m ≡ list_any is_trimmed (claims f me m)
+stated f me (msg.Req content tags) h = alone content (of-kind IsReq (λ maker i start digest rest g. g) content h.0)
+stated f me (msg.Order content client_tag tag) h = none (ordered content ++ content ∷ []) (order-other content h.0)
+stated f me (msg.Resp content tag) h = alone content (of-kind IsResp (λ maker i start digest rest g. g) content h.0)
+stated f me (msg.Chain i m n d reply tags) h = none (chain_claims f me i m n d reply) (chain-other f me i m n d reply)
+stated f me (msg.Panic content tag) h = alone content (of-kind IsPanic (λ maker i start digest rest g. g) content h.0)
+stated f me (msg.Abort abort) h = abort-held abort.content
+stated f me (msg.Init cert) h = aborts-held cert
+stated f me (msg.PrePrepare content tag offer) h =
     offer-held (instance_of content) offer ∙ behind content (offer_claims (instance_of content) offer) (of-kind IsPrePrepare (λ maker i start digest rest g. g) content h.0.0)
-held f me (msg.Prepare prepare) h = alone prepare.content (of-kind IsPrepare (λ maker i start digest rest g. g) prepare.content h.1.0)
-held f me (msg.Commit content tag) h = alone content (of-kind IsCommit (λ maker i start digest rest g. g) content h.0)
-held f me (msg.ViewChange change) h = none (change_claims change) (change-other change h)
-held f me (msg.NewView content tag changes) h =
+stated f me (msg.Prepare prepare) h = alone prepare.content (of-kind IsPrepare (λ maker i start digest rest g. g) prepare.content h.1.0)
+stated f me (msg.Commit content tag) h = alone content (of-kind IsCommit (λ maker i start digest rest g. g) content h.0)
+stated f me (msg.ViewChange change) h = none (change_claims change) (change-other change h)
+stated f me (msg.NewView content tag changes) h =
     none (flat_map change_claims changes) (changes-other changes h.1.1.1)
     ∙ behind content (flat_map change_claims changes) (of-kind IsNewView (λ maker i start digest rest g. g) content h.0)
-held f me (msg.Checkpoint content tag) h = alone content (of-kind IsCheckpoint (λ maker i start digest rest g. g) content h.0)
-held f me (msg.LocalCommit content tag) h = alone content (of-kind IsLocalCommit (λ maker i start digest rest g. g) content h.0)
-held f me (msg.Spec spec) h = alone spec.content (of-kind IsSpec (λ maker i start digest rest g. g) spec.content h.1.0)
-held f me (msg.Cert i z) h = none (specs_of i z) (specs-other i z)
+stated f me (msg.Checkpoint content tag) h = alone content (of-kind IsCheckpoint (λ maker i start digest rest g. g) content h.0)
+stated f me (msg.LocalCommit content tag) h = alone content (of-kind IsLocalCommit (λ maker i start digest rest g. g) content h.0)
+stated f me (msg.Spec spec) h = alone spec.content (of-kind IsSpec (λ maker i start digest rest g. g) spec.content h.1.0)
+stated f me (msg.Cert i z) h = none (specs_of i z) (specs-other i z)
+
+pub held : (f : ℕ) (me : Party) (m : Msg) → IsMessage m → holds_trimmed m ≡ (list_any is_trimmed (claims f me m) || shows_trimmed m)
+held f me m h = ap (λ (b : Bool). b || shows_trimmed m) (stated f me m h)
 
 -- ---- who reads it
 

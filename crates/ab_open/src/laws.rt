@@ -1,6 +1,6 @@
 //! What is known of what opens.
 
-ghost use Rattle.std.specs.Prelude.{◌≡◌, ◌≢◌, ◌<◌, ℕ, List, false, Ok, Err, Option, IsTrue, All, Contains, flat_map};
+ghost use Rattle.std.specs.Prelude.{◌≡◌, ◌≢◌, ◌<◌, ℕ, List, false, Ok, Err, Option, IsTrue, All, Contains, flat_map, ◌||◌};
 ghost use Rattle.std.specs.List.{list_any};
 ghost use Rattle.ab_num.specs.declared.party.Party.{Party};
 ghost use Rattle.ab_num.specs.Bounds.{IsInBounds};
@@ -18,7 +18,7 @@ ghost use Rattle.ab_msg.specs.Messages.{IsMessage, spell_message};
 ghost use Rattle.ab_check.specs.Checks.{Check, Judge, by_tag, checks_of, is_refused, is_right};
 ghost use Rattle.ab_open.specs.Messages.{message_of};
 ghost use Rattle.ab_open.specs.Opening.{judged, opening, takes};
-ghost use Rattle.ab_open.specs.Trimmed.{holds_trimmed, is_trimmed};
+ghost use Rattle.ab_open.specs.Trimmed.{holds_trimmed, is_trimmed, shows_trimmed};
 ghost use Rattle.ab_open.specs.declared.fault.OpenFault.TheVariants as fault;
 
 /// A message opens only where what stands for each of its claims is right, and there is something that
@@ -45,13 +45,14 @@ pub fn own_statements_are_refused()
     ensures prepares { (judge : Judge) (f clients every : ℕ) (me : Party) (bytes : List ℕ) (s : Signed) → opening judge f clients every me bytes ≡ Ok (msg.Prepare s) → maker_of s.content ≢ me }
 {}
 
+/// A message holds a trimmed list if one of its claims states one or if it shows the base of a view change without its first entries.
 /// In a cluster without checkpoints nobody reads a message with a trimmed list, so nothing that opens there states one. In any other
 /// cluster such a message opens as others do; and what holds no trimmed list opens in all clusters alike.
 pub fn trimmed_lists_need_checkpoints()
     ensures refused { (judge : Judge) (f clients : ℕ) (me : Party) (bytes : List ℕ) (m : Message) → message_of bytes ≡ Ok m → IsTrue (holds_trimmed m)
         → opening judge f clients 0 me bytes ≡ Err (fault.Bad BadLength) }
     ensures whole { (judge : Judge) (f clients : ℕ) (me : Party) (bytes : List ℕ) (m : Message) → opening judge f clients 0 me bytes ≡ Ok m → holds_trimmed m ≡ false }
-    ensures held { (f : ℕ) (me : Party) (m : Message) → IsMessage m → holds_trimmed m ≡ list_any is_trimmed (claims f me m) }
+    ensures held { (f : ℕ) (me : Party) (m : Message) → IsMessage m → holds_trimmed m ≡ (list_any is_trimmed (claims f me m) || shows_trimmed m) }
     ensures taken { (judge : Judge) (f clients every : ℕ) (me : Party) (bytes : List ℕ) → 0 < every → opening judge f clients every me bytes ≡ judged judge f clients me (message_of bytes) }
     ensures alike { (judge : Judge) (f clients every other : ℕ) (me : Party) (bytes : List ℕ) → ((m : Message) → message_of bytes ≡ Ok m → holds_trimmed m ≡ false)
         → opening judge f clients every me bytes ≡ opening judge f clients other me bytes }

@@ -168,7 +168,7 @@ fn has_values<'a>(k: &Cluster, values: &ValuesRef<'a>) -> bool
 {
     match values {
         ValuesRef::Nothing => true,
-        ValuesRef::Slots { base, requests } => has_slots(k, base, requests),
+        ValuesRef::Slots { base, requests } => has_slots(k, &base.rest, requests),
     }
 }
 

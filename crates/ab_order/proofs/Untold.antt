@@ -1,5 +1,5 @@
 -- Which messages tell an orderer nothing.
-use Rattle.std.proofs.Common.{◌≡◌, ◌≢◌, ℕ, ◌==◌, Bool, true, false, Option, Some, None, List, refl, ap, inl, inr}
+use Rattle.std.proofs.Common.{◌≡◌, ◌≢◌, ℕ, ◌==◌, eqb, Bool, true, false, Option, Some, None, List, refl, ap, inl, inr}
 use Rattle.std.specs.Prelude.{if◌then◌else◌}
 use Rattle.std.proofs.lemmas.Bool.{cases_Bool, eqb-true}
 use Rattle.ab_num.specs.declared.cluster.Cluster.{Cluster}
@@ -16,7 +16,7 @@ use Rattle.ab_msg.specs.Claims.{instance_of, instance_in}
 use Rattle.ab_abs.specs.Messages.{Call, took, timed}
 use Rattle.ab_abs.specs.RuleLaws.{speaks_of_call}
 use Rattle.ab_order.specs.Inputs.{Reading, request, prepare, commit, other}
-use Rattle.ab_order.specs.Readings.{slots_of, with_slots, change_by, changes_of, read_request, read_offer, read_pre_prepare, read_prepare, read_commit, read_change, read_new_view_of, read_new_view, read_message, read}
+use Rattle.ab_order.specs.Readings.{slots_of, with_slots, change_by, change_of, changes_of, read_request, read_offer, read_pre_prepare, read_prepare, read_commit, read_change, read_new_view_of, read_new_view, read_message, read}
 
 -- one of which the rules of a Backup don't speak
 pub unspoken_untold : (c : Cluster) (i : ℕ) (call : Call) → speaks_of_call kind.Backup call ≡ false → read c i call ≡ other
@@ -54,6 +54,13 @@ module _ (c : Cluster) (i : ℕ) where
   change_untold (ViewChange (Replica r) j view entries) values signed differ = rw (apart j differ) refl
   change_untold _ values signed differ = refl
 
+  shown_untold : (v : Proof) → Some (instance_of v.change.content) ≢ Some i → read_change (change_of c.f i v) ≡ other
+  shown_untold v differ = of_test (eqb v.start 0)
+    where
+      of_test : (b : Bool) → read_change (if b then change_by c.f i v.change.content v.values v.prepares else None) ≡ other
+      of_test true = change_untold v.change.content v.values v.prepares differ
+      of_test false = refl
+
   new_view_untold : (s : Content) (proofs : List Proof) → Some (instance_of s) ≢ Some i → read_new_view c.f i s proofs ≡ other
   new_view_untold (NewView (Replica by) j view) proofs differ = rw (apart j differ) refl
   new_view_untold _ proofs differ = refl
@@ -63,6 +70,6 @@ module _ (c : Cluster) (i : ℕ) where
   other_instance (msg.PrePrepare content tag o) differ = offer_untold content o differ
   other_instance (msg.Prepare signed) differ = prepare_untold signed.content differ
   other_instance (msg.Commit content tag) differ = commit_untold content differ
-  other_instance (msg.ViewChange proof) differ = change_untold proof.change.content proof.values proof.prepares differ
+  other_instance (msg.ViewChange proof) differ = shown_untold proof differ
   other_instance (msg.NewView content tag proofs) differ = new_view_untold content proofs differ
   other_instance _ differ = refl

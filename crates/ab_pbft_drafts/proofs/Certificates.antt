@@ -6,13 +6,14 @@ use Rattle.std.proofs.lemmas.List.{length-set, length-map, length-replicate}
 use Rattle.ab_num.specs.declared.party.Party.TheVariants.{Replica}
 use Rattle.ab_num.proofs.Lists.{Contains-map_cases}
 use Rattle.ab_hist.specs.declared.request.Request.{Request}
+use Rattle.ab_hist.specs.Trimmed.{untrimmed}
 use Rattle.ab_mac.proofs.Sha256Lemmas.{length-sha256}
 use Rattle.ab_hist.specs.Digests.{digest_of_base, request_digest}
 use Rattle.ab_msg.specs.declared.content.Content.TheVariants.{ViewChange}
 use Rattle.ab_msg.specs.declared.value.Value.{Value}
 use Rattle.ab_msg.specs.declared.value.Value.TheVariants.{Base, Request as Order}
 use Rattle.ab_msg.specs.Slots.{base_digest, slot_digest}
-use Rattle.ab_msg.specs.Fields.{IsInstance, IsView, IsSig}
+use Rattle.ab_msg.specs.Fields.{IsInstance, IsView, IsSig, IsWritten, IsSpellable}
 use Rattle.ab_msg.specs.Contents.{IsEntry}
 use Rattle.ab_msg.specs.Certs.{IsRequestValue, AreSlotValues, ArePrepares, IsProof}
 use Rattle.ab_abs.proofs.Certified.{all_of}
@@ -113,9 +114,12 @@ value_behind t (Base h) is = absurd is
 value_behind t (Order m) is = is
 
 -- a base, and requests behind it
-pub slot_values : (values : List Value) → AreValuesAt values → AreSlotValues values
-slot_values [] are = tt
-slot_values (Base h ∷ values) are = (are 0 (Base h) refl, all_of IsRequestValue values (λ v has. let w = place_of values v has in value_behind w.0 v (are (suc w.0) v w.1)))
+whole_base : (h : List Request) → IsWritten h → IsSpellable (untrimmed h)
+whole_base h is = record { rest = is; few = omega (arith, is.0.1); digest = refl; nothing = λ _. refl }
+
+pub slot_values : (values : List Value) → AreValuesAt values → AreSlotValues 0 (replicate 32 0) values
+slot_values [] are = (refl, refl)
+slot_values (Base h ∷ values) are = (whole_base h (are 0 (Base h) refl), all_of IsRequestValue values (λ v has. let w = place_of values v has in value_behind w.0 v (are (suc w.0) v w.1)))
 slot_values (Order m ∷ values) are = absurd (are 0 (Order m) refl)
 
 -- ---- the own VIEW-CHANGE

@@ -28,7 +28,7 @@ use Rattle.ab_lock.specs.Steps.{Cert}
 use Rattle.ab_lock.proofs.Lists.{nth_map, Contains-nth}
 use Rattle.ab_order.specs.Inputs.{Reading, request, pre_prepare_base, pre_prepare, prepare, commit, view_change, new_view, timeout, other, ProvedSlot, ChangeReading}
 use Rattle.ab_order.specs.Readings.{is_own_request, slots_of, with_slots, is_ours, change_by, change_of, with_change, changes_of, read_request, base_offered, read_base, read_offer, read_pre_prepare, read_prepare, read_commit, read_change, read_new_view_of, read_new_view, read_message, read}
-use Rattle.ab_order.proofs.ReadingLaws.{slots_are}
+use Rattle.ab_order.proofs.ReadingLaws.{slots_are, whole_read}
 use Rattle.ab_pbft_rules.specs.Rules.{cert_of}
 use Rattle.ab_pbft_rules.specs.Rules as rules
 use Rattle.ab_pbft_shelf.specs.Shelves.{maker_in, view_in}
@@ -63,11 +63,11 @@ request_value : (t : ℕ) (v : Value) → IsRequestValue v → IsValueAt (suc t)
 request_value t (Base h) is = absurd is
 request_value t (Order m) is = is
 
-value_at : (values : List Value) (t : ℕ) (v : Value) → AreSlotValues values → slice_get values t ≡ Some v → IsValueAt t v
-value_at [] t v are is = absurd (none-some v is)
-value_at (Base h ∷ values) zero v are is = subst (λ (z : Value). IsValueAt 0 z) (same_Some (Base h) v is) are.0
-value_at (Base h ∷ values) (suc t) v are is = request_value t v (All-contains IsRequestValue values v are.1 (Contains-nth values t v is))
-value_at (Order m ∷ values) t v are is = absurd are
+value_at : (start : ℕ) (digest : List ℕ) (values : List Value) (t : ℕ) (v : Value) → AreSlotValues start digest values → slice_get values t ≡ Some v → IsValueAt t v
+value_at start digest [] t v are is = absurd (none-some v is)
+value_at start digest (Base h ∷ values) zero v are is = subst (λ (z : Value). IsValueAt 0 z) (same_Some (Base h) v is) are.0.rest
+value_at start digest (Base h ∷ values) (suc t) v are is = request_value t v (All-contains IsRequestValue values v are.1 (Contains-nth values t v is))
+value_at start digest (Order m ∷ values) t v are is = absurd are
 
 -- whose it is, and for which view
 pub record IsTold (content : Content) (change : ChangeReading) : Type 0 where
@@ -76,8 +76,8 @@ pub record IsTold (content : Content) (change : ChangeReading) : Type 0 where
   pub view : view_in content ≡ change.view
 
 module _ (c : Cluster) (i : ℕ) where
-  change_told : (content : Content) (values : List Value) (signed : List (List (ℕ × List ℕ))) (change : ChangeReading) → IsChange content → AreSlotValues values → change_by c.f i content values signed ≡ Some change → IsTold content change
-  change_told (ViewChange (Replica r) j view entries) values signed change formed are is =
+  change_told : (content : Content) (start : ℕ) (digest : List ℕ) (values : List Value) (signed : List (List (ℕ × List ℕ))) (change : ChangeReading) → IsChange content → AreSlotValues start digest values → change_by c.f i content values signed ≡ Some change → IsTold content change
+  change_told (ViewChange (Replica r) j view entries) start digest values signed change formed are is =
       elim (cases_Bool (is_ours c.f i j r)) [
         | inr others ↦ absurd (none-some change (rw others at is))
         | inl ours ↦ of_slots (slots_of c.f 0 entries values signed) refl (rw ours at is)
@@ -95,15 +95,15 @@ module _ (c : Cluster) (i : ℕ) where
               slots = λ t s there.
                   let entry : slice_get entries t ≡ Some (s.at, s.x) = subst (λ (l : List (ℕ × List ℕ)). slice_get l t ≡ Some (s.at, s.x)) right.listed (nth_mapped (λ (z : ProvedSlot). (z.at, z.x)) all t s there) in
                   let value : slice_get values t ≡ Some s.value = subst (λ (l : List Value). slice_get l t ≡ Some s.value) right.valued (nth_mapped (λ (z : ProvedSlot). z.value) all t s there) in
-                  ((All-contains IsEntry entries (s.at, s.x) formed.1.1.1.1 (Contains-nth entries t (s.at, s.x) entry)).0, value_at values t s.value are value);
+                  ((All-contains IsEntry entries (s.at, s.x) formed.1.1.1.1 (Contains-nth entries t (s.at, s.x) entry)).0, value_at start digest values t s.value are value);
             };
             maker = refl;
             view = refl;
           })
-  change_told _ values signed change formed are is = absurd (none-some change is)
+  change_told _ start digest values signed change formed are is = absurd (none-some change is)
 
   pub told_change : (proof : Proof) (change : ChangeReading) → IsProof proof → change_of c.f i proof ≡ Some change → IsTold proof.change.content change
-  told_change proof change formed is = change_told proof.change.content proof.values proof.prepares change formed.0.1.0 formed.1.0.1 is
+  told_change proof change formed is = change_told proof.change.content proof.start proof.digest proof.values proof.prepares change formed.0.1.0 formed.1.0.1 (whole_read c i proof change is)
 
   told_changes : (proofs : List Proof) (changes : List ChangeReading) → ((p : Proof) → Contains proofs p → IsProof p) → changes_of c.f i proofs ≡ Some changes → (change : ChangeReading) → Contains changes change → IsChangeWritten change
   told_changes [] changes each is change has = absurd (Contains-none change (subst (λ (l : List ChangeReading). Contains l change) (sym (same_Some [] changes is)) has))

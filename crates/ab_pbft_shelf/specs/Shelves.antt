@@ -118,6 +118,8 @@ proofs_for f view proofs = take (quorum f) (filter (λ p. view_of p == view) pro
 abbrev pub own_proof : ℕ → Content → List Certified → List ℕ → Proof
 own_proof me content certs sig = record {
   change = record { maker = me; content = content; sig = sig };
+  start = 0;
+  digest = replicate 32 0;
   values = map (λ c. c.value) certs;
   prepares = map (λ c. c.prepares) certs;
 }

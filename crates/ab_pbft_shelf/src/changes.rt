@@ -153,6 +153,8 @@ pub(crate) fn own_proof(
     let prepares = front_prepares(alloc, slots)?;
     Ok(Proof {
         change,
+        start: 0,
+        digest: [0; 32],
         values,
         prepares,
     })

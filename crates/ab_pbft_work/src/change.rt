@@ -11,7 +11,7 @@ ghost use Rattle.ab_content.specs.Parts.{any_request_at};
 ghost use Rattle.ab_content.specs.Rows.{entry_at};
 ghost use Rattle.ab_content.specs.Views.{entry as shown_entry, history, request};
 ghost use Rattle.ab_wire.specs.Changes.{prepares_at};
-ghost use Rattle.ab_wire.specs.Views.{prepares as shown_prepares, proof as shown_proof, proofs as shown_proofs, values as shown_values};
+ghost use Rattle.ab_wire.specs.Views.{front, prepares as shown_prepares, proof as shown_proof, proofs as shown_proofs, values as shown_values};
 ghost use Rattle.ab_order.specs.Readings.{change_of, changes_of, is_ours, proved_slot, slots_of, with_slot};
 ghost use Rattle.ab_pbft_work.specs.Slots.{slot_of};
 
@@ -159,7 +159,7 @@ fn slots_of<'a>(
     values: ValuesRef<'a>,
     mut prepares: ListRef<'a, PreparesRef<'a>>,
 ) -> Result<Option<Vec<ProvedSlot>>, OutOfMemory>
-    requires { AreSlotValues (shown_values values) }
+    requires { AreSlotValues (front values).0 (front values).1 (shown_values values) }
     ensures { IfOk result (λ o. option_map (λ v. v.items) o ≡ slots_of c.now.f 0 (listed entry_at entries.entry.count entries.entry.bytes.now) (shown_values values.entry) (listed prepares_at prepares.entry.count prepares.entry.bytes.now)) }
 {
     let ValuesRef::Slots { base, requests } = values else {
@@ -171,7 +171,7 @@ fn slots_of<'a>(
     let Some(by) = prepares.next() else {
         return Ok(None);
     };
-    match base_slot(alloc, c, &entry, &base, &by)? {
+    match base_slot(alloc, c, &entry, &base.rest, &by)? {
         Some(first) => slots_from(alloc, c, first, entries, requests, prepares),
         None => Ok(None),
     }
@@ -187,6 +187,10 @@ pub(crate) fn change_of<'a>(
     requires { IsProof (shown_proof proof.now) }
     ensures { IfOk result (λ o. o ≡ change_of c.now.f i (shown_proof proof.now)) }
 {
+    let (start, _) = proof.values.front();
+    if start > 0 {
+        return Ok(None);
+    }
     let ContentRef::ViewChange {
         maker: Party::Replica(by),
         instance,

@@ -10,7 +10,7 @@ ghost use Rattle.ab_msg.specs.Contents.{IsContent};
 ghost use Rattle.ab_msg.specs.Fields.{IsSpellable, IsWritten};
 ghost use Rattle.ab_content.specs.Parts.{any_request_at};
 ghost use Rattle.ab_content.specs.Views.{content as shown, history as entries, trimmed};
-ghost use Rattle.ab_wire.specs.Views.{IsReceived, message, proofs, values};
+ghost use Rattle.ab_wire.specs.Views.{IsReceived, front, message, proofs, values};
 ghost use Rattle.ab_check.specs.Listing.{IsClaim, claimed};
 ghost use Rattle.ab_premise.specs.Collisions.{content_items, first_items, value_items};
 
@@ -150,14 +150,14 @@ fn look_at_values(
     last: &mut Option<History>,
     given: &ValuesRef<'_>,
 ) -> Result<bool, OutOfMemory>
-    requires { AreSlotValues (values given.now) }
+    requires { AreSlotValues (front given.now).0 (front given.now).1 (values given.now) }
     ensures found { IfOk result (λ found. found ≡ any_found digests.old (flat_map value_items (values given.now))) }
     ensures ok { OnOk result (digests.new ≡ keep_items digests.old (flat_map value_items (values given.now))) }
 {
     match given {
         ValuesRef::Nothing => Ok(false),
         ValuesRef::Slots { base, requests } => {
-            let of_base = look_at_received(alloc, digests, last, base)?;
+            let of_base = look_at_received(alloc, digests, last, &base.rest)?;
             let of_requests = look_at_requests(digests, copy_of(requests))?;
             Ok(of_base || of_requests)
         }

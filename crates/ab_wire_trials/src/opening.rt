@@ -1,11 +1,16 @@
 //! Messages opened by a checker that answers the same to everything.
 
+ghost use Rattle.ab_wire.specs.Views.{IsReceived};
+
 use ab_check::Checker;
 use ab_keys::is_party;
 use ab_msg::Tag;
 use ab_num::{Cluster, OutOfMemory, Party, Plan};
 use ab_open::{Bad, OpenFault, claims, open};
+use ab_wire::MsgRef;
+use ab_write::put_message;
 use std::alloc::Global;
+use std::mem::drop;
 
 /// A checker with one answer.
 #[derive(Clone, Copy)]
@@ -67,12 +72,31 @@ fn abort(alloc: Global, replica: u8) -> Result<Vec<u8>, OutOfMemory> {
     Ok(out)
 }
 
-/// Adds a signed ABORT of replica 0 in instance 1. The first 3 entries of its log are trimmed, and behind them stands a request of this client.
-fn put_trimmed(out: &mut Vec<u8>, client: u8) -> Result<(), OutOfMemory> {
-    out.extend_from_slice(&[6, 0, 0, 0, 0, 0, 0, 1, 255, 255, 0, 3])?;
+/// Adds a list whose first 3 entries are trimmed, and behind them stands a request of this client.
+fn put_list(out: &mut Vec<u8>, client: u8) -> Result<(), OutOfMemory> {
+    out.extend_from_slice(&[255, 255, 0, 3])?;
     out.extend_from_slice(&[9; 32])?;
     out.extend_from_slice(&[0, 1, 0, client, 0, 0, 0, 0, 0, 0, 0, 4, 0, 1, 97])?;
+    Ok(())
+}
+
+/// Adds a signed ABORT of replica 0 in instance 1, whose log is such a list.
+fn put_trimmed(out: &mut Vec<u8>, client: u8) -> Result<(), OutOfMemory> {
+    out.extend_from_slice(&[6, 0, 0, 0, 0, 0, 0, 1])?;
+    put_list(out, client)?;
     put_sig(out)
+}
+
+/// A VIEW-CHANGE of replica 0 for view 2 of instance 1, with a PREPARE of replica 1 for such a list as its base.
+fn view_change(alloc: Global, client: u8) -> Result<Vec<u8>, OutOfMemory> {
+    let mut out = Vec::new(alloc);
+    out.extend_from_slice(&[11, 10, 0, 0, 0, 0, 0, 0, 1, 0, 0, 0, 2, 1, 0, 0, 0, 1])?;
+    out.extend_from_slice(&[8; 32])?;
+    put_sig(&mut out)?;
+    put_list(&mut out, client)?;
+    out.extend_from_slice(&[1, 1])?;
+    put_sig(&mut out)?;
+    Ok(out)
 }
 
 /// Such an ABORT.
@@ -223,4 +247,43 @@ fn an_init_with_a_trimmed_log_needs_checkpoints(rt: HostRuntime) {
     assert!(rt; fault(alloc, me, true, bytes.as_slice()) == NOT_WHOLE);
     assert!(rt; fault_every(alloc, 2, me, true, bytes.as_slice()) == None);
     assert!(rt; fault_every(alloc, 2, me, false, bytes.as_slice()) == Some(OpenFault::BadTag(0)));
+}
+
+#[test]
+fn a_view_change_with_a_trimmed_base_needs_checkpoints(rt: HostRuntime) {
+    let alloc = rt.alloc();
+    let me = Party::Replica(2);
+    let bytes = view_change(alloc, 0).expect(&rt, "memory");
+    assert!(rt; fault(alloc, me, true, bytes.as_slice()) == NOT_WHOLE);
+    assert!(rt; fault_every(alloc, 2, me, true, bytes.as_slice()) == None);
+    assert!(rt; fault_every(alloc, 2, me, false, bytes.as_slice()) == Some(OpenFault::BadTag(0)));
+    let bytes = view_change(alloc, 1).expect(&rt, "memory");
+    assert!(rt; fault_every(alloc, 2, me, true, bytes.as_slice()) == Some(OpenFault::NotMine));
+}
+
+/// The bytes of a message, written from parts of its own.
+fn again(alloc: Global, m: MsgRef<'_>) -> Result<Vec<u8>, OutOfMemory>
+    requires { IsReceived m }
+{
+    let own = m.own(alloc)?;
+    let mut out = Vec::new(alloc);
+    put_message(alloc, &mut out, &own)?;
+    drop(own);
+    Ok(out)
+}
+
+#[test]
+fn a_trimmed_base_is_written_as_it_was_read(rt: HostRuntime) {
+    let alloc = rt.alloc();
+    let bytes = view_change(alloc, 0).expect(&rt, "memory");
+    let k = Cluster::new(1, 1, Plan::Chain, 2).expect(&rt, "a cluster");
+    let me = Party::Replica(2);
+    if !is_party(&k, me) {
+        panic!(rt; "a party");
+    }
+    let checked = open(alloc, &k, k.every, me, &mut Always(true), bytes.as_slice())
+        .ok()
+        .expect(&rt, "it opens");
+    let written = again(alloc, checked.into_msg()).expect(&rt, "memory");
+    assert!(rt; written.as_slice() == bytes.as_slice());
 }

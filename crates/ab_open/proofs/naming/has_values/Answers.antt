@@ -8,4 +8,4 @@ use Rattle.ab_open.proofs.naming.has_values.Goals as goal
 
 pub returns-in-Slots : goal.returns-in-Slots
 returns-in-Slots c =
-    rw c.in-Slots.is (c.has_slots.ensures ∙ sym (values-test (is_party c.args.k.now.f c.args.k.now.clients) (history c.in-Slots.base) (listed any_request_at c.in-Slots.requests.count c.in-Slots.requests.bytes.now)))
+    rw c.in-Slots.is (c.has_slots.ensures ∙ sym (values-test (is_party c.args.k.now.f c.args.k.now.clients) (history c.in-Slots.base.rest) (listed any_request_at c.in-Slots.requests.count c.in-Slots.requests.bytes.now)))
